@@ -1,0 +1,5 @@
+pub mod Tree
+pub mod TreeCode
+pub mod Eval
+pub mod Names
+pub mod Scripts

@@ -1,0 +1,65 @@
+// What the selectors of a choose picked.
+
+ghost use Rattle.std.specs.Prelude.{◌≡◌, ◌<◌, [], ◌∷◌, ◌++◌, length, slice_get, Some};
+
+use crate::limits::SELECTORS;
+use arrayvec::ArrayVec;
+use std::marker::Model;
+
+/// What the selectors of a choose picked, one item per selector: the number of the node that is picked, or none.
+/// Contracts see a list of at most four items. No call takes memory.
+#[derive(Drop)]
+pub struct Picks {
+    items: ArrayVec<Option<u32>, SELECTORS>,
+}
+
+impl Model for Picks {
+    ghost use Rattle.std.specs.Prelude.{List, Option, ℕ};
+
+    ghost Value = { List (Option ℕ) };
+
+    ghost view = { λ p. p.items.items };
+}
+
+impl Picks {
+    /// The empty list.
+    pub fn new() -> Picks
+        ensures { result ≡ [] }
+    {
+        Picks {
+            items: ArrayVec::new(),
+        }
+    }
+
+    /// Adds an item at the end.
+    pub fn push(&mut self, item: Option<u32>)
+        requires { length self.old < SELECTORS }
+        ensures { self.new ≡ self.old ++ item ∷ [] }
+    {
+        self.items.push(item);
+    }
+
+    /// How many items there are.
+    pub fn len(&self) -> u32
+        ensures { result ≡ length self.now }
+    {
+        self.items.len() as u32
+    }
+
+    /// The item at an index, counted from 0.
+    pub fn get(&self, index: u32) -> Option<u32>
+        requires { index < length self.now }
+        ensures { slice_get self.now index ≡ Some result }
+    {
+        self.items[index as usize]
+    }
+
+    /// An equal list.
+    pub fn copy(&self) -> Picks
+        ensures { result ≡ self.now }
+    {
+        let mut items = ArrayVec::new();
+        let _ = items.try_extend_from_slice(self.items.as_slice());
+        Picks { items }
+    }
+}
