@@ -1,0 +1,20 @@
+// Laws of the grammar.
+
+ghost use Rattle.std.specs.Prelude.{◌≡◌, ◌≤◌, List, length};
+ghost use Rattle.script_tree.specs.Tree.{Tree};
+ghost use Rattle.script_grammar.specs.declared.token.Token.{Token};
+ghost use Rattle.script_grammar.specs.Grammar.{Spells, Written, IsScript, tokens, tree};
+ghost use Rattle.script_grammar.specs.Canonical.{canonical};
+
+/// No text spells two trees.
+pub fn one_tree()
+    ensures { (text : List Token) (t u : Tree) → Spells text t → Spells text u → t ≡ u }
+{
+}
+
+/// The canonical text of a tree spells it, and no text that spells it is shorter.
+pub fn canonical_spells()
+    ensures spells { (t : Tree) → Spells (tokens (canonical t)) t }
+    ensures shortest { (text : List Token) (t : Tree) → Spells text t → length (tokens (canonical t)) ≤ length text }
+{
+}
