@@ -1,0 +1,5 @@
+pub mod Graph
+pub mod Values
+pub mod Machine
+pub mod Legal
+pub mod OnePass
