@@ -3,3 +3,4 @@ pub mod TreeCode
 pub mod Eval
 pub mod Names
 pub mod Scripts
+pub mod Printed

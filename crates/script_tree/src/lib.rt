@@ -9,5 +9,6 @@ pub mod limits;
 pub mod memory;
 pub mod name;
 pub mod picks;
+pub mod print;
 pub mod script;
 pub mod value;

@@ -1,6 +1,6 @@
 // Names.
 
-ghost use Rattle.std.specs.Prelude.{◌≡◌, ◌<◌, ◌↔◌, length, slice_get, Some, IsTrue, IfSome, IfNone, false, };
+ghost use Rattle.std.specs.Prelude.{◌≡◌, ◌<◌, ◌↔◌, length, slice_get, Some, IsTrue, IfSome, IfNone, false};
 ghost use Rattle.script_tree.specs.Names.{is_word, reserved_a_to_f, reserved_i_to_p, reserved_r_to_t, is_reserved, is_name, starts_well};
 ghost use Rattle.std.specs.Str.{bytes_eq};
 ghost use Rattle.std.specs.List.{list_all, list_any};
