@@ -1,0 +1,4 @@
+//! The bytes of a report.
+#![tactic(auto)]
+
+mod lines;

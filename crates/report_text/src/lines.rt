@@ -1,0 +1,178 @@
+// The lines of a report.
+
+ghost use Rattle.std.specs.Prelude.{◌≡◌, ◌++◌, length, OnOk, decimal};
+ghost use Rattle.std.specs.List.{zip};
+ghost use Rattle.report_text.specs.Report.{named_value, more_looks, looks_text, fire_looks, fire_text, reply_text, call_line, why_text, refused_line, final_line, done_line, names_of, values_of, Answers};
+
+use script_tree::items::Text;
+use script_tree::memory::OutOfMemory;
+use script_tree::name::Name;
+use script_tree::print::{print_number, print_value};
+use script_tree::value::Value;
+use signal_graph::call::{Call, Reply};
+use signal_graph::log::{Logged, Refused, Why};
+
+// A name with a value.
+fn print_named(out: &mut Text, name: &Name, value: Value) -> Result<(), OutOfMemory>
+    ensures { OnOk result (out.new ≡ out.old ++ named_value (name.now, value)) }
+{
+    out.extend_from_slice(name.as_slice())?;
+    out.extend_from_slice(b"=")?;
+    print_value(out, value)
+}
+
+// A label with a number behind it.
+fn print_count(out: &mut Text, label: &[u8], number: u32) -> Result<(), OutOfMemory>
+    ensures { OnOk result (out.new ≡ out.old ++ (label.now ++ decimal number)) }
+{
+    out.extend_from_slice(label)?;
+    print_number(out, number)
+}
+
+// Looks, each behind a comma and a space.
+fn print_more_looks(out: &mut Text, names: &[Name], values: &[Value]) -> Result<(), OutOfMemory>
+    requires { length values.now ≡ length names.now }
+    ensures { OnOk result (out.new ≡ out.old ++ more_looks (zip names.now values.now)) }
+{
+    for (index, name) in names.iter().enumerate() {
+        out.extend_from_slice(b", ")?;
+        print_named(out, name, values[index])?;
+    }
+    Ok(())
+}
+
+// Looks, joined by a comma and a space.
+fn print_looks(out: &mut Text, names: &[Name], values: &[Value]) -> Result<(), OutOfMemory>
+    requires { length values.now ≡ length names.now }
+    ensures { OnOk result (out.new ≡ out.old ++ looks_text (zip names.now values.now)) }
+{
+    match names {
+        [] => Ok(()),
+        [first, rest @ ..] => {
+            print_named(out, first, values[0])?;
+            print_more_looks(out, rest, &values[1..])
+        }
+    }
+}
+
+// What a fire looked at, if it looked at anything.
+fn print_fire_looks(out: &mut Text, names: &[Name], values: &[Value]) -> Result<(), OutOfMemory>
+    requires { length values.now ≡ length names.now }
+    ensures { OnOk result (out.new ≡ out.old ++ fire_looks (zip names.now values.now)) }
+{
+    match names {
+        [] => Ok(()),
+        [first, rest @ ..] => {
+            out.extend_from_slice(b" look ")?;
+            print_named(out, first, values[0])?;
+            print_more_looks(out, rest, &values[1..])
+        }
+    }
+}
+
+fn names_of(call: &Call) -> &[Name]
+    ensures { result.now ≡ names_of call.now }
+{
+    match call {
+        Call::Fire { sets: _, looks } => looks.as_slice(),
+        Call::Read { looks } => looks.as_slice(),
+    }
+}
+
+fn values_of(reply: &Reply) -> &[Value]
+    ensures { result.now ≡ values_of reply.now }
+{
+    match reply {
+        Reply::Fire {
+            changed: _,
+            evaluated: _,
+            looks,
+        } => looks.as_slice(),
+        Reply::Read { looks } => looks.as_slice(),
+    }
+}
+
+// What a fire did and saw.
+fn print_fire(
+    out: &mut Text,
+    changed: u32,
+    evaluated: u32,
+    names: &[Name],
+    values: &[Value],
+) -> Result<(), OutOfMemory>
+    requires { length values.now ≡ length names.now }
+    ensures { OnOk result (out.new ≡ out.old ++ fire_text changed evaluated (zip names.now values.now)) }
+{
+    print_count(out, b" fire changed ", changed)?;
+    print_count(out, b" evaluated ", evaluated)?;
+    print_fire_looks(out, names, values)?;
+    Ok(())
+}
+
+// What a call did and saw.
+fn print_reply(out: &mut Text, names: &[Name], reply: &Reply) -> Result<(), OutOfMemory>
+    requires { length (values_of reply.now) ≡ length names.now }
+    ensures { OnOk result (out.new ≡ out.old ++ reply_text names.now reply.now) }
+{
+    match reply {
+        Reply::Fire {
+            changed,
+            evaluated,
+            looks,
+        } => print_fire(out, *changed, *evaluated, names, looks.as_slice()),
+        Reply::Read { looks } => {
+            out.extend_from_slice(b" read ")?;
+            print_looks(out, names, looks.as_slice())
+        }
+    }
+}
+
+/// Adds the line of a call that was made.
+pub fn print_call(out: &mut Text, entry: &Logged) -> Result<(), OutOfMemory>
+    requires { Answers entry.now.call entry.now.reply }
+    ensures { OnOk result (out.new ≡ out.old ++ call_line entry.now) }
+{
+    print_count(out, b"call ", entry.version)?;
+    print_count(out, b" thread ", entry.caller)?;
+    print_reply(out, names_of(&entry.call), &entry.reply)?;
+    out.extend_from_slice(b"\n")
+}
+
+// Why a call was not made.
+fn print_why(out: &mut Text, why: Why) -> Result<(), OutOfMemory>
+    ensures { OnOk result (out.new ≡ out.old ++ why_text why) }
+{
+    match why {
+        Why::UnknownName(place) => print_count(out, b" unknown name ", place),
+        Why::VersionsUsedUp(limit) => print_count(out, b" versions used up ", limit),
+    }
+}
+
+/// Adds the line of a call that was not made.
+pub fn print_refused(out: &mut Text, refused: Refused) -> Result<(), OutOfMemory>
+    ensures { OnOk result (out.new ≡ out.old ++ refused_line refused) }
+{
+    print_count(out, b"refused thread ", refused.caller)?;
+    print_count(out, b" call ", refused.number)?;
+    print_why(out, refused.why)?;
+    out.extend_from_slice(b"\n")?;
+    Ok(())
+}
+
+/// Adds the line of a node's last value.
+pub fn print_final(out: &mut Text, name: &Name, value: Value) -> Result<(), OutOfMemory>
+    ensures { OnOk result (out.new ≡ out.old ++ final_line (name.now, value)) }
+{
+    out.extend_from_slice(b"final ")?;
+    print_named(out, name, value)?;
+    out.extend_from_slice(b"\n")
+}
+
+/// Adds the last line.
+pub fn print_done(out: &mut Text, accepted: u32, refused: u32) -> Result<(), OutOfMemory>
+    ensures { OnOk result (out.new ≡ out.old ++ done_line accepted refused) }
+{
+    print_count(out, b"done ", accepted)?;
+    print_count(out, b" accepted ", refused)?;
+    out.extend_from_slice(b" refused\n")
+}
