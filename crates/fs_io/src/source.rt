@@ -1,6 +1,6 @@
 // Where bytes come from.
 
-ghost use Rattle.std.specs.Prelude.{◌≡◌, ℕ, ◌<◌, ◌≤◌, List, Option, length, take};
+ghost use Rattle.std.specs.Prelude.{◌≡◌, ℕ, ◌+◌, ◌<◌, ◌≤◌, List, Option, length, take};
 ghost use Rattle.std.specs.Io.KnownBytes.{Consumes, IsAtEnd};
 ghost use Rattle.fs_io.specs.Answers.{IfGot, OnReadFailed};
 ghost use Rattle.fs_io.specs.Count.{Rose};
@@ -22,6 +22,9 @@ pub trait Source {
     // How many faults there were. The count never falls.
     ghost faults: { Self → ℕ };
 
+    // How many reads there were, where it counts them.
+    ghost reads: { Self → ℕ } = { λ _. 0 };
+
     /// Reads into the buffer, at most as many bytes as it has places.
     /// Takes the bytes that it gives from those that are left. Fails only where the count of faults rose.
     fn read(&mut self, buf: &mut [u8]) -> Taken
@@ -29,5 +32,6 @@ pub trait Source {
         ensures bytes { IfGot result (λ n. Consumes (left self.old) (left self.new) (take n buf.new)) }
         ensures end { IfGot result (λ n. n ≡ 0 → 0 < length buf.new → IsAtEnd (left self.old)) }
         ensures failed { OnReadFailed result (Rose (faults self.old) (faults self.new)) }
-        ensures never_falls { faults self.old ≤ faults self.new };
+        ensures never_falls { faults self.old ≤ faults self.new }
+        ensures once { reads self.new ≤ reads self.old + 1 };
 }
