@@ -1,0 +1,14 @@
+use Rattle.std.proofs.Common.{◌++◌, take, arith}
+use Rattle.std.proofs.lemmas.Grind.{common_steps}
+use Rattle.fs_io.proofs.BytesLaws.{Adds-twice, Adds-stays, AddsFirst-front}
+use Rattle.fs_io.proofs.whole.write_all.Goals as goal
+
+pub loop-rest-preserved : goal.loop-rest-preserved
+loop-rest-preserved g c = record {
+  taken = (c.loop-rest.invariant.taken.0 ++ take c.in-Put.n c.loop-rest.rest.now, grind (arith, common_steps), Adds-twice _ _ _ _ _ c.loop-rest.invariant.taken.2 c.in-Put.ensures.bytes);
+  count = omega (arith, c.in-Put.ensures.never_falls);
+}
+
+pub returns-in-Failed-clause-front : goal.returns-in-Failed-clause-front
+returns-in-Failed-clause-front g c =
+    AddsFirst-front _ _ _ _ _ (Adds-stays _ _ _ _ c.loop-rest.invariant.taken.2 c.in-Failed.ensures.kept) c.loop-rest.invariant.taken.1

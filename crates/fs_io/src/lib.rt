@@ -1,0 +1,7 @@
+//! Sources and sinks of bytes whose faults are counted, and reading and writing a whole text through them.
+#![tactic(auto)]
+
+pub mod fault;
+pub mod sink;
+pub mod source;
+pub mod whole;
