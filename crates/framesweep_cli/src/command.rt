@@ -1,0 +1,37 @@
+// What words ask for.
+
+use std::alloc::AllocError;
+use thiserror::Error;
+
+/// What the program is asked to do with the deck that it reads.
+#[derive(Clone, Copy, Debug, PartialEq, Eq)]
+pub enum Command {
+    /// Run it, with at most so many versions, and write the report.
+    Run { versions: u32 },
+    /// The same by the one-thread machine, thread after thread.
+    Serial { versions: u32 },
+    /// Write it in its canonical form.
+    Print,
+}
+
+/// Why words are not followed.
+#[derive(Clone, Copy, Debug, PartialEq, Eq, Error)]
+pub enum WordsFault {
+    /// They are no command line.
+    #[error("words refused")]
+    Refused,
+    /// There was no memory to read them.
+    #[error("want of memory")]
+    Memory,
+}
+
+impl From<AllocError> for WordsFault {
+    ghost use Rattle.std.specs.Prelude.{◌≡◌};
+    ghost use Rattle.framesweep_cli.specs.declared.command.WordsFault.TheVariants.{Memory};
+
+    ghost from_gives = { λ _ fault. fault ≡ Memory };
+
+    fn from(_: AllocError) -> WordsFault {
+        WordsFault::Memory
+    }
+}

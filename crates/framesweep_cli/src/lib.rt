@@ -1,0 +1,7 @@
+//! The command line: what words ask for, and what is done for them.
+#![tactic(auto)]
+
+pub mod command;
+mod words;
+
+pub use words::read_words;
