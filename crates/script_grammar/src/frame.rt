@@ -19,10 +19,3 @@ pub enum Next {
     WantsMore,
     HasOne(Expr),
 }
-
-/// Why tokens aren't read.
-#[derive(Debug, Drop)]
-pub enum Refusal {
-    Syntax(usize),
-    Memory,
-}

@@ -9,12 +9,10 @@ ghost use Rattle.script_grammar.specs.Canonical.{canonical};
 /// No text spells two trees.
 pub fn one_tree()
     ensures { (text : List Token) (t u : Tree) → Spells text t → Spells text u → t ≡ u }
-{
-}
+{}
 
 /// The canonical text of a tree spells it, and no text that spells it is shorter.
 pub fn canonical_spells()
     ensures spells { (t : Tree) → Spells (tokens (canonical t)) t }
     ensures shortest { (text : List Token) (t : Tree) → Spells text t → length (tokens (canonical t)) ≤ length text }
-{
-}
+{}

@@ -1,8 +1,10 @@
-//! The grammar of scripts, its tokens and its laws.
+//! The grammar of scripts: its tokens, its laws, the reader of tokens and the writer of canonical tokens.
 #![tactic(auto)]
 
-pub mod frame;
+mod frame;
 pub mod laws;
-pub mod parse;
-pub mod read;
+mod level;
+pub mod reader;
+mod step;
 pub mod token;
+pub mod writer;

@@ -1,4 +1,4 @@
-use Rattle.std.proofs.Common.{◌≡◌, ◌≤◌, length, refl, ap, subst, ◌∙◌, sym, arith}
+use Rattle.std.proofs.Common.{length, refl, ap, arith}
 use Rattle.script_grammar.specs.Grammar.{tokens}
 use Rattle.script_grammar.specs.Canonical.{canonical}
 use Rattle.script_grammar.proofs.Printing.{canonical_tree, canonical_script, shortest}

@@ -1,4 +1,4 @@
-// A script from its tokens, with the place of its fault.
+//! A script from its tokens, with the place of its fault.
 
 ghost use Rattle.std.specs.Prelude.{◌≡◌, Some, IfOk};
 ghost use Rattle.std.specs.Option.{option_map};
@@ -8,15 +8,27 @@ ghost use Rattle.script_grammar.specs.Reading.{step, finish};
 ghost use Rattle.script_grammar.specs.Frames.{state_of, next_of};
 ghost use Rattle.script_grammar.specs.Refusals.{IsRefusal};
 
-use crate::frame::{Frame, Next, Refusal};
-use crate::read::{begun, close, followed};
-use script_tree::expr::Expr;
+use crate::frame::{Frame, Next};
+use crate::step::{begun, close, followed};
 use crate::token::Token;
+use script_tree::expr::Expr;
 use std::alloc::{AllocError, Global};
+
+/// Why tokens are no script that is read. Places count tokens from 0.
+#[derive(Debug, Drop)]
+pub enum Refusal {
+    /// The first token such that no script begins with the tokens up to it. Where a script goes on behind the last
+    /// token, the place is the number of tokens.
+    Syntax(usize),
+    /// The first token that stands inside more than 64 parentheses, prefix operators and `if`s.
+    TooDeep(usize),
+    /// There was no memory for the tree or for the reader's stack.
+    Memory,
+}
 
 impl From<AllocError> for Refusal {
     ghost use Rattle.std.specs.Prelude.{◌≡◌};
-    ghost use Rattle.script_grammar.specs.declared.frame.Refusal.TheVariants.{Memory};
+    ghost use Rattle.script_grammar.specs.declared.reader.Refusal.TheVariants.{Memory};
 
     ghost from_gives = { λ _ e. e ≡ Memory };
 
@@ -61,7 +73,7 @@ fn finished(
 }
 
 /// The script that the tokens are.
-pub fn parse(alloc: Global, tokens: &[Token]) -> Result<Expr, Refusal>
+pub fn read_script(alloc: Global, tokens: &[Token]) -> Result<Expr, Refusal>
     ensures found { IfOk result (λ x. Spells tokens.now (tree_of x)) }
     ensures fault { IsRefusal tokens.now result }
 {

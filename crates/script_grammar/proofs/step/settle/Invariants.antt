@@ -2,7 +2,7 @@ use Rattle.std.proofs.Common.{◌≡◌, length}
 use Rattle.script_tree.specs.Tree.{tree_of}
 use Rattle.script_grammar.specs.Reading.{settle}
 use Rattle.script_grammar.specs.Frames.{stack_of}
-use Rattle.script_grammar.proofs.read.settle.Given as goal
+use Rattle.script_grammar.proofs.step.settle.Given as goal
 
 abbrev pub invariant-loop-frame : goal.invariant-loop-frame
 invariant-loop-frame l = settle (stack_of l.stack.items) (tree_of l.x) ≡ settle (stack_of l.initial.stack.items) (tree_of l.initial.x)

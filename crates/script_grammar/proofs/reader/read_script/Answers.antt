@@ -3,8 +3,8 @@ use Rattle.std.specs.Option.{option_map}
 use Rattle.script_tree.specs.Tree.{tree_of}
 use Rattle.script_grammar.specs.Reading.{run}
 use Rattle.script_grammar.specs.Frames.{state_of, next_of}
-use Rattle.script_grammar.proofs.parse.parse.Goals as goal
-use Rattle.script_grammar.proofs.parse.parse.Goals.{in-WantsMore, in-HasOne}
+use Rattle.script_grammar.proofs.reader.read_script.Goals as goal
+use Rattle.script_grammar.proofs.reader.read_script.Goals.{in-WantsMore, in-HasOne}
 use Rattle.script_grammar.proofs.Places.{start, fault_at, ends_early, is_spelled, run_more}
 
 pub returns-in-Fails-clause-fault : goal.returns-in-Fails-clause-fault

@@ -1,42 +1,16 @@
 // The reader: token by token, with a stack of what is begun.
 
-ghost use Rattle.std.specs.Prelude.{◌≡◌, ◌≤◌, ◌∷◌, Some, IfOk};
-ghost use Rattle.std.specs.Option.{option_map};
+ghost use Rattle.std.specs.Prelude.{◌≡◌, ◌∷◌, Some, IfOk};
 ghost use Rattle.script_tree.specs.Tree.{tree_of};
-ghost use Rattle.script_grammar.specs.Grammar.{binds, left, word_tree};
-ghost use Rattle.script_grammar.specs.Reading.{Wants, Has, need, settle, reduce, close, operate, on_close, on_then, on_else, step, read};
+ghost use Rattle.script_grammar.specs.Grammar.{left, word_tree};
+ghost use Rattle.script_grammar.specs.Reading.{Wants, Has, need, settle, reduce, close, operate, on_close, on_then, on_else, step};
 ghost use Rattle.script_grammar.specs.Frames.{frame_of, stack_of, next_of};
 
 use crate::frame::{Frame, Next};
-use script_tree::expr::{Binary, Expr, Unary};
+use crate::level::{binds, left};
 use crate::token::{Token, Word};
+use script_tree::expr::{Binary, Expr, Unary};
 use std::alloc::{AllocError, Global};
-
-fn binds(op: Binary) -> u8
-    ensures value { result ≡ binds op }
-    ensures small { result ≤ 6 }
-{
-    match op {
-        Binary::OrElse => 1,
-        Binary::Or => 2,
-        Binary::And => 3,
-        Binary::Equal
-        | Binary::Unequal
-        | Binary::Less
-        | Binary::AtMost
-        | Binary::Greater
-        | Binary::AtLeast => 4,
-        Binary::Add | Binary::Subtract => 5,
-        Binary::Multiply | Binary::Divide | Binary::Remainder => 6,
-    }
-}
-
-fn left(op: Binary) -> u8
-    ensures { result ≡ left op }
-{
-    let level = binds(op);
-    if level == 4 { 5 } else { level }
-}
 
 fn leaf(word: Word) -> Expr
     ensures { tree_of result ≡ word_tree word }
@@ -226,34 +200,5 @@ pub fn followed(
             on_else(stack, x)
         }
         _ => Ok(Next::Fails),
-    }
-}
-
-/// The tree of a script, or none where the tokens are no script.
-#[tactic(auto, using(crate::proofs::FrameLaws::frame_laws))]
-pub fn read(alloc: Global, tokens: &[Token]) -> Result<Option<Expr>, AllocError>
-    ensures { IfOk result (λ found. option_map tree_of found ≡ read tokens.now) }
-{
-    let mut stack = Vec::new(alloc);
-    let mut top = None;
-    for token in tokens {
-        let next = match top {
-            None => begun(alloc, &mut stack, *token)?,
-            Some(x) => followed(alloc, &mut stack, x, *token)?,
-        };
-        match next {
-            Next::Fails => return Ok(None),
-            Next::WantsMore => top = None,
-            Next::HasOne(x) => top = Some(x),
-        }
-    }
-    let Some(x) = top else {
-        return Ok(None);
-    };
-    let x = close(alloc, &mut stack, x)?;
-    if stack.is_empty() {
-        Ok(Some(x))
-    } else {
-        Ok(None)
     }
 }
