@@ -4,7 +4,9 @@
 mod frame;
 pub mod laws;
 mod level;
+mod next;
 pub mod reader;
+mod stack;
 mod step;
 pub mod token;
 pub mod writer;

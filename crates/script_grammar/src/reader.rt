@@ -3,15 +3,17 @@
 ghost use Rattle.std.specs.Prelude.{◌≡◌, Some, IfOk};
 ghost use Rattle.std.specs.Option.{option_map};
 ghost use Rattle.script_tree.specs.Tree.{tree_of};
-ghost use Rattle.script_grammar.specs.Grammar.{Spells};
-ghost use Rattle.script_grammar.specs.Reading.{step, finish};
-ghost use Rattle.script_grammar.specs.Frames.{state_of, next_of};
+ghost use Rattle.script_grammar.specs.Grammar.{BeginsWithin, Spells};
+ghost use Rattle.script_grammar.specs.Reading.{finish};
+ghost use Rattle.script_grammar.specs.Frames.{state_of};
 ghost use Rattle.script_grammar.specs.Refusals.{IsRefusal};
 
-use crate::frame::{Frame, Next};
-use crate::step::{begun, close, followed};
+use crate::next::{Next, Step};
+use crate::stack::Stack;
+use crate::step::advance;
 use crate::token::Token;
 use script_tree::expr::Expr;
+use script_tree::limits::LEVELS;
 use std::alloc::{AllocError, Global};
 
 /// Why tokens are no script that is read. Places count tokens from 0.
@@ -37,34 +39,14 @@ impl From<AllocError> for Refusal {
     }
 }
 
-#[tactic(auto, using(crate::proofs::FrameLaws::frame_laws))]
-fn next_at(
-    alloc: Global,
-    stack: &mut Vec<Frame>,
-    top: Option<Expr>,
-    token: Token,
-) -> Result<Next, AllocError>
-    ensures { IfOk result (λ next. next_of next stack.new.items ≡ step (state_of stack.old.items top) token) }
-{
-    match top {
-        None => begun(alloc, stack, token),
-        Some(x) => followed(alloc, stack, x, token),
-    }
-}
-
 // The tree, if nothing is begun any more.
-#[tactic(auto, using(crate::proofs::FrameLaws::frame_laws))]
-fn finished(
-    alloc: Global,
-    stack: &mut Vec<Frame>,
-    top: Option<Expr>,
-) -> Result<Option<Expr>, AllocError>
-    ensures { IfOk result (λ found. option_map tree_of found ≡ finish (Some (state_of stack.old.items top))) }
+fn finished(alloc: Global, stack: &mut Stack, top: Option<Expr>) -> Result<Option<Expr>, AllocError>
+    ensures { IfOk result (λ found. option_map tree_of found ≡ finish (Some (state_of stack.old.frames.items top))) }
 {
     let Some(x) = top else {
         return Ok(None);
     };
-    let x = close(alloc, stack, x)?;
+    let x = stack.close(alloc, x)?;
     if stack.is_empty() {
         Ok(Some(x))
     } else {
@@ -72,19 +54,27 @@ fn finished(
     }
 }
 
-/// The script that the tokens are.
+/// The script that the tokens are. It reads each token once, with a stack of what is begun: a token costs the same
+/// however much is begun, but for what ends at it.
+///
+/// An answer names the first token at fault. At one token `Syntax` goes before `TooDeep`; `Memory` may be the answer
+/// wherever memory is taken, and says nothing of the tokens.
 pub fn read_script(alloc: Global, tokens: &[Token]) -> Result<Expr, Refusal>
     ensures found { IfOk result (λ x. Spells tokens.now (tree_of x)) }
+    ensures shallow { IfOk result (λ _. BeginsWithin LEVELS tokens.now) }
     ensures fault { IsRefusal tokens.now result }
 {
-    let mut stack = Vec::new(alloc);
+    let mut stack = Stack::new(alloc);
     let mut top = None;
     for (index, token) in tokens.iter().enumerate() {
-        let next = next_at(alloc, &mut stack, top, *token)?;
-        match next {
+        let Step { nesting, next } = advance(alloc, &mut stack, top, *token)?;
+        top = match next {
             Next::Fails => return Err(Refusal::Syntax(index)),
-            Next::WantsMore => top = None,
-            Next::HasOne(x) => top = Some(x),
+            Next::WantsMore => None,
+            Next::HasOne(x) => Some(x),
+        };
+        if nesting > LEVELS {
+            return Err(Refusal::TooDeep(index));
         }
     }
     match finished(alloc, &mut stack, top)? {
