@@ -7,3 +7,4 @@ pub mod Nesting
 pub mod Depths
 pub mod FrameLaws
 pub mod Advances
+pub mod Leaves

@@ -1,12 +1,14 @@
 //! A script from its tokens, with the place of its fault.
 
-ghost use Rattle.std.specs.Prelude.{◌≡◌, Some, IfOk};
+ghost use Rattle.std.specs.Prelude.{◌≡◌, Bool, Some, IfOk};
 ghost use Rattle.std.specs.Option.{option_map};
-ghost use Rattle.script_tree.specs.Tree.{tree_of};
-ghost use Rattle.script_grammar.specs.Grammar.{BeginsWithin, Spells};
+ghost use Rattle.script_tree.specs.Scripts.{all_leaves};
+ghost use Rattle.script_tree.specs.Tree.{Tree, tree_of};
+ghost use Rattle.script_grammar.specs.Grammar.{BeginsWithin, Spells, word_tree};
 ghost use Rattle.script_grammar.specs.Reading.{finish};
 ghost use Rattle.script_grammar.specs.Frames.{state_of};
 ghost use Rattle.script_grammar.specs.Refusals.{IsRefusal};
+ghost use Rattle.script_grammar.specs.Words.{all_words};
 
 use crate::next::{Next, Step};
 use crate::stack::Stack;
@@ -61,6 +63,7 @@ fn finished(alloc: Global, stack: &mut Stack, top: Option<Expr>) -> Result<Optio
 /// wherever memory is taken, and says nothing of the tokens.
 pub fn read_script(alloc: Global, tokens: &[Token]) -> Result<Expr, Refusal>
     ensures found { IfOk result (λ x. Spells tokens.now (tree_of x)) }
+    ensures leaves { IfOk result (λ x. (test : Tree → Bool) → all_leaves test (tree_of x) ≡ all_words (λ word. test (word_tree word)) tokens.now) }
     ensures shallow { IfOk result (λ _. BeginsWithin LEVELS tokens.now) }
     ensures fault { IsRefusal tokens.now result }
 {

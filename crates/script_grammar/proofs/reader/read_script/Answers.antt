@@ -4,6 +4,7 @@ use Rattle.script_tree.specs.Tree.{tree_of}
 use Rattle.script_grammar.specs.Frames.{state_of, next_of}
 use Rattle.script_grammar.proofs.reader.read_script.Goals as goal
 use Rattle.script_grammar.proofs.reader.read_script.Goals.{in-WantsMore, in-HasOne}
+use Rattle.script_grammar.proofs.Leaves.{leaves_are_words}
 use Rattle.script_grammar.proofs.Advances.{fails, too_deep, goes_on, ended, ended_shallow, stops_short}
 
 pub returns-in-Fails-clause-fault : goal.returns-in-Fails-clause-fault
@@ -46,3 +47,8 @@ pub returns-clause-fault : goal.returns-clause-fault
 returns-clause-fault c =
     let end : c.loop-index.index ≡ length c.args.tokens.now = omega arith in
     stops_short _ c.args.tokens.now _ _ c.loop-index.invariant end (sym c.in_ok-x.ensures ∙ ap (option_map tree_of) c.in-None.is)
+
+pub returns-in-Some-clause-leaves : goal.returns-in-Some-clause-leaves
+returns-in-Some-clause-leaves c = λ test.
+    let end : c.loop-index.index ≡ length c.args.tokens.now = omega arith in
+    leaves_are_words test _ _ (ended _ c.args.tokens.now _ _ _ c.loop-index.invariant end (sym c.in_ok-x.ensures ∙ ap (option_map tree_of) c.in-Some.is))
