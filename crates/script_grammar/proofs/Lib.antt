@@ -8,3 +8,4 @@ pub mod Depths
 pub mod FrameLaws
 pub mod Advances
 pub mod Leaves
+pub mod Answered
