@@ -1,12 +1,11 @@
 -- The answers on a text exclude each other.
-use Rattle.std.proofs.Common.{◌≡◌, ℕ, ◌+◌, ◌<◌, ◌≤◌, Bool, true, false, List, [], ◌∷◌, ◌++◌, length, take, drop, refl, sym, ap, ◌∙◌, subst, arith, append_assoc}
-use Rattle.std.specs.Prelude.{nat_lt, slice_index}
+use Rattle.std.proofs.Common.{◌≡◌, ℕ, ◌+◌, ◌<◌, ◌≤◌, Bool, true, false, List, ◌++◌, length, take, drop, refl, sym, ap, ◌∙◌, subst, arith, append_assoc}
+use Rattle.std.specs.Prelude.{nat_lt}
 use Rattle.std.proofs.lemmas.Bool.Decides.{nat_tests}
 use Rattle.std.proofs.lemmas.Grind.{common_steps}
 use Rattle.std.proofs.lemmas.List.{length-take-le}
-use Rattle.script_tree.specs.Tree.{Tree}
 use Rattle.script_grammar.specs.declared.token.Token.{Token}
-use Rattle.script_grammar.specs.Grammar.{Spells, Begins, BeginsWithin, IsSyntaxAt, IsTooDeepAt, nested}
+use Rattle.script_grammar.specs.Grammar.{Begins, BeginsWithin, IsSyntaxAt, IsTooDeepAt}
 use Rattle.script_grammar.specs.Refusals.{IsFirstFaultAt}
 use Rattle.script_grammar.proofs.Places.{take_drop, take_all}
 use Rattle.script_grammar.proofs.Depths.{one_nesting}

@@ -13,7 +13,8 @@ use Rattle.script_grammar.proofs.Agreement.{run_says, begun}
 use Rattle.script_grammar.proofs.Nesting.{nests_append, nests_are}
 use Rattle.script_grammar.proofs.Places.{start, take_more, run_more, take_drop, take_all}
 
-nests_length : (ts : List Token) (o : Option State) (st : State) → run o ts ≡ Some st → length (nests o ts) ≡ length ts
+-- a text that is read has a nesting for each token
+pub nests_length : (ts : List Token) (o : Option State) (st : State) → run o ts ≡ Some st → length (nests o ts) ≡ length ts
 nests_length [] None st e = refl
 nests_length (t ∷ ts) None st e = cc
 nests_length [] (Some s) st e = refl

@@ -9,3 +9,4 @@ pub mod FrameLaws
 pub mod Advances
 pub mod Leaves
 pub mod Answered
+pub mod Shallow

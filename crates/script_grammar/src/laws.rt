@@ -14,10 +14,11 @@ pub fn one_tree()
     ensures { (text : List Token) (t u : Tree) → Spells text t → Spells text u → t ≡ u }
 {}
 
-/// The canonical text of a tree spells it, and no text that spells it is shorter.
+/// The canonical text of a tree spells it, and no text that spells it is shorter or nests less deep.
 pub fn canonical_spells()
     ensures spells { (t : Tree) → Spells (tokens (canonical t)) t }
     ensures shortest { (text : List Token) (t : Tree) → Spells text t → length (tokens (canonical t)) ≤ length text }
+    ensures shallowest { (limit : ℕ) (text : List Token) (t : Tree) → Spells text t → BeginsWithin limit text → BeginsWithin limit (tokens (canonical t)) }
 {}
 
 /// The leaves of a tree are the words of each text that spells it, so a test holds of all leaves exactly where it holds
