@@ -4,4 +4,9 @@ pub mod Agreement
 pub mod Places
 pub mod Printing
 pub mod Nesting
+pub mod Depths
 pub mod FrameLaws
+pub mod Advances
+pub mod Leaves
+pub mod Answered
+pub mod Shallow

@@ -14,7 +14,7 @@ use Rattle.script_grammar.specs.Grammar.{nested}
 use Rattle.script_grammar.specs.Nesting.{count, count_of, nesting, nests}
 use Rattle.script_grammar.proofs.Complete.{run_append, binds_within, step_sign, le_true, takes}
 
-nests_append : (o : Option State) (a b : List Token) → nests o (a ++ b) ≡ nests o a ++ nests (run o a) b
+pub nests_append : (o : Option State) (a b : List Token) → nests o (a ++ b) ≡ nests o a ++ nests (run o a) b
 nests_append None a b = refl
 nests_append (Some st) [] b = refl
 nests_append (Some st) (t ∷ a) b = ap (λ z. nesting st t ∷ z) (nests_append (step st t) a b)

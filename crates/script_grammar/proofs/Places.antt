@@ -25,7 +25,7 @@ run_more ts i d t st r h e =
 not_read : (ts : List Token) (t : Tree) → read ts ≡ None → Spells ts t → ⊥
 not_read ts t e h = let f = sym e ∙ complete_spells ts t h in cc
 
-take_drop : (i : ℕ) (ts : List Token) → ts ≡ take i ts ++ drop i ts
+pub take_drop : (i : ℕ) (ts : List Token) → ts ≡ take i ts ++ drop i ts
 take_drop i ts = grind (arith, common_steps)
 
 pub fault_at : (ts : List Token) (i : ℕ) (d t : Token) (st : State) → run start (take i ts) ≡ Some st → i < length ts → t ≡ get_or ts i d → step st t ≡ None → IsSyntaxAt ts i
@@ -38,7 +38,7 @@ fault_at ts i d t st r h e none =
       none = λ u. not_read ts u (ap finish (ap (run start) (take_drop (i + 1) ts) ∙ run_append start (take (i + 1) ts) (drop (i + 1) ts) ∙ ap (λ o. run o (drop (i + 1) ts)) past));
     }
 
-take_all : (ts : List Token) → take (length ts) ts ≡ ts
+pub take_all : (ts : List Token) → take (length ts) ts ≡ ts
 take_all ts = grind (arith, common_steps)
 
 whole : (ts : List Token) (st : State) (o : Option Tree) → run start (take (length ts) ts) ≡ Some st → finish (Some st) ≡ o → read ts ≡ o

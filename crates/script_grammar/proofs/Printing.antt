@@ -62,7 +62,7 @@ canonical_script (Join op x y) =
 canonical_script (If c x y) = (canonical_script c, canonical_script x, canonical_script y)
 
 -- where the place's level is low enough, nothing is put round it
-put_same : (l : ℕ) (w : Written) → l ≤ level w → put l w ≡ w
+pub put_same : (l : ℕ) (w : Written) → l ≤ level w → put l w ≡ w
 put_same l w h = ap (λ b. if b then w else Inside w) (le_true l (level w) h)
 
 put_longer : (l : ℕ) (w : Written) → length (tokens (put l w)) ≤ length (tokens w) + 2
@@ -76,7 +76,7 @@ word_canonical (Called i) = refl
 word_canonical (Picked i) = refl
 word_canonical Old = refl
 
-word_level : (word : Word) → level (canonical (word_tree word)) ≡ 8
+pub word_level : (word : Word) → level (canonical (word_tree word)) ≡ 8
 word_level (Digits z) = refl
 word_level Yes = refl
 word_level No = refl

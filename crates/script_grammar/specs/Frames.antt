@@ -3,9 +3,9 @@ use Rattle.std.specs.Prelude.{List, map, reverse, Option, Some, None}
 use Rattle.script_tree.specs.declared.expr.Expr.{Expr}
 use Rattle.script_tree.specs.Tree.{tree_of}
 use Rattle.script_grammar.specs.declared.frame.Frame as code
-use Rattle.script_grammar.specs.declared.frame.Next.{Next}
-use Rattle.script_grammar.specs.declared.frame.Next.TheVariants.{Fails, WantsMore, HasOne}
 use Rattle.script_grammar.specs.declared.frame.Frame.TheVariants.{Open, Prefix, Right, Test, Then, Else}
+use Rattle.script_grammar.specs.declared.next.Next.{Next}
+use Rattle.script_grammar.specs.declared.next.Next.TheVariants.{Fails, WantsMore, HasOne}
 use Rattle.script_grammar.specs.Reading.{Frame, InOpen, InPrefix, InRight, InTest, InThen, InElse, Stack, State, Wants, Has}
 
 abbrev pub frame_of : code.Frame → Frame

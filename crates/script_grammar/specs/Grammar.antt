@@ -123,6 +123,14 @@ nested d (Before op w) = d ∷ nested (d + 1) w
 nested d (Between op a b) = nested d a ++ d ∷ nested d b
 nested d (Choice c a b) = d ∷ (nested (d + 1) c ++ (d + 1) ∷ (nested (d + 1) a ++ (d + 1) ∷ nested (d + 1) b))
 
+-- some script begins with these tokens, and none of them is nested above a limit
+pub record BeginsWithin (limit : ℕ) (text : List Token) : Type 0 where
+  pub written : Written
+  pub grammar : IsScript written
+  pub more : List Token
+  pub same : tokens written ≡ text ++ more
+  pub shallow : (j : ℕ) → j < length text → slice_index (nested 0 written) j ≤ limit
+
 -- the first token whose nesting is above a limit, in a text that some script begins with up to it
 pub record IsTooDeepAt (limit : ℕ) (text : List Token) (k : ℕ) : Type 0 where
   pub within : k < length text

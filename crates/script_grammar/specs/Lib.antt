@@ -4,3 +4,4 @@ pub mod Canonical
 pub mod Nesting
 pub mod Frames
 pub mod Refusals
+pub mod Words

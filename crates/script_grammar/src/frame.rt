@@ -1,28 +1,37 @@
-// What is begun and wants an operand.
+//! What is begun and wants an operand.
+
+ghost use Rattle.std.specs.Prelude.{◌≡◌, ◌+◌, ◌∷◌};
+ghost use Rattle.script_grammar.specs.Reading.{Stack};
+ghost use Rattle.script_grammar.specs.Nesting.{count};
+ghost use Rattle.script_grammar.specs.Frames.{frame_of};
 
 use script_tree::expr::{Binary, Expr, Unary};
 
+/// One thing that is begun, with the operands that it has already.
 #[derive(Debug, Drop)]
 pub enum Frame {
+    /// A parenthesis.
     Open,
+    /// An operator before its operand.
     Prefix(Unary),
+    /// An operator with its left side.
     Right(Expr, Binary),
+    /// An `if` that wants its condition.
     Test,
+    /// An `if` with its condition.
     Then(Expr),
+    /// An `if` with its condition and its first part.
     Else(Expr, Expr),
 }
 
-/// What a token leads to.
-#[derive(Debug, Drop)]
-pub enum Next {
-    Fails,
-    WantsMore,
-    HasOne(Expr),
-}
-
-/// Why tokens aren't read.
-#[derive(Debug, Drop)]
-pub enum Refusal {
-    Syntax(usize),
-    Memory,
+impl Frame {
+    /// What it adds to the nesting of the tokens inside it.
+    pub fn weight(&self) -> usize
+        ensures { (s : Stack) → count (frame_of self.now ∷ s) ≡ count s + result }
+    {
+        match self {
+            Frame::Right(_, _) => 0,
+            _ => 1,
+        }
+    }
 }

@@ -1,8 +1,14 @@
-//! The grammar of scripts, its tokens and its laws.
+//! The grammar of scripts: its tokens, its laws, the reader of tokens and the writer of canonical tokens.
 #![tactic(auto)]
 
-pub mod frame;
+mod frame;
 pub mod laws;
-pub mod parse;
-pub mod read;
+mod level;
+mod next;
+pub mod reader;
+mod stack;
+mod step;
+#[cfg(test)]
+mod tests;
 pub mod token;
+pub mod writer;

@@ -2,10 +2,10 @@ use Rattle.std.proofs.Common.{◌≡◌, length}
 use Rattle.script_tree.specs.Tree.{tree_of}
 use Rattle.script_grammar.specs.Reading.{reduce}
 use Rattle.script_grammar.specs.Frames.{stack_of}
-use Rattle.script_grammar.proofs.read.reduce.Given as goal
+use Rattle.script_grammar.proofs.stack.Stack.reduce.Given as goal
 
 abbrev pub invariant-loop-frame : goal.invariant-loop-frame
-invariant-loop-frame l = reduce l.level (stack_of l.stack.items) (tree_of l.x) ≡ reduce l.level (stack_of l.initial.stack.items) (tree_of l.initial.x)
+invariant-loop-frame l = reduce l.level (stack_of l.self.frames.items) (tree_of l.x) ≡ reduce l.level (stack_of l.initial.self.frames.items) (tree_of l.initial.x)
 
 abbrev pub decreases-loop-frame : goal.decreases-loop-frame
-decreases-loop-frame l = length l.stack.items
+decreases-loop-frame l = length l.self.frames.items

@@ -1,0 +1,93 @@
+// Worked examples: what the levels mean, where refusals stand, and how long a script may be.
+
+use crate::reader::{Refusal, read_script};
+use crate::token::{Token, Word};
+use crate::writer::write_script;
+use script_tree::expr::Binary;
+use script_tree::value::Value;
+use std::test::Fail;
+
+const ONE: Token = Token::Plain(Word::Digits(1));
+
+const TWO: Token = Token::Plain(Word::Digits(2));
+
+const THREE: Token = Token::Plain(Word::Digits(3));
+
+const YES: Token = Token::Plain(Word::Yes);
+
+const PLUS: Token = Token::Sign(Binary::Add);
+
+const TIMES: Token = Token::Sign(Binary::Multiply);
+
+const BELOW: Token = Token::Sign(Binary::Less);
+
+#[test]
+fn levels_bind(rt: HostRuntime) -> Result<(), Fail> {
+    let table: [(&[Token], i64); 4] = [
+        (&[ONE, Token::Minus, TWO, Token::Minus, THREE], -4),
+        (&[ONE, PLUS, TWO, TIMES, THREE], 7),
+        (&[Token::Minus, TWO, TIMES, THREE], -6),
+        (
+            &[
+                Token::IfWord,
+                YES,
+                Token::ThenWord,
+                ONE,
+                Token::ElseWord,
+                TWO,
+                PLUS,
+                THREE,
+            ],
+            1,
+        ),
+    ];
+    for (tokens, value) in table {
+        let script = read_script(rt.alloc(), tokens)?;
+        assert_eq!(rt; script.eval(&[], &[], Value::Int(0)), Value::Int(value));
+    }
+    Ok(())
+}
+
+#[test]
+fn faults_have_places(rt: HostRuntime) {
+    let table: [(&[Token], usize); 4] = [
+        (&[], 0),
+        (&[ONE, PLUS], 2),
+        (&[ONE, PLUS, Token::IfWord, YES], 2),
+        (&[ONE, BELOW, TWO, BELOW, THREE], 3),
+    ];
+    for (tokens, place) in table {
+        let is_there =
+            matches!(read_script(rt.alloc(), tokens), Err(Refusal::Syntax(k)) if k == place);
+        assert!(rt; is_there, "at {place}");
+    }
+}
+
+#[test]
+fn depth_is_limited(rt: HostRuntime) -> Result<(), Fail> {
+    let mut tokens = Vec::new(rt.alloc());
+    for _ in 0..64 {
+        tokens.push(Token::Bang)?;
+    }
+    tokens.push(YES)?;
+    let is_read = read_script(rt.alloc(), &tokens).is_ok();
+    assert!(rt; is_read);
+    tokens.insert(0, Token::Bang)?;
+    let is_refused = matches!(read_script(rt.alloc(), &tokens), Err(Refusal::TooDeep(65)));
+    assert!(rt; is_refused);
+    Ok(())
+}
+
+#[test]
+fn long_sums_are_read(rt: HostRuntime) -> Result<(), Fail> {
+    let mut tokens = Vec::new(rt.alloc());
+    tokens.push(ONE)?;
+    for _ in 1..2000 {
+        tokens.push(PLUS)?;
+        tokens.push(ONE)?;
+    }
+    let script = read_script(rt.alloc(), &tokens)?;
+    assert_eq!(rt; script.eval(&[], &[], Value::Int(0)), Value::Int(2000));
+    assert_eq!(rt; write_script(rt.alloc(), &script)?.len(), tokens.len());
+    Ok(())
+}
