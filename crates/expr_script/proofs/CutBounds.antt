@@ -1,8 +1,8 @@
 -- Each piece of a text has bytes and lies in the text.
-use Rattle.std.proofs.Common.{◌≡◌, ℕ, zero, suc, ◌+◌, ◌-◌, ◌<◌, ◌≤◌, Bool, true, false, List, [], ◌∷◌, length, take, refl, sym, ap, ◌∙◌, arith, ◌++◌, drop, append-nil}
+use Rattle.std.proofs.Common.{◌≡◌, ℕ, zero, suc, ◌+◌, ◌-◌, ◌<◌, ◌≤◌, Bool, true, false, List, [], ◌∷◌, length, refl, sym, ap, ◌∙◌, arith, ◌++◌, drop, append-nil}
 use Rattle.std.proofs.Math.ListN.{drop_of_length-le}
 use Rattle.std.specs.Prelude.{if◌then◌else◌, take_while}
-use Rattle.std.specs.List.{All, AllByRecursion, prefix_len}
+use Rattle.std.specs.List.{All, AllByRecursion}
 use Rattle.std.proofs.lemmas.List.Elements.{All-from_recursion}
 use Rattle.std.proofs.lemmas.List.Sums.{take_while-cons}
 use Rattle.std.proofs.lemmas.Grind.{common_steps}
@@ -49,8 +49,8 @@ all_lie zero at (b ∷ bs) bound e =
     let lens = piece_within b bs in
     let len = piece_len (b ∷ bs) in
     either (Lies bound) (is_blank b) _ _
-        (all_lie zero (at + 1) bs bound (omega arith))
-        (record { within = omega (arith, lens.1); some = lens.0 }, all_lie (len - 1) (at + 1) bs bound (omega arith))
+    (all_lie zero (at + 1) bs bound (omega arith))
+    (record { within = omega (arith, lens.1); some = lens.0 }, all_lie (len - 1) (at + 1) bs bound (omega arith))
 
 pub pieces_lie : (text : List ℕ) → All (Lies (length text)) (pieces text)
 pieces_lie text = All-from_recursion (Lies (length text)) (pieces text) (all_lie 0 0 text (length text) (omega arith))

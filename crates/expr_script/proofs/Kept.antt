@@ -124,13 +124,14 @@ keeps_more {most} {kept} {more} {all} w k n h many = by_case (cases_lt (place_of
   where
     enough : most ≤ length all
     enough = front_many most all (omega (arith, many, ap length k.first))
+
     by_case : (place_of all w < length all) ⊎ (length all ≤ place_of all w) → KeepsFirst most kept true (with_name all w)
     by_case (inl there) =
         subst (λ (l : List (List ℕ)). KeepsFirst most kept true l) (sym (with_known all w there))
-          (record { first = k.first; rest = sym (is_more most (length all) (keeps_rest most kept all w k.first h many there)) })
+        (record { first = k.first; rest = sym (is_more most (length all) (keeps_rest most kept all w k.first h many there)) })
     by_case (inr end) =
         subst (λ (l : List (List ℕ)). KeepsFirst most kept true l) (sym (with_new all w n (omega (arith, end, place_of-le all w))))
-          (record {
-            first = k.first ∙ sym (take_front most all (w ∷ []) enough);
-            rest = sym (is_more most (length (all ++ w ∷ [])) (omega (arith, enough, length_push all w)));
-          })
+        (record {
+          first = k.first ∙ sym (take_front most all (w ∷ []) enough);
+          rest = sym (is_more most (length (all ++ w ∷ [])) (omega (arith, enough, length_push all w)));
+        })

@@ -1,6 +1,6 @@
 -- What a script that is made from its tokens keeps.
-use Rattle.std.proofs.Common.{◌≡◌, ℕ, zero, suc, ◌+◌, ◌<◌, ◌≤◌, ◌^◌, Bool, true, false, List, [], ◌∷◌, ◌++◌, length, take, refl, sym, ap, ◌∙◌, subst, inl, inr, arith}
-use Rattle.std.specs.Prelude.{◌&&◌, ◌==◌, ◌⊎◌, if◌then◌else◌, map, nat_lt, pos, fold, IsTrue}
+use Rattle.std.proofs.Common.{◌≡◌, ℕ, suc, ◌+◌, ◌<◌, ◌≤◌, Bool, true, false, List, [], ◌∷◌, ◌++◌, length, take, refl, sym, ap, ◌∙◌, subst, inl, inr, arith}
+use Rattle.std.specs.Prelude.{◌&&◌, ◌==◌, ◌⊎◌, if◌then◌else◌, nat_lt, fold}
 use Rattle.std.specs.List.{list_all, AllByRecursion}
 use Rattle.std.specs.Str.{bytes_eq}
 use Rattle.std.proofs.lemmas.Bool.{cases_lt}
@@ -9,8 +9,8 @@ use Rattle.std.proofs.lemmas.Slice.Eq.{bytes_eq-Decides}
 use Rattle.std.proofs.lemmas.Grind.{common_steps}
 use Rattle.script_tree.specs.declared.limits.TheConstants.{INPUTS}
 use Rattle.script_tree.specs.Names.{is_name}
-use Rattle.script_tree.specs.Tree.{Tree, Number, Constant, Input, Pick, Acc}
-use Rattle.script_tree.specs.Scripts.{Scripted, WellFormed, HasNoPicks, HasNoAcc, IsBody, all_leaves, input_below, pick_below, is_not_acc, is_literal}
+use Rattle.script_tree.specs.Tree.{Tree, Input}
+use Rattle.script_tree.specs.Scripts.{Scripted, WellFormed, all_leaves, input_below, pick_below, is_not_acc, is_literal}
 use Rattle.script_grammar.specs.declared.token.Token.{Token}
 use Rattle.script_grammar.specs.Grammar.{Spells}
 use Rattle.expr_script.specs.declared.atoms.Atoms.{Atoms}
@@ -18,10 +18,10 @@ use Rattle.expr_script.specs.declared.atoms.Atoms.TheVariants.{Script, Body}
 use Rattle.expr_script.specs.declared.pieces.Piece.{Piece}
 use Rattle.expr_script.specs.Inputs.{KeepsFirst}
 use Rattle.expr_script.specs.Pieces.{pieces, bytes_of}
-use Rattle.expr_script.specs.Words.{place_of, name_token, token}
+use Rattle.expr_script.specs.Words.{place_of, name_token}
 use Rattle.expr_script.specs.Tokens.{with_name, names_among, names, inputs, tokens_among, tokens, HasAtoms}
 use Rattle.expr_script.proofs.Kept.{with_known, with_new, place_of-le, take_whole}
-use Rattle.expr_script.proofs.Leaves.{passes, Passes, PassesTruths, PassesAtoms, and_both, and_left, script_passes, body_passes, token_passes, mapped_pass, spelled_pass}
+use Rattle.expr_script.proofs.Leaves.{passes, Passes, PassesAtoms, and_both, and_left, script_passes, body_passes, token_passes, spelled_pass}
 
 lt_step : (t : Bool) (p' l' p l : ℕ) → (p' < l' → p < l) → (if t then 0 else p' + 1) < suc l' → (if t then 0 else p + 1) < suc l
 lt_step true p' l' p l f h = omega arith
@@ -53,6 +53,7 @@ with_there known w n = by_case (cases_lt (place_of known w) (length known))
   where
     P : List (List ℕ) → Type 0
     P l = place_of l w < length l
+
     by_case : (place_of known w < length known) ⊎ (length known ≤ place_of known w) → place_of (with_name known w) w < length (with_name known w)
     by_case (inl there) = subst (λ (l : List (List ℕ)). place_of l w < length l) (sym (with_known known w there)) there
     by_case (inr end) = subst (λ (l : List (List ℕ)). place_of l w < length l) (sym (with_new known w n (omega (arith, end, place_of-le known w)))) (push_there known w)
@@ -109,7 +110,7 @@ any_name test (Body picks) known w h = record { passed = refl }
 leaves_of : (test : Tree → Bool) (atoms : Atoms) (known : List (List ℕ)) (text : List ℕ) (found : List Piece) (tree : Tree) → PassesAtoms test atoms → ((i : ℕ) → test (Input i) ≡ true) → Spells (tokens_among atoms known text found) tree → all_leaves test tree ≡ true
 leaves_of test atoms known text found tree h i s =
     spelled_pass test (tokens_among atoms known text found) tree
-      (tokens_pass test atoms known text found h (everywhere (λ p. is_name (bytes_of text p) ≡ true → Passes test (name_token atoms known (bytes_of text p))) found (λ p _. any_name test atoms known (bytes_of text p) i))) s
+    (tokens_pass test atoms known text found h (everywhere (λ p. is_name (bytes_of text p) ≡ true → Passes test (name_token atoms known (bytes_of text p))) found (λ p _. any_name test atoms known (bytes_of text p) i))) s
 
 literal_atoms : (atoms : Atoms) → PassesAtoms is_literal atoms
 literal_atoms (Script acc) = record { truths = record { yes = refl; no = refl }; numbers = λ n h. h; others = λ w. script_passes is_literal acc w (record { yes = refl; no = refl }) (λ _. refl) }
@@ -158,26 +159,29 @@ all_named (Body picks) text = refl
 input_leaves : (atoms : Atoms) (text : List ℕ) (tree : Tree) → Spells (tokens_among atoms (names atoms text) text (pieces text)) tree → all_leaves (input_below (length (names atoms text))) tree ≡ true
 input_leaves atoms text tree s =
     spelled_pass (input_below (length (names atoms text))) (tokens_among atoms (names atoms text) text (pieces text)) tree
-      (tokens_pass (input_below (length (names atoms text))) atoms (names atoms text) text (pieces text) (input_atoms (length (names atoms text)) atoms) (names_there atoms text)) s
+    (tokens_pass (input_below (length (names atoms text))) atoms (names atoms text) text (pieces text) (input_atoms (length (names atoms text)) atoms) (names_there atoms text)) s
 
 -- where all names are kept, the names and the tree make a script
 pub well_formed : (atoms : Atoms) (text : List ℕ) (kept : List (List ℕ)) (more : Bool) (tree : Tree) → KeepsFirst INPUTS kept more (names atoms text) → more ≡ false → Spells (tokens_among atoms kept text (pieces text)) tree → (kept ≡ names atoms text) × WellFormed kept tree
 well_formed atoms text kept more tree k m s =
     let all : kept ≡ names atoms text = k.first ∙ take_whole INPUTS (names atoms text) (not_more INPUTS (length (names atoms text)) more k.rest m) in
-    let spelled : Spells (tokens_among atoms (names atoms text) text (pieces text)) tree = subst (λ (l : List (List ℕ)). Spells (tokens_among atoms l text (pieces text)) tree) all s in
-    (all, subst (λ (l : List (List ℕ)). WellFormed l tree) (sym all) (record {
-      few = subst (λ (l : List (List ℕ)). length l ≤ INPUTS) (sym k.first ∙ all) (length_take INPUTS (names atoms text));
-      named = all_named atoms text;
-      inputs = input_leaves atoms text tree spelled;
-      numbers = leaves_of is_literal atoms (names atoms text) text (pieces text) tree (literal_atoms atoms) (λ i. refl) spelled;
-    }))
+    let spelled : Spells (tokens_among atoms (names atoms text) text (pieces text)) tree = subst (λ (l : List (List ℕ)). Spells (tokens_among atoms l text (pieces text)) tree) all s in (
+      all,
+      subst (λ (l : List (List ℕ)). WellFormed l tree) (sym all) (record {
+        few = subst (λ (l : List (List ℕ)). length l ≤ INPUTS) (sym k.first ∙ all) (length_take INPUTS (names atoms text));
+        named = all_named atoms text;
+        inputs = input_leaves atoms text tree spelled;
+        numbers = leaves_of is_literal atoms (names atoms text) text (pieces text) tree (literal_atoms atoms) (λ i. refl) spelled;
+      }),
+    )
 
 -- the atoms of a script are those of its kind
 pub has_atoms : (atoms : Atoms) (text : List ℕ) (script : Scripted) → script.names ≡ names atoms text → Spells (tokens atoms text) script.tree → HasAtoms atoms script
-has_atoms (Script acc) text script n s =
-    (leaves_of (pick_below 0) (Script acc) (inputs (Script acc) text) text (pieces text) script.tree (no_pick_atoms acc) (λ i. refl) s,
-     λ e. let without : Spells (tokens (Script false) text) script.tree = subst (λ (b : Bool). Spells (tokens (Script b) text) script.tree) e s in
-          leaves_of is_not_acc (Script false) (inputs (Script false) text) text (pieces text) script.tree no_acc_atoms (λ i. refl) without)
+has_atoms (Script acc) text script n s = (
+  leaves_of (pick_below 0) (Script acc) (inputs (Script acc) text) text (pieces text) script.tree (no_pick_atoms acc) (λ i. refl) s,
+  λ e. let without : Spells (tokens (Script false) text) script.tree = subst (λ (b : Bool). Spells (tokens (Script b) text) script.tree) e s in
+      leaves_of is_not_acc (Script false) (inputs (Script false) text) text (pieces text) script.tree no_acc_atoms (λ i. refl) without,
+)
 has_atoms (Body picks) text script n s = record {
   no_names = n;
   no_acc = leaves_of is_not_acc (Body picks) (inputs (Body picks) text) text (pieces text) script.tree (body_acc_atoms picks) (λ i. refl) s;

@@ -1,7 +1,6 @@
 -- One byte of a text.
 use Rattle.std.proofs.Common.{◌≡◌, ℕ, zero, suc, ◌+◌, ◌-◌, ◌<◌, true, false, List, ◌∷◌, length, drop, get_or, refl, sym, ap, ◌∙◌, arith, drop-cons, add-one}
 use Rattle.std.specs.Prelude.{if◌then◌else◌}
-use Rattle.expr_script.specs.declared.pieces.Piece.{Piece}
 use Rattle.expr_script.specs.Pieces.{is_blank, piece_len, pieces_from}
 
 drop_at : (text : List ℕ) (at : ℕ) → at < length text → drop at text ≡ get_or text at 0 ∷ drop (at + 1) text

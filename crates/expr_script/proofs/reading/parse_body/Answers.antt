@@ -1,4 +1,4 @@
-use Rattle.std.proofs.Common.{◌≡◌, ℕ, List, subst}
+use Rattle.std.proofs.Common.{ℕ, List, subst}
 use Rattle.std.specs.Prelude.{IfOk, IfErr}
 use Rattle.script_grammar.specs.Grammar.{Spells}
 use Rattle.expr_script.specs.Tokens.{body_tokens, IsBodyFault}

@@ -1,4 +1,4 @@
-use Rattle.std.proofs.Common.{◌≡◌, ℕ, ◌+◌, ◌*◌, ◌<◌, ◌≤◌, ◌^◌, sym, arith}
+use Rattle.std.proofs.Common.{◌+◌, ◌*◌, ◌<◌, ◌^◌, sym, arith}
 use Rattle.expr_script.proofs.Numbers.{too_great}
 use Rattle.expr_script.proofs.words.number.Goals as goal
 

@@ -1,4 +1,4 @@
-use Rattle.std.proofs.Common.{◌≡◌, ℕ, ◌+◌, ◌<◌, ◌≤◌, refl, arith}
+use Rattle.std.proofs.Common.{◌≡◌, refl, arith}
 use Rattle.expr_script.proofs.Numbers.{place_here, place_on}
 use Rattle.expr_script.proofs.words.place_of.Goals as goal
 
