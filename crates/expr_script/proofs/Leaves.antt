@@ -1,0 +1,144 @@
+-- The leaves of a script come from its tokens.
+use Rattle.std.proofs.Common.{◌≡◌, ℕ, ◌^◌, Bool, true, false, List, [], ◌∷◌, ◌++◌, refl, ap, ◌∙◌, subst}
+use Rattle.std.specs.Prelude.{◌&&◌, if◌then◌else◌, map, nat_lt, pos, codes}
+use Rattle.std.specs.Str.{bytes_eq}
+use Rattle.std.specs.Char.{is_ascii_digit}
+use Rattle.std.specs.List.{list_all, AllByRecursion}
+use Rattle.script_tree.specs.Tree.{Tree, Number, Constant, Pick, Acc}
+use Rattle.script_tree.specs.Names.{is_name}
+use Rattle.script_tree.specs.Scripts.{all_leaves}
+use Rattle.script_grammar.specs.declared.token.Word.{Word}
+use Rattle.script_grammar.specs.declared.token.Word.TheVariants as word
+use Rattle.script_grammar.specs.declared.token.Token.{Token}
+use Rattle.script_grammar.specs.declared.token.Token.TheVariants as token
+use Rattle.script_grammar.specs.Grammar.{Written, Plain, Inside, Before, Between, Choice, word_tree, sign, mark, tokens, tree, Spells}
+use Rattle.expr_script.specs.declared.atoms.Atoms.{Atoms}
+use Rattle.expr_script.specs.declared.atoms.Atoms.TheVariants.{Script, Body}
+use Rattle.expr_script.specs.declared.pieces.Piece.{Piece}
+use Rattle.expr_script.specs.Words.{value, number, name_token, look_up, short_signs, long_signs, script_words, short_sign, sign_token, fixed_token, pick_token, other_token, token as token_of}
+
+-- whether a token's leaf, if it has one, passes a test
+abbrev pub passes : (Tree → Bool) → Token → Bool
+passes test (token.Plain word) = test (word_tree word)
+passes test t = true
+
+pub and_both : {a b : Bool} → a ≡ true → b ≡ true → (a && b) ≡ true
+and_both {a} {b} p q = ap (λ x. x && b) p ∙ q
+
+pub and_left : (a b : Bool) → (a && b) ≡ true → a ≡ true
+and_left true b h = refl
+and_left false b h = h
+
+and_right : (a b : Bool) → (a && b) ≡ true → b ≡ true
+and_right true b h = h
+and_right false b h = let e : false ≡ true = h in cc
+
+all_front : (p : Token → Bool) (xs ys : List Token) → list_all p (xs ++ ys) ≡ true → list_all p xs ≡ true
+all_front p [] ys h = refl
+all_front p (x ∷ xs) ys h = and_both (and_left (p x) (list_all p (xs ++ ys)) h) (all_front p xs ys (and_right (p x) (list_all p (xs ++ ys)) h))
+
+all_back : (p : Token → Bool) (xs ys : List Token) → list_all p (xs ++ ys) ≡ true → list_all p ys ≡ true
+all_back p [] ys h = h
+all_back p (x ∷ xs) ys h = all_back p xs ys (and_right (p x) (list_all p (xs ++ ys)) h)
+
+all_rest : (p : Token → Bool) (x : Token) (xs : List Token) → list_all p (x ∷ xs) ≡ true → list_all p xs ≡ true
+all_rest p x xs h = and_right (p x) (list_all p xs) h
+
+word_leaves : (test : Tree → Bool) (w : Word) → test (word_tree w) ≡ true → all_leaves test (word_tree w) ≡ true
+word_leaves test (word.Digits z) h = h
+word_leaves test word.Yes h = h
+word_leaves test word.No h = h
+word_leaves test (word.Called i) h = h
+word_leaves test (word.Pick i) h = h
+word_leaves test word.Acc h = h
+
+leaves_pass : (test : Tree → Bool) (w : Written) → list_all (passes test) (tokens w) ≡ true → all_leaves test (tree w) ≡ true
+leaves_pass test (Plain word) h = word_leaves test word (and_left (test (word_tree word)) true h)
+leaves_pass test (Inside w) h =
+    let behind = all_rest (passes test) token.Opens (tokens w ++ token.Closes ∷ []) h in
+    leaves_pass test w (all_front (passes test) (tokens w) (token.Closes ∷ []) behind)
+leaves_pass test (Before op w) h = leaves_pass test w (all_rest (passes test) (mark op) (tokens w) h)
+leaves_pass test (Between op a b) h =
+    let behind = all_back (passes test) (tokens a) (sign op ∷ tokens b) h in
+    and_both (leaves_pass test a (all_front (passes test) (tokens a) (sign op ∷ tokens b) h)) (leaves_pass test b (all_rest (passes test) (sign op) (tokens b) behind))
+leaves_pass test (Choice c a b) h =
+    let else_part = token.ElseWord ∷ tokens b in
+    let then_part = token.ThenWord ∷ (tokens a ++ else_part) in
+    let behind_if = all_rest (passes test) token.IfWord (tokens c ++ then_part) h in
+    let behind_then = all_rest (passes test) token.ThenWord (tokens a ++ else_part) (all_back (passes test) (tokens c) then_part behind_if) in
+    let behind_else = all_rest (passes test) token.ElseWord (tokens b) (all_back (passes test) (tokens a) else_part behind_then) in
+    and_both (leaves_pass test c (all_front (passes test) (tokens c) then_part behind_if))
+    (and_both (leaves_pass test a (all_front (passes test) (tokens a) else_part behind_then)) (leaves_pass test b behind_else))
+
+-- where every token passes, every leaf of the tree passes
+pub spelled_pass : (test : Tree → Bool) (text : List Token) (t : Tree) → list_all (passes test) text ≡ true → Spells text t → all_leaves test t ≡ true
+spelled_pass test text t h s =
+    subst (λ (u : Tree). all_leaves test u ≡ true) s.tree_is
+    (leaves_pass test s.written (ap (list_all (passes test)) s.same ∙ h))
+
+pub mapped_pass : (test : Tree → Bool) (f : Piece → Token) (found : List Piece) → AllByRecursion (λ p. passes test (f p) ≡ true) found → list_all (passes test) (map f found) ≡ true
+mapped_pass test f [] h = refl
+mapped_pass test f (p ∷ found) h = and_both h.0 (mapped_pass test f found h.1)
+
+-- a token passes a test
+pub record Passes (test : Tree → Bool) (t : Token) : Type 0 where
+  pub passed : passes test t ≡ true
+
+either : (test : Tree → Bool) (b : Bool) (t u : Token) → (b ≡ true → Passes test t) → (b ≡ false → Passes test u) → Passes test (if b then t else u)
+either test true t u p q = p refl
+either test false t u p q = q refl
+
+table_passes : (test : Tree → Bool) (table : List (List ℕ × Token)) (w : List ℕ) (other : Token) → list_all (λ row. passes test row.1) table ≡ true → Passes test other → Passes test (look_up table w other)
+table_passes test [] w other h o = o
+table_passes test (row ∷ table) w other h o =
+    either test (bytes_eq w row.0) row.1 (look_up table w other)
+    (λ _. record { passed = and_left (passes test row.1) (list_all (λ r. passes test r.1) table) h })
+    (λ _. table_passes test table w other (and_right (passes test row.1) (list_all (λ r. passes test r.1) table) h) o)
+
+sign_passes : (test : Tree → Bool) (w : List ℕ) → Passes test (sign_token w)
+sign_passes test w = table_passes test long_signs w (short_sign w) refl (table_passes test short_signs w token.Stray refl (record { passed = refl }))
+
+-- a test that both truths pass
+pub record PassesTruths (test : Tree → Bool) : Type 0 where
+  pub yes : test (Constant true) ≡ true
+  pub no : test (Constant false) ≡ true
+
+fixed_passes : (test : Tree → Bool) (w : List ℕ) → PassesTruths test → Passes test (fixed_token w)
+fixed_passes test w truths = table_passes test script_words w (sign_token w) (and_both truths.yes (and_both truths.no refl)) (sign_passes test w)
+
+pick_step : (test : Tree → Bool) (i k : ℕ) (w name : List ℕ) (rest : Token) → (nat_lt i k ≡ true → test (Pick i) ≡ true) → Passes test rest → Passes test (if nat_lt i k && bytes_eq w name then token.Plain (word.Pick i) else rest)
+pick_step test i k w name rest f r =
+    either test (nat_lt i k && bytes_eq w name) (token.Plain (word.Pick i)) rest
+    (λ e. record { passed = f (and_left (nat_lt i k) (bytes_eq w name) e) }) (λ _. r)
+
+pick_passes : (test : Tree → Bool) (k : ℕ) (w : List ℕ) → PassesTruths test → ((i : ℕ) → nat_lt i k ≡ true → test (Pick i) ≡ true) → Passes test (pick_token k w)
+pick_passes test k w truths f =
+    pick_step test 0 k w (codes "pick1") _ (f 0)
+    (pick_step test 1 k w (codes "pick2") _ (f 1)
+    (pick_step test 2 k w (codes "pick3") _ (f 2)
+    (pick_step test 3 k w (codes "pick4") (fixed_token w) (f 3) (fixed_passes test w truths))))
+
+-- what a test says of the leaves that words of a kind of script can be
+pub record PassesAtoms (test : Tree → Bool) (atoms : Atoms) : Type 0 where
+  pub truths : PassesTruths test
+  pub numbers : (n : ℕ) → nat_lt n (2 ^ 63) ≡ true → test (Number (pos n)) ≡ true
+  pub others : (w : List ℕ) → Passes test (other_token atoms w)
+
+pub script_passes : (test : Tree → Bool) (acc : Bool) (w : List ℕ) → PassesTruths test → (acc ≡ true → test Acc ≡ true) → Passes test (other_token (Script acc) w)
+script_passes test acc w truths f =
+    either test (acc && bytes_eq w (codes "acc")) (token.Plain word.Acc) (fixed_token w)
+    (λ e. record { passed = f (and_left acc (bytes_eq w (codes "acc")) e) }) (λ _. fixed_passes test w truths)
+
+pub body_passes : (test : Tree → Bool) (k : ℕ) (w : List ℕ) → PassesTruths test → ((i : ℕ) → nat_lt i k ≡ true → test (Pick i) ≡ true) → Passes test (other_token (Body k) w)
+body_passes test k w truths f = pick_passes test k w truths f
+
+number_passes : (test : Tree → Bool) (w : List ℕ) → ((n : ℕ) → nat_lt n (2 ^ 63) ≡ true → test (Number (pos n)) ≡ true) → Passes test (number w)
+number_passes test w f =
+    either test (nat_lt (value 0 w) (2 ^ 63)) (token.Plain (word.Digits (pos (value 0 w)))) token.Stray
+    (λ e. record { passed = f (value 0 w) e }) (λ _. record { passed = refl })
+
+pub token_passes : (test : Tree → Bool) (atoms : Atoms) (known : List (List ℕ)) (w : List ℕ) → PassesAtoms test atoms → (is_name w ≡ true → Passes test (name_token atoms known w)) → Passes test (token_of atoms known w)
+token_passes test atoms known w h named =
+    either test (list_all is_ascii_digit w) (number w) (if is_name w then name_token atoms known w else other_token atoms w)
+    (λ _. number_passes test w h.numbers)
+    (λ _. either test (is_name w) (name_token atoms known w) (other_token atoms w) named (λ _. h.others w))

@@ -1,0 +1,7 @@
+pub mod Steps
+pub mod CutBounds
+pub mod Numbers
+pub mod Kept
+pub mod Leaves
+pub mod Made
+pub mod Written

@@ -1,0 +1,23 @@
+//! Scripts as text: read, and printed in their canonical form.
+#![tactic(auto)]
+
+mod atoms;
+mod faults;
+mod inputs;
+mod lexer;
+mod parse;
+pub mod pieces;
+mod printing;
+mod reading;
+mod words;
+
+pub use crate::faults::ScriptFault;
+pub use crate::printing::{print_script, print_script_to};
+pub use crate::reading::{parse_body, parse_body_bytes, parse_script, parse_script_bytes};
+pub use script_tree::items::Text;
+pub use script_tree::limits;
+pub use script_tree::memory::OutOfMemory;
+pub use script_tree::name::{Name, NameList};
+pub use script_tree::picks::Picks;
+pub use script_tree::script::Script;
+pub use script_tree::value::{Fault, Value};
