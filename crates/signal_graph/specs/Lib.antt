@@ -3,3 +3,4 @@ pub mod Values
 pub mod Machine
 pub mod Legal
 pub mod OnePass
+pub mod Tables

@@ -3,4 +3,5 @@
 
 pub mod call;
 pub mod log;
+mod names;
 pub mod node;
