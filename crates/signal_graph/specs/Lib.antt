@@ -4,3 +4,6 @@ pub mod Machine
 pub mod Legal
 pub mod OnePass
 pub mod Tables
+pub mod Evaluation
+pub mod Kept
+pub mod Declarations

@@ -1,9 +1,10 @@
 // Names by number, and the number of each name.
 
-ghost use Rattle.std.specs.Prelude.{◌≡◌, ◌<◌, ◌≤◌, [], ◌∷◌, ◌++◌, false, length, slice_get, Some, OnOk, OnErr};
+ghost use Rattle.std.specs.Prelude.{◌≡◌, ◌<◌, ◌≤◌, [], ◌∷◌, ◌++◌, false, if◌then◌else◌, length, slice_get, Some, None, OnOk, OnErr};
 ghost use Rattle.std.specs.List.{list_any};
 ghost use Rattle.std.specs.Str.{bytes_eq};
-ghost use Rattle.signal_graph.specs.Tables.{found_from};
+ghost use Rattle.signal_graph.specs.Graph.{place_in};
+ghost use Rattle.signal_graph.specs.Tables.{is_declared};
 
 use script_tree::limits::NODES;
 use script_tree::memory::OutOfMemory;
@@ -22,7 +23,8 @@ pub struct NameTable {
 
 impl Model for NameTable {
     ghost use Rattle.std.specs.Prelude.{List, ℕ};
-    ghost use Rattle.signal_graph.specs.Tables.{IsTable};
+    ghost use Rattle.signal_graph.specs.Graph.{place_in};
+ghost use Rattle.signal_graph.specs.Tables.{IsTable};
 
     ghost Value = { List (List ℕ) };
 
@@ -61,15 +63,22 @@ impl NameTable {
 
     /// The number of a name, or none where it is not there. Takes no memory.
     pub fn find(&self, name: &Name) -> Option<u32>
-        ensures { result ≡ found_from 0 self.now name.now }
+        ensures { result ≡ (if is_declared self.now name.now then Some (place_in self.now name.now) else None) }
     {
         self.numbers.get(name.as_slice()).copied()
+    }
+
+    /// The number of a name, or how many names there are where it is not there. Takes no memory.
+    pub fn place(&self, name: &Name) -> u32
+        ensures { result ≡ place_in self.now name.now }
+    {
+        self.find(name).unwrap_or(self.len())
     }
 
     /// Adds a name at the end. Takes memory; where there is none the name is dropped and the table is as it was.
     pub fn push(&mut self, name: Name) -> Result<(), OutOfMemory>
         requires room { length self.old < NODES }
-        requires absent { found_from 0 self.old name ≡ None }
+        requires absent { is_declared self.old name ≡ false }
         ensures ok { OnOk result (self.new ≡ self.old ++ name ∷ []) }
         ensures err { OnErr result (self.new ≡ self.old) }
     {
