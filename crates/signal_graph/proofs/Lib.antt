@@ -1,0 +1,6 @@
+mod GraphNames
+mod GraphNodes
+mod GraphStarts
+mod GraphOuts
+mod BuilderLists
+mod BuilderNodes

@@ -3,3 +3,7 @@ pub mod Values
 pub mod Machine
 pub mod Legal
 pub mod OnePass
+pub mod Tables
+pub mod Evaluation
+pub mod Kept
+pub mod Declarations
