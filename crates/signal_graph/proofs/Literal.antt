@@ -16,7 +16,7 @@ use Rattle.signal_graph.specs.Graph.{Graph, node_at, number_of, is_source, IsNod
 use Rattle.signal_graph.specs.Values.{Values, at, run, node_value, values_from, values}
 use Rattle.signal_graph.specs.Machine.{differs, same, with_sets, fold_step, fold_steps, names_source, names_node, names_right, first_wrong, misnamed, after}
 use Rattle.signal_graph.specs.OnePass.{new_value, new_from, after_call}
-use Rattle.signal_graph.proofs.Values.{values_stay, values_are}
+use Rattle.signal_graph.proofs.Values.{values_stay, values_are, length-values}
 use Rattle.signal_graph.proofs.OnePassLaws.{length-new_from, new_values_from}
 
 -- the sets leave the folds alone
@@ -173,3 +173,87 @@ sets_agree graph a b (s ∷ sets) n long within e =
       (length-set a k s.1 ∙ long ∙ sym (length-set b k s.1))
       (omega (arith, length-set a k s.1))
       (set_agrees a b k n s.1 long within e)
+
+-- the nodes of a graph from a number on
+abbrev There : Graph → ℕ → List Node → Type 0
+There graph n rest = (k : ℕ) → k < length rest → node_at graph (n + k) ≡ slice_index_or rest k (Source (Faulty Kind))
+
+there_first : (graph : Graph) (n : ℕ) (node : Node) (rest : List Node) → There graph n (node ∷ rest) → node_at graph n ≡ node
+there_first graph n node rest there = let e : n ≡ n + 0 = omega arith in ap (node_at graph) e ∙ there 0 (omega arith)
+
+there_rest : (graph : Graph) (n : ℕ) (node : Node) (rest : List Node) → There graph n (node ∷ rest) → There graph (n + 1) rest
+there_rest graph n node rest there k h = let e : n + 1 + k ≡ n + suc k = omega arith in ap (node_at graph) e ∙ there (suc k) (omega arith)
+
+kept_at : (graph : Graph) (kept : Values) (n : ℕ) (node : Node) → AreNodes graph.names 0 graph.nodes → n < length graph.nodes → node_at graph n ≡ node → at (values graph kept) n ≡ node_value node (at kept n) (values graph kept)
+kept_at graph kept n node nodes_are within e = values_are graph kept n nodes_are within ∙ ap (λ x. node_value x (at kept n) (values graph kept)) e
+
+folds_kept : (graph : Graph) (kept : Values) (sets : List (List ℕ × Value)) → AreNodes graph.names 0 graph.nodes → NameSources graph sets → (rest : List Node) (n : ℕ) → There graph n rest → n + length rest ≤ length graph.nodes → KeepsFolds n rest (with_sets graph kept sets) (values graph kept)
+folds_kept graph kept sets nodes_are named [] n there long = tt
+folds_kept graph kept sets nodes_are named (Source start ∷ rest) n there long =
+    folds_kept graph kept sets nodes_are named rest (n + 1) (there_rest graph n (Source start) rest there) (omega arith)
+folds_kept graph kept sets nodes_are named (Signal script inputs ∷ rest) n there long =
+    folds_kept graph kept sets nodes_are named rest (n + 1) (there_rest graph n (Signal script inputs) rest there) (omega arith)
+folds_kept graph kept sets nodes_are named (Fold start script inputs ∷ rest) n there long =
+    let here = there_first graph n (Fold start script inputs) rest there in
+    (sets_keep graph kept sets n named (ap is_source here) ∙ sym (kept_at graph kept n (Fold start script inputs) nodes_are (omega arith) here),
+     folds_kept graph kept sets nodes_are named rest (n + 1) (there_rest graph n (Fold start script inputs) rest there) (omega arith))
+folds_kept graph kept sets nodes_are named (Choose selectors body inputs ∷ rest) n there long =
+    folds_kept graph kept sets nodes_are named rest (n + 1) (there_rest graph n (Choose selectors body inputs) rest there) (omega arith)
+
+sources_same : (graph : Graph) (kept : Values) (sets : List (List ℕ × Value)) → AreNodes graph.names 0 graph.nodes → length kept ≡ length graph.nodes → (rest : List Node) (n : ℕ) → There graph n rest → n + length rest ≤ length graph.nodes → SameSources n rest (with_sets graph kept sets) (with_sets graph (values graph kept) sets)
+sources_same graph kept sets nodes_are fits [] n there long = tt
+sources_same graph kept sets nodes_are fits (Source start ∷ rest) n there long =
+    let here = there_first graph n (Source start) rest there in
+    (sets_agree graph kept (values graph kept) sets n (fits ∙ sym (length-values graph kept)) (omega arith) (sym (kept_at graph kept n (Source start) nodes_are (omega arith) here)),
+     sources_same graph kept sets nodes_are fits rest (n + 1) (there_rest graph n (Source start) rest there) (omega arith))
+sources_same graph kept sets nodes_are fits (Signal script inputs ∷ rest) n there long =
+    sources_same graph kept sets nodes_are fits rest (n + 1) (there_rest graph n (Signal script inputs) rest there) (omega arith)
+sources_same graph kept sets nodes_are fits (Fold start script inputs ∷ rest) n there long =
+    sources_same graph kept sets nodes_are fits rest (n + 1) (there_rest graph n (Fold start script inputs) rest there) (omega arith)
+sources_same graph kept sets nodes_are fits (Choose selectors body inputs ∷ rest) n there long =
+    sources_same graph kept sets nodes_are fits rest (n + 1) (there_rest graph n (Choose selectors body inputs) rest there) (omega arith)
+
+-- where no name is at fault, each set names a source
+sets_named : (graph : Graph) (n : ℕ) (sets : List (List ℕ × Value)) (rest : List Bool) → first_wrong n (map (λ (s : List ℕ × Value). names_source graph s.0) sets ++ rest) ≡ None → NameSources graph sets
+sets_named graph n [] rest h = tt
+sets_named graph n (s ∷ sets) rest h = cases (names_source graph s.0) refl (λ k. sets_named graph (n + 1) sets rest k)
+  where
+    cases : (b : Bool) → names_source graph s.0 ≡ b → (first_wrong (n + 1) (map (λ (t : List ℕ × Value). names_source graph t.0) sets ++ rest) ≡ None → NameSources graph sets) → NameSources graph (s ∷ sets)
+    cases true right later = (right, later (sym (ap (λ b. first_wrong n (b ∷ (map (λ (t : List ℕ × Value). names_source graph t.0) sets ++ rest))) right) ∙ h))
+    cases false wrong later =
+        let e : first_wrong n (false ∷ (map (λ (t : List ℕ × Value). names_source graph t.0) sets ++ rest)) ≡ None = sym (ap (λ b. first_wrong n (b ∷ (map (λ (t : List ℕ × Value). names_source graph t.0) sets ++ rest))) wrong) ∙ h in
+        absurd (cc)
+
+-- the values after a well-named call are those of one pass over the values before it
+pub literal : (graph : Graph) → IsGraph graph → (kept : Values) → length kept ≡ length graph.nodes → (call : Call) → misnamed graph call ≡ None → values graph (after graph kept call) ≡ after_call graph (values graph kept) call
+literal graph is_graph kept fits (Fire sets looks) named =
+    let right = sets_named graph 1 sets (map (names_node graph) looks) named in
+    let there = λ (k : ℕ) (h : k < length graph.nodes). ap (node_at graph) (let e : 0 + k ≡ k = omega arith in e) in
+    folds_literal graph (with_sets graph kept sets) (values graph kept) (omega (arith, length-with_sets graph kept sets)) is_graph.nodes
+      (folds_kept graph kept sets is_graph.nodes right graph.nodes 0 there (omega arith))
+    ∙ new_same graph.nodes (values graph kept) (with_sets graph kept sets) (with_sets graph (values graph kept) sets) [] (sources_same graph kept sets is_graph.nodes fits graph.nodes 0 there (omega arith))
+literal graph is_graph kept fits (Read looks) named = refl
+
+length-fold_step : (graph : Graph) (before kept : Values) (n : ℕ) (node : Node) → length (fold_step graph before kept n node) ≡ length kept
+length-fold_step graph before kept n (Source start) = refl
+length-fold_step graph before kept n (Signal script inputs) = refl
+length-fold_step graph before kept n (Choose selectors body inputs) = refl
+length-fold_step graph before kept n (Fold start script inputs) = cases (list_any (differs before (values graph kept)) inputs) (run script inputs (values graph kept) (at before n))
+  where
+    cases : (t : Bool) (r : Value) → length (if t then slice_set kept n r else kept) ≡ length kept
+    cases true r = length-set kept n r
+    cases false r = refl
+
+length-fold_steps : (graph : Graph) (before kept : Values) (n : ℕ) (nodes : List Node) → length (fold_steps graph before kept n nodes) ≡ length kept
+length-fold_steps graph before kept n [] = refl
+length-fold_steps graph before kept n (node ∷ rest) = length-fold_steps graph before (fold_step graph before kept n node) (n + 1) rest ∙ length-fold_step graph before kept n node
+
+-- a call leaves as many values as there were
+pub length-after : (graph : Graph) (kept : Values) (call : Call) → length (after graph kept call) ≡ length kept
+length-after graph kept (Fire sets looks) = length-fold_steps graph (values graph kept) (with_sets graph kept sets) 0 graph.nodes ∙ length-with_sets graph kept sets
+length-after graph kept (Read looks) = refl
+
+-- the values after a call are themselves a state, which has these values
+pub values_again : (graph : Graph) (before : Values) → values graph before ≡ before → (call : Call) → values graph (after_call graph before call) ≡ after_call graph before call
+values_again graph before h (Fire sets looks) = new_values_from before (with_sets graph before sets) graph.nodes []
+values_again graph before h (Read looks) = h
