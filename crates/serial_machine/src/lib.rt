@@ -1,0 +1,2 @@
+//! The plain one-thread machine, which finds every value again at each call, and the run of all scripts on it.
+#![tactic(auto)]
