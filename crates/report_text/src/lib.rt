@@ -2,3 +2,6 @@
 #![tactic(auto)]
 
 mod lines;
+mod report;
+
+pub use report::report;

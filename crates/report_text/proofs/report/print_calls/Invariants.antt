@@ -1,0 +1,8 @@
+use Rattle.std.proofs.Common.{◌≡◌, ◌++◌, drop}
+use Rattle.std.specs.List.{flat_map}
+use Rattle.report_text.specs.Report.{call_line}
+use Rattle.report_text.proofs.report.print_calls.Given as goal
+
+-- what is still to be printed comes behind what was printed
+abbrev pub invariant-loop-entry : goal.invariant-loop-entry
+invariant-loop-entry l = l.out ++ flat_map call_line (drop l.entry-index l.log) ≡ l.initial.out ++ flat_map call_line l.log
