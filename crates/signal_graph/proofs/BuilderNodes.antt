@@ -47,9 +47,10 @@ name_at_place [] name h = absurd (grind (arith, nat_tests))
 name_at_place (other ∷ names) name h =
     let rest = name_at_place names name in
     let same = (bytes_decides other name).0 in
-    elim (bytes_eq other name) as (λ b. bytes_eq other name ≡ b → get_or (other ∷ names) (if b then 0 else place_in names name + 1) [] ≡ name)
-    [ true ↦ λ e. same e
-    | false ↦ λ e. rw add-one (rest (grind (arith, nat_tests))) ] refl
+    elim (bytes_eq other name) as (λ b. bytes_eq other name ≡ b → get_or (other ∷ names) (if b then 0 else place_in names name + 1) [] ≡ name) [
+      | true ↦ λ e. same e
+      | false ↦ λ e. rw add-one (rest (grind (arith, nat_tests)))
+    ] refl
 
 place_below : (names : List (List ℕ)) (name : List ℕ) → is_declared names name ≡ true → place_in names name < length names
 place_below names name h = grind (arith, nat_tests)
@@ -58,7 +59,7 @@ resolves : (names more used : List (List ℕ)) → AreDeclared names used → ma
 resolves names more [] h = refl
 resolves names more (name ∷ used) h =
     let here : get_or (names ++ more) (place_in names name) [] ≡ name =
-        get_or_append_left names more [] (place_in names name) (place_below names name h.0) ∙ name_at_place names name h.0 in
+    get_or_append_left names more [] (place_in names name) (place_below names name h.0) ∙ name_at_place names name h.0 in
     let rest = resolves names more used h.1 in
     rw (here, rest) refl
 
@@ -81,9 +82,10 @@ is_selector names more part h d = record {
 are_selectors : (names more : List (List ℕ)) (parts : List Part) → AllByRecursion IsPart parts → AreDeclared names (names_of_parts parts)
     → AllByRecursion (IsSelector (names ++ more) (length names)) (map (selector_of names) parts)
 are_selectors names more [] h d = tt
-are_selectors names more (part ∷ parts) h d =
-    (is_selector names more part h.0 (all-front _ (part.0.names ++ part.1) (names_of_parts parts) d)
-    , are_selectors names more parts h.1 (all-back _ (part.0.names ++ part.1) (names_of_parts parts) d))
+are_selectors names more (part ∷ parts) h d = (
+  is_selector names more part h.0 (all-front _ (part.0.names ++ part.1) (names_of_parts parts) d),
+  are_selectors names more parts h.1 (all-back _ (part.0.names ++ part.1) (names_of_parts parts) d),
+)
 
 -- the inputs of all selectors are the places of their scripts' names
 all_inputs : (names : List (List ℕ)) (parts : List Part) → inputs_of_all (map (selector_of names) parts) ≡ map (place_in names) (script_names parts)
@@ -132,9 +134,14 @@ is_node names more (Source start) h d = h
 is_node names more (Signal script) h d = (h.0, h.1, resolves names more script.names d, places_below names script.names d)
 is_node names more (Fold start script) h d = (h.0, h.1, resolves names more script.names d, places_below names script.names d)
 is_node names more (Choose parts body) h d =
-    let declared = scripts_declared names parts d in
-    (rw length-map h.some, rw length-map h.few, are_selectors names more parts h.each d, rw length-map h.body, refl
-    , rw (all_inputs names parts, different_alike names [] (script_names parts) tt declared) h.few_names)
+    let declared = scripts_declared names parts d in (
+      rw length-map h.some,
+      rw length-map h.few,
+      are_selectors names more parts h.each d,
+      rw length-map h.body,
+      refl,
+      rw (all_inputs names parts, different_alike names [] (script_names parts) tt declared) h.few_names,
+    )
 
 -- more names leave a node as it is
 still_resolves : (names more : List (List ℕ)) (n : ℕ) → n ≤ length names → (inputs : List ℕ) → AllByRecursion (λ m. m < n) inputs
@@ -214,5 +221,5 @@ is_graph_with graph name kind h declared unrefused =
       few = omega (arith, f.room, length-append nodes (node_of names kind ∷ []));
       different_names = are_different-snoc names name h.different_names f.absent;
       nodes = AreNodes-snoc (names ++ name ∷ []) 0 nodes (node_of names kind) (still_nodes names (name ∷ []) 0 nodes (omega (arith, h.named)) h.nodes)
-        (subst (λ n. IsNode (names ++ name ∷ []) n (node_of names kind)) (h.named ∙ sym (zero-add (length nodes))) (is_node names (name ∷ []) kind declared (declared_where_none_is_not names (names_of kind) f.known)));
+          (subst (λ n. IsNode (names ++ name ∷ []) n (node_of names kind)) (h.named ∙ sym (zero-add (length nodes))) (is_node names (name ∷ []) kind declared (declared_where_none_is_not names (names_of kind) f.known)));
     }

@@ -30,9 +30,9 @@ pub found_after : (m n : BTreeMap (Vec ℕ) ℕ) (key : Vec ℕ) (w : Option ℕ
     → (name : List ℕ) → get_by (λ k. slice_cmp nat_cmp name k.items) n ≡ (if bytes_eq key.items name then w else get_by (λ k. slice_cmp nat_cmp name k.items) m)
 found_after m n key w h name =
     let other : bytes_eq key.items name ≡ false → get_by (λ k. slice_cmp nat_cmp name k.items) n ≡ get_by (λ k. slice_cmp nat_cmp name k.items) m =
-        λ e. other_entries _ _ _ _ h.3 _ (λ x y. (eq_by_cmp_equiv nat_list_cmp_total).congr name x.items y.items) (λ k. apart_in_order key.items name k.items e) in
+    λ e. other_entries _ _ _ _ h.3 _ (λ x y. (eq_by_cmp_equiv nat_list_cmp_total).congr name x.items y.items) (λ k. apart_in_order key.items name k.items e) in
     let here : bytes_eq key.items name ≡ true → get_by (λ k. slice_cmp nat_cmp name k.items) n ≡ w =
-        λ e. subst (λ l. get_by (λ k. slice_cmp nat_cmp l k.items) n ≡ w) ((bytes_decides key.items name).0 e) h.1 in
+    λ e. subst (λ l. get_by (λ k. slice_cmp nat_cmp l k.items) n ≡ w) ((bytes_decides key.items name).0 e) h.1 in
     grind (arith, other, here)
 
 -- a table with one more name, which it has not yet

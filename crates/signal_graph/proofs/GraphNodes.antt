@@ -5,11 +5,12 @@ use Rattle.std.proofs.lemmas.List.{length-map}
 use Rattle.std.proofs.lemmas.List.Elements.{All-from_recursion, recursion_from_All}
 use Rattle.script_tree.specs.declared.value.Value.TheVariants.{Fault as Faulty}
 use Rattle.script_tree.specs.declared.value.Fault.TheVariants.{Kind}
+use Rattle.script_tree.specs.declared.limits.TheConstants.{SELECTORS}
 use Rattle.script_tree.specs.Scripts.{Scripted, HasNoPicks}
 use Rattle.signal_graph.specs.declared.node.Selector.{Selector}
 use Rattle.signal_graph.specs.declared.node.Node.{Node}
 use Rattle.signal_graph.specs.declared.node.Node.TheVariants.{Source, Signal, Fold, Choose}
-use Rattle.signal_graph.specs.Graph.{IsNode, AreNodes, IsSelector, Resolves, BodyFits, is_in, inputs_of, inputs_of_all, different_from, different}
+use Rattle.signal_graph.specs.Graph.{IsNode, AreNodes, IsSelector, Resolves, BodyFits, is_in, inputs_of, selectors_of, inputs_of_all, different_from, different}
 use Rattle.signal_graph.specs.Evaluation.{CanRun, CanSelect, CanEvaluate}
 use Rattle.signal_graph.specs.Kept.{NamesEarlier}
 
@@ -71,3 +72,10 @@ names_earlier names nodes h = λ n below.
 
 pub all_can_evaluate : (names : List (List ℕ)) (nodes : List Node) → AreNodes names 0 nodes → All CanEvaluate nodes
 all_can_evaluate names nodes h = λ n d below. can_evaluate names (0 + n) _ (node_is names 0 nodes n d h below)
+
+-- a node of a graph has few selectors
+pub few_selectors : (names : List (List ℕ)) (n : ℕ) (node : Node) → IsNode names n node → length (selectors_of node) ≤ SELECTORS
+few_selectors names n (Source start) h = omega arith
+few_selectors names n (Signal script inputs) h = omega arith
+few_selectors names n (Fold start script inputs) h = omega arith
+few_selectors names n (Choose selectors body inputs) h = h.1

@@ -2,6 +2,7 @@
 use Rattle.std.proofs.Common.{◌≡◌, ℕ, ◌+◌, List, [], ◌∷◌, ◌++◌, length, refl, sym, ap, ◌∙◌, arith, add-zero, length-append, add-one, ◌<◌, take, map, get_or, length-take}
 use Rattle.std.proofs.lemmas.List.{length-map, get_or-map}
 use Rattle.std.proofs.Math.Seq.{take-suc}
+use Rattle.script_tree.specs.declared.value.Value.{Value}
 use Rattle.script_tree.specs.declared.value.Value.TheVariants.{Fault as Faulty}
 use Rattle.script_tree.specs.declared.value.Fault.TheVariants.{NoChoice}
 use Rattle.signal_graph.specs.declared.node.Node.{Node}
@@ -33,3 +34,12 @@ values_from-step nodes i d below =
     let counts : 0 + length (take i nodes) ≡ i = grind (arith, length-take) in
     let kept : at (map start_value nodes) i ≡ start_value (get_or nodes i d) = get_or-map start_value nodes i d (Faulty NoChoice) below in
     rw (add-one, take-suc nodes i d below) (values_from-snoc [] (take i nodes) (get_or nodes i d) (map start_value nodes) ∙ rw (counts, kept) refl)
+
+-- the values so far, with the value of the node at an index
+pub starts_step : (nodes : List Node) (i : ℕ) (node : Node) (starts seen more : Values) (kept value : Value) → i < length nodes
+    → starts ≡ values_from [] (take i nodes) (map start_value nodes) → node ≡ get_or nodes i node → kept ≡ start_value node → seen ≡ starts
+    → value ≡ node_value node kept seen → more ≡ starts ++ value ∷ []
+    → more ≡ values_from [] (take (i + 1) nodes) (map start_value nodes)
+starts_step nodes i node starts seen more kept value below are at_i keeps sees is grown =
+    let step = values_from-step nodes i node below in
+    grown ∙ rw (is, keeps, sees, are) (sym (rw (← at_i) at step))

@@ -95,8 +95,8 @@ unknown_input (Some name) = Some (UnknownInput name)
 abbrev pub refusal : Graph → List ℕ → DeclKind → Option GraphFault
 refusal graph name kind =
     if nat_lt (length graph.nodes) NODES then
-      (if is_declared graph.names name then Some DoubleName
-      else unknown_input (find (is_undeclared graph.names) (names_of kind)))
+    (if is_declared graph.names name then Some DoubleName
+    else unknown_input (find (is_undeclared graph.names) (names_of kind)))
     else Some TooManyNodes
 
 -- the graph with one more node at its end

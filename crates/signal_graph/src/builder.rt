@@ -103,7 +103,7 @@ impl GraphBuilder {
         if number >= NODES {
             return Err(GraphFault::TooManyNodes);
         }
-        if self.names.find(&name).is_some() {
+        if self.names.contains(&name) {
             return Err(GraphFault::DoubleName);
         }
         if let Some(unknown) = first_undeclared(&self.names, &kind) {

@@ -117,11 +117,7 @@ fn pick_values(
     Ok(picked)
 }
 
-fn first_pick(
-    alloc: Global,
-    selectors: &[Selector],
-    values: &[Value],
-) -> Result<Value, OutOfMemory>
+fn first_pick(alloc: Global, selectors: &[Selector], values: &[Value]) -> Result<Value, OutOfMemory>
     requires { AllByRecursion CanSelect selectors.now }
     ensures { IfOk result (λ value. value ≡ first_pick values.now selectors.now) }
 {
@@ -182,12 +178,7 @@ impl Node {
 
     /// The node's value, from what is kept for a source or a fold and a table of the values of the nodes before it.
     /// Takes memory.
-    pub fn value(
-        &self,
-        alloc: Global,
-        kept: Value,
-        earlier: &[Value],
-    ) -> Result<Value, OutOfMemory>
+    pub fn value(&self, alloc: Global, kept: Value, earlier: &[Value]) -> Result<Value, OutOfMemory>
         requires { CanEvaluate self.now }
         ensures { IfOk result (λ value. value ≡ node_value self.now kept earlier.now) }
     {

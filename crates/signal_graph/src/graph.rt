@@ -2,7 +2,7 @@
 
 ghost use Rattle.std.specs.Prelude.{◌≡◌, ℕ, ◌<◌, ◌≤◌, if◌then◌else◌, length, slice_get, option_copied, Some, None, IsSome, IfSome, IfNone, IfOk};
 ghost use Rattle.signal_graph.specs.Graph as definition;
-ghost use Rattle.signal_graph.specs.Graph.{IsGraph, node_at, name_at, number_of, kind_of, script_of, inputs_of, body_of, selectors_of, static_outs};
+ghost use Rattle.signal_graph.specs.Graph.{IsGraph, IsNode, node_at, name_at, number_of, kind_of, script_of, inputs_of, body_of, selectors_of, static_outs};
 ghost use Rattle.signal_graph.specs.Values.{val, start, picks};
 ghost use Rattle.signal_graph.specs.Machine.{names_node};
 
@@ -77,10 +77,11 @@ impl Graph {
         self.nodes.len() as u32
     }
 
-    /// The node with a number.
+    /// The node with a number, and what it keeps: it names earlier nodes alone.
     pub fn node(&self, node: u32) -> &Node
         requires { node < length self.now.nodes }
-        ensures { result.now ≡ node_at self.now node }
+        ensures value { result.now ≡ node_at self.now node }
+        ensures kept { IsNode self.now.names node result.now }
     {
         &self.nodes[node as usize]
     }

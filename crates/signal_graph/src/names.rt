@@ -24,7 +24,7 @@ pub struct NameTable {
 impl Model for NameTable {
     ghost use Rattle.std.specs.Prelude.{List, ℕ};
     ghost use Rattle.signal_graph.specs.Graph.{place_in};
-ghost use Rattle.signal_graph.specs.Tables.{IsTable};
+    ghost use Rattle.signal_graph.specs.Tables.{IsTable};
 
     ghost Value = { List (List ℕ) };
 
@@ -66,6 +66,13 @@ impl NameTable {
         ensures { result ≡ (if is_declared self.now name.now then Some (place_in self.now name.now) else None) }
     {
         self.numbers.get(name.as_slice()).copied()
+    }
+
+    /// Whether a name is there. Takes no memory.
+    pub fn contains(&self, name: &Name) -> bool
+        ensures { result ≡ is_declared self.now name.now }
+    {
+        self.find(name).is_some()
     }
 
     /// The number of a name, or how many names there are where it is not there. Takes no memory.

@@ -17,7 +17,7 @@ fn first_undeclared_of(table: &NameTable, names: &NameList) -> Option<Name>
     ensures { result ≡ find (is_undeclared table.now) names.now }
 {
     for name in names.as_slice() {
-        if table.find(name).is_none() {
+        if !table.contains(name) {
             return Some(name.copy());
         }
     }
@@ -27,8 +27,9 @@ fn first_undeclared_of(table: &NameTable, names: &NameList) -> Option<Name>
 fn first_undeclared_of_part(table: &NameTable, part: &(Script, NameList)) -> Option<Name>
     ensures { result ≡ find (is_undeclared table.now) (names_of_part part.now) }
 {
-    if let Some(name) = first_undeclared_of(table, part.0.inputs()) {
-        return Some(name);
+    let unknown = first_undeclared_of(table, part.0.inputs());
+    if unknown.is_some() {
+        return unknown;
     }
     first_undeclared_of(table, &part.1)
 }
@@ -37,8 +38,9 @@ fn first_undeclared_of_parts(table: &NameTable, parts: &SelectList) -> Option<Na
     ensures { result ≡ find (is_undeclared table.now) (names_of_parts parts.now) }
 {
     for part in parts.as_slice() {
-        if let Some(name) = first_undeclared_of_part(table, part) {
-            return Some(name);
+        let unknown = first_undeclared_of_part(table, part);
+        if unknown.is_some() {
+            return unknown;
         }
     }
     None
@@ -127,11 +129,7 @@ fn add_new(found: &mut Items<u32>, input: u32) -> Result<(), OutOfMemory>
 }
 
 /// The node that a declaration is, with the numbers of the names that it uses. Takes memory.
-pub(crate) fn resolve(
-    alloc: Global,
-    table: &NameTable,
-    kind: DeclKind,
-) -> Result<Node, OutOfMemory>
+pub(crate) fn resolve(alloc: Global, table: &NameTable, kind: DeclKind) -> Result<Node, OutOfMemory>
     ensures { IfOk result (λ node. node ≡ node_of table.now kind) }
 {
     match kind {
