@@ -16,6 +16,7 @@ use Rattle.signal_graph.specs.declared.call.Reply.TheVariants.{Fire as Fired, Re
 use Rattle.signal_graph.specs.Graph.{Graph, node_at, number_of, numbers, numbers_from, is_in, is_source, inputs_of}
 use Rattle.signal_graph.specs.Values.{Values, at, values, deps, picks_of, nodes_in}
 use Rattle.signal_graph.specs.Machine.{differs, same, after, reply, changed, evaluated, looked}
+use Rattle.signal_graph.specs.OnePass.{after_call}
 use Rattle.serial_machine.specs.Between.{is_evaluated, count_changed, count_evaluated, looked_in, reply_between}
 
 -- a test of each member that gives the same gives the same of all
@@ -105,3 +106,11 @@ reply_is graph kept now (Fire sets looks) b n e =
     ap (λ k. Fired (count_changed graph (values graph kept) (values graph next)) k (looked graph next looks)) (evaluated_is graph kept next b (ap length e ∙ n))
     ∙ ap (λ w. Fired (count_changed graph (values graph kept) w) (count_evaluated graph (values graph kept) w) (looked_in graph w looks)) e
 reply_is graph kept now (Read looks) b n e = ap (λ w. Seen (looked_in graph w looks)) e
+
+-- the same from all values before the call, where the values after it follow from these
+pub step_is : (graph : Graph) (all kept : Values) (call : Call) → length all ≡ length graph.nodes → values graph kept ≡ all → values graph (after graph kept call) ≡ after_call graph (values graph kept) call → length (values graph (after graph kept call)) ≡ length graph.nodes → reply graph kept call ≡ reply_between graph all (after_call graph all call) call
+step_is graph all kept call size gives pass long =
+    let now = after_call graph all call in
+    let e : values graph (after graph kept call) ≡ now = pass ∙ ap (λ vs. after_call graph vs call) gives in
+    reply_is graph kept now call (ap length gives ∙ size) (sym (ap length e) ∙ long) e
+    ∙ ap (λ vs. reply_between graph vs now call) gives

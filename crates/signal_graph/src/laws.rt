@@ -7,6 +7,7 @@ ghost use Rattle.signal_graph.specs.declared.node.NodeKind.TheVariants as kind;
 ghost use Rattle.signal_graph.specs.Graph.{Graph, IsGraph, node_at, kind_of};
 ghost use Rattle.signal_graph.specs.Values.{Values, at, values, val, node_value, deps};
 ghost use Rattle.signal_graph.specs.Machine.{with_sets, misnamed, after};
+ghost use Rattle.signal_graph.specs.Evaluation.{CanEvaluate};
 ghost use Rattle.signal_graph.specs.OnePass.{new_from, after_call};
 
 /// The equations of the values: of a source and a fold it is what the state keeps, and each other node's follows from
@@ -34,5 +35,11 @@ pub fn literal()
 /// What one pass gives is a state, and its values are what it keeps.
 pub fn new_values_from()
     ensures { (graph : Graph) (before : Values) → values graph before ≡ before → (call : Call) → values graph (after_call graph before call) ≡ after_call graph before call }
+{
+}
+
+/// The value of each node of a graph can be found: its scripts run over what they name, and its body over its picks.
+pub fn can_evaluate()
+    ensures { (graph : Graph) → IsGraph graph → (n : ℕ) → n < length graph.nodes → CanEvaluate (node_at graph n) }
 {
 }
