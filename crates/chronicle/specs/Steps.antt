@@ -20,14 +20,15 @@ module _ {E : Type 0} where
   appended more (Noted key list) = Noted key list
   appended more Spent = Spent
 
+  -- what an append says of the writer's seat before and after
   abbrev pub Appends : List (Entry E) → Step (Unit {0}) → Me (Unit {0}) (View E) → ℕ → Me (Unit {0}) (View E) → Type 0
   Appends more step before number after = (after.0 ≡ appended more before.0) × (after.1 ≡ before.1)
 
-  -- Split: a new seat has the key and a copy of the writer's list
+  -- Split, for the new seat: it has the key and a copy of the writer's list
   abbrev pub note_made : ℕ → View E → View E
   note_made k v = Noted k (list_of v)
 
-  -- and a key above 0 is out for the writer
+  -- Split, for the writer: a key above 0 is out
   abbrev pub note_out : ℕ → View E → View E
   note_out k (Writing list out seen) = Writing list (out_with k out) seen
   note_out k (Noted key list) = Noted key list
@@ -39,12 +40,13 @@ module _ {E : Type 0} where
   note_back (Noted key list) note = Noted key list
   note_back Spent note = Spent
 
-  -- Load: nothing changes. It tells of each note seen that it is a prefix of the writer's list with all entries of its key
+  -- Load: nothing changes. It tells of each note seen that it is a prefix of the writer's list with all entries of its key, and that a key above 0 was out
   abbrev pub SeenAreTrue : View E → Type 0
   SeenAreTrue (Writing list out seen) = AllByRecursion (WasNoteOf list) seen
   SeenAreTrue (Noted key list) = Unit {0}
   SeenAreTrue Spent = Unit {0}
 
+  -- what a load says of the writer's seat before and after
   abbrev pub Loads : Step (Unit {0}) → Me (Unit {0}) (View E) → ℕ → Me (Unit {0}) (View E) → Type 0
   Loads step before number after = (after.0 ≡ before.0) × (after.1 ≡ before.1) × SeenAreTrue before.0
   -- Retire: the join and the load of a note that no split follows, so that its key stays in

@@ -12,3 +12,6 @@ mod writer;
 pub use entry::{Entry, Names};
 pub use note::Note;
 pub use writer::Writer;
+
+#[cfg(test)]
+mod tests;

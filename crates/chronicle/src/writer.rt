@@ -42,7 +42,7 @@ impl<E> Writer<E> {
     pub fn new(alloc: Global) -> Result<Writer<E>, AllocError>
         ensures { IfOk result (λ w. (w.list ≡ []) × (w.out ≡ [])) }
     {
-        // Make: the word is 0.
+        // Make: the word is 0, and the first seat is the writer's.
         let (table, seat) = Table::of_words(alloc, &[0], &())?;
         Ok(Writer {
             table,
@@ -82,6 +82,7 @@ impl<E> Writer<E> {
         ensures out { self.new.out ≡ self.old.out }
         ensures table { self.new.table ≡ self.old.table }
     {
+        // Append: the word is one more.
         let len = self.len + 1;
         let table = &self.table;
         table.shared.store::<AppendStep<B>>(&mut self.seat, 0, len);
@@ -117,6 +118,7 @@ impl<E> Writer<E> {
         ensures note { result ≡ record { table = self.old.table; key = B.key; list = self.old.list } }
         ensures after { self.new ≡ record self.old { out = out_with B.key self.old.out } }
     {
+        // Split: a new seat knows the list as it is now.
         let table = &self.table;
         let seat = table.shared.split_seat::<SplitStep<B>>(&mut self.seat);
         Note {
