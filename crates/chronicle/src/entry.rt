@@ -10,19 +10,14 @@ pub struct Entry<E> {
     pub second_key: u64,
 }
 
-/// Names an entry to [`Writer::append`](crate::Writer::append): the value that is passed there
-/// takes no room, and says in contracts alone what happened and under which keys.
+/// Names an entry to [`Writer::append`](crate::Writer::append). A value of it takes no room, and tells
+/// contracts alone which entry it names.
 ///
 /// An event that lies on the heap is named by a `Snapshot` of it, so that naming it takes no memory.
 pub trait Names<E>: Drop {
-    ghost use Rattle.std.specs.Prelude.{ℕ};
+    ghost use Rattle.chronicle.specs.declared.entry.Entry.{Entry};
 
-    /// What happened.
-    ghost event: { Self → E };
-
-    /// The key of the caller who did it, or 0.
-    ghost first_key: { Self → ℕ };
-
-    /// A second key, as that of the node at which it happened, or 0.
-    ghost second_key: { Self → ℕ };
+    /// What happened, and its keys: first the one of the caller who did it, then a second one, as that of
+    /// the node at which it happened. A key that is missing is 0.
+    ghost entry_of: { Self → Entry E };
 }

@@ -15,11 +15,7 @@ struct Sent {
 }
 
 impl Names<u64> for Sent {
-    ghost event = { λ s. s.number.value };
-
-    ghost first_key = { λ s. s.caller.value };
-
-    ghost second_key = { λ s. s.node.value };
+    ghost entry_of = { λ s. record { event = s.number.value; first_key = s.caller.value; second_key = s.node.value } };
 }
 
 fn name_sent(number: u64, caller: u64, node: u64) -> Sent
@@ -134,11 +130,7 @@ struct Begins {
 }
 
 impl Names<Call> for Begins {
-    ghost event = { λ b. b.call.value };
-
-    ghost first_key = { λ b. b.caller.value };
-
-    ghost second_key = { λ _. 0 };
+    ghost entry_of = { λ b. record { event = b.call.value; first_key = b.caller.value; second_key = 0 } };
 }
 
 fn name_call(caller: u64, call: &Call) -> Begins

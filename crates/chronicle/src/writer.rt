@@ -63,9 +63,9 @@ impl<E> Writer<E> {
     /// No key of the entry may be out: whoever has a note of it would miss the entry.
     pub fn append<N: Names<E>>(&mut self, entry: N)
         requires room { length self.old.list < 2 ^ 63 }
-        requires first_key { is_out (N.first_key entry) self.old.out ≡ false }
-        requires second_key { is_out (N.second_key entry) self.old.out ≡ false }
-        ensures list { self.new.list ≡ self.old.list ++ record { event = N.event entry; first_key = N.first_key entry; second_key = N.second_key entry } ∷ [] }
+        requires first_key { is_out (N.entry_of entry).first_key self.old.out ≡ false }
+        requires second_key { is_out (N.entry_of entry).second_key self.old.out ≡ false }
+        ensures list { self.new.list ≡ self.old.list ++ N.entry_of entry ∷ [] }
         ensures out { self.new.out ≡ self.old.out }
         ensures table { self.new.table ≡ self.old.table }
     {
@@ -75,10 +75,10 @@ impl<E> Writer<E> {
     // The same, where B has the entry.
     fn append_as<B: Appended<E>, N: Names<E>>(&mut self, entry: N)
         requires room { length self.old.list < 2 ^ 63 }
-        requires picked { B.entries ≡ record { event = N.event entry; first_key = N.first_key entry; second_key = N.second_key entry } ∷ [] }
-        requires first_key { is_out (N.first_key entry) self.old.out ≡ false }
-        requires second_key { is_out (N.second_key entry) self.old.out ≡ false }
-        ensures list { self.new.list ≡ self.old.list ++ record { event = N.event entry; first_key = N.first_key entry; second_key = N.second_key entry } ∷ [] }
+        requires picked { B.entries ≡ N.entry_of entry ∷ [] }
+        requires first_key { is_out (N.entry_of entry).first_key self.old.out ≡ false }
+        requires second_key { is_out (N.entry_of entry).second_key self.old.out ≡ false }
+        ensures list { self.new.list ≡ self.old.list ++ N.entry_of entry ∷ [] }
         ensures out { self.new.out ≡ self.old.out }
         ensures table { self.new.table ≡ self.old.table }
     {
@@ -137,9 +137,11 @@ impl<E> Writer<E> {
         ensures was_out { 0 < note.key → is_out note.key self.old.out ≡ true }
         ensures after { self.new ≡ record self.old { out = out_without note.key self.old.out } }
     {
+        // Retire: a join, after which no split gives the key out again.
         let Note { seat, len: _ } = note;
         let table = &self.table;
         table.shared.join_seat::<JoinStep>(&mut self.seat, seat);
+        // Load: the rule holds while the word is read, and it speaks of the note that came back.
         table.shared.load::<LoadStep>(&mut self.seat, 0);
     }
 
