@@ -35,10 +35,18 @@ module _ {E : Type 0} where
   entries_of-without k [] none = refl
   entries_of-without k (x ∷ xs) none = rw none.0 (entries_of-without k xs none.1)
 
+  pub entries_of-append : (k : ℕ) (xs ys : List (Entry E)) → entries_of k (xs ++ ys) ≡ entries_of k xs ++ entries_of k ys
+  entries_of-append k xs ys = filter-append (has_key k) xs ys
+
   -- what holds of each entry of the longer list holds of each behind the prefix
   pub all_behind : (P : Entry E → Type 0) (xs ys : List (Entry E)) → AllByRecursion P (xs ++ ys) → AllByRecursion P ys
   all_behind P [] ys all = all
   all_behind P (x ∷ xs) ys all = all_behind P xs ys all.1
+
+  -- and of each within it
+  pub all_within : (P : Entry E → Type 0) (xs ys : List (Entry E)) → AllByRecursion P (xs ++ ys) → AllByRecursion P xs
+  all_within P [] ys all = tt
+  all_within P (x ∷ xs) ys all = (all.0, all_within P xs ys all.1)
 
   pub all_push : (P : Entry E → Type 0) (xs : List (Entry E)) (e : Entry E) → AllByRecursion P xs → P e → AllByRecursion P (xs ++ e ∷ [])
   all_push P [] e all one = (one, tt)
@@ -68,7 +76,7 @@ module _ {E : Type 0} where
   -- the entries of the note's key are the same in both lists
   pub entries_of-with_all : (k : ℕ) (xs ys : List (Entry E)) → IsPrefixWithAll k xs ys → entries_of k ys ≡ entries_of k xs
   entries_of-with_all k xs ys p =
-      ap (entries_of k) (sym p.joined) ∙ filter-append (has_key k) xs p.rest ∙ ap (λ l. entries_of k xs ++ l) (entries_of-without k p.rest p.none_left) ∙ append-nil (entries_of k xs)
+      ap (entries_of k) (sym p.joined) ∙ entries_of-append k xs p.rest ∙ ap (λ l. entries_of k xs ++ l) (entries_of-without k p.rest p.none_left) ∙ append-nil (entries_of k xs)
 
   -- what happened in the longer list is what happened in the shorter one, and then the rest
   pub events-with_all : (k : ℕ) (xs ys : List (Entry E)) (p : IsPrefixWithAll k xs ys) → events xs ++ events p.rest ≡ events ys

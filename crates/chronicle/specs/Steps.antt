@@ -1,4 +1,4 @@
--- The six kinds of atomic step: make, append, split, join, load and retire. Each is a step of the writer's seat.
+-- The six kinds of atomic step: make, append, split, join, load and retire. Each is a step of the writer's seat; split has a new seat besides, and join and retire a note's. Retire is a join that no split of the same key follows.
 use Rattle.std.specs.Prelude.{◌≡◌, ℕ, List, [], ◌∷◌, ◌++◌}
 use Rattle.std.specs.List.{AllByRecursion}
 use Rattle.atomic_table.specs.Table.{Me, Step}
@@ -34,7 +34,7 @@ module _ {E : Type 0} where
   note_out k (Noted key list) = Noted key list
   note_out k Spent = Spent
 
-  -- Join: the writer has the note among those seen, and its key is out no more. The note's seat is spent
+  -- Join and retire: the writer has the note among those seen, and its key is out no more. The note's seat is spent
   abbrev pub note_back : View E → View E → View E
   note_back (Writing list out seen) note = Writing list (out_without (key_of note) out) (record { key = key_of note; list = list_of note; out = out } ∷ seen)
   note_back (Noted key list) note = Noted key list
@@ -49,4 +49,3 @@ module _ {E : Type 0} where
   -- what a load says of the writer's seat before and after
   abbrev pub Loads : Step (Unit {0}) → Me (Unit {0}) (View E) → ℕ → Me (Unit {0}) (View E) → Type 0
   Loads step before number after = (after.0 ≡ before.0) × (after.1 ≡ before.1) × SeenAreTrue before.0
-  -- Retire: the join and the load of a note that no split follows, so that its key stays in

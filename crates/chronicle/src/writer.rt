@@ -8,7 +8,8 @@ use crate::note::Note;
 use crate::steps::{AppendStep, Appended, JoinStep, Keyed, LoadStep, SplitStep};
 use crate::view::{HistorySeat, HistoryTable};
 use atomic_table::Table;
-use std::alloc::{AllocError, Global};
+use script_tree::memory::OutOfMemory;
+use std::alloc::Global;
 use std::marker::{Brand, Model};
 
 /// The one writer of a history that only grows.
@@ -39,7 +40,7 @@ impl<E> Writer<E> {
     /// The writer of a new history, which is empty. No key is out.
     ///
     /// This call alone takes memory: one word. An error says that there was none, and nothing is left behind.
-    pub fn new(alloc: Global) -> Result<Writer<E>, AllocError>
+    pub fn new(alloc: Global) -> Result<Writer<E>, OutOfMemory>
         ensures { IfOk result (λ w. (w.list ≡ []) × (w.out ≡ [])) }
     {
         // Make: the word is 0, and the first seat is the writer's.
