@@ -1,0 +1,4 @@
+pub mod EntryLaws
+pub mod KeyLaws
+pub mod Moves
+pub mod PrefixLaws
