@@ -1,21 +1,21 @@
 -- A graph with one more declaration keeps what graphs keep.
-use Rattle.std.proofs.Common.{◌≡◌, ℕ, ◌+◌, ◌<◌, ◌≤◌, ◌==◌, ◌&&◌, not, nat_lt, if◌then◌else◌, Bool, true, false, IsTrue, List, [], ◌∷◌, ◌++◌, length, map, find, get_or, Option, Some, None, refl, sym, ap, subst, ◌∙◌, arith, add-zero, zero-add, add-one, length-append}
-use Rattle.std.specs.List.{All, AllByRecursion, list_any}
+use Rattle.std.proofs.Common.{◌≡◌, ℕ, ◌+◌, ◌<◌, ◌≤◌, ◌==◌, nat_lt, if◌then◌else◌, Bool, true, false, List, [], ◌∷◌, ◌++◌, length, map, find, get_or, Option, Some, None, refl, sym, ap, subst, ◌∙◌, arith, add-zero, zero-add, add-one, length-append}
+use Rattle.std.specs.List.{AllByRecursion, list_any}
 use Rattle.std.specs.Str.{bytes_eq}
 use Rattle.std.specs.Cmp.Lexicographic.{bytes_decides}
 use Rattle.std.proofs.lemmas.List.{get_or_append_left, length-map, map-append}
 use Rattle.std.proofs.lemmas.List.Folds.{list_any-append}
 use Rattle.std.proofs.lemmas.Bool.Decides.{eqb_tells, nat_tests}
-use Rattle.script_tree.specs.declared.limits.TheConstants.{NODES, INPUTS, CANDIDATES, SELECTORS}
-use Rattle.script_tree.specs.Scripts.{Scripted}
+use Rattle.script_tree.specs.declared.limits.TheConstants.{NODES}
 use Rattle.signal_graph.specs.declared.node.Selector.{Selector}
 use Rattle.signal_graph.specs.declared.node.Node.{Node}
 use Rattle.signal_graph.specs.declared.node.Node.TheVariants as node
 use Rattle.signal_graph.specs.declared.builder.DeclKind.{DeclKind}
 use Rattle.signal_graph.specs.declared.builder.DeclKind.TheVariants.{Source, Signal, Fold, Choose}
-use Rattle.signal_graph.specs.Graph.{Graph, IsGraph, IsNode, AreNodes, IsSelector, Resolves, BodyFits, are_different, place_in, is_in, different, different_from, inputs_of_all}
+use Rattle.signal_graph.specs.Graph.{Graph, IsGraph, IsNode, AreNodes, IsSelector, are_different, place_in, is_in, different_from, inputs_of_all}
+use Rattle.signal_graph.proofs.GraphNames.{name_at_place}
 use Rattle.signal_graph.specs.Tables.{is_declared}
-use Rattle.signal_graph.specs.Declarations.{Part, IsPart, AreParts, IsDeclaration, names_of, names_of_parts, script_names, different_names_from, different_names, selector_of, node_of, is_undeclared, unknown_input, refusal, with_declaration}
+use Rattle.signal_graph.specs.Declarations.{Part, IsPart, IsDeclaration, names_of, names_of_parts, script_names, different_names_from, selector_of, node_of, is_undeclared, unknown_input, refusal, with_declaration}
 use Rattle.signal_graph.specs.declared.builder.GraphFault.TheVariants.{DoubleName, TooManyNodes}
 
 abbrev AreDeclared : List (List ℕ) → List (List ℕ) → Type 0
@@ -40,17 +40,6 @@ all-back P (x ∷ xs) ys h = all-back P xs ys h.1
 all-join : (P : List ℕ → Type 0) (xs ys : List (List ℕ)) → AllByRecursion P xs → AllByRecursion P ys → AllByRecursion P (xs ++ ys)
 all-join P [] ys a b = b
 all-join P (x ∷ xs) ys a b = (a.0, all-join P xs ys a.1 b)
-
--- a declared name stands at its place
-name_at_place : (names : List (List ℕ)) (name : List ℕ) → is_declared names name ≡ true → get_or names (place_in names name) [] ≡ name
-name_at_place [] name h = absurd (grind (arith, nat_tests))
-name_at_place (other ∷ names) name h =
-    let rest = name_at_place names name in
-    let same = (bytes_decides other name).0 in
-    elim (bytes_eq other name) as (λ b. bytes_eq other name ≡ b → get_or (other ∷ names) (if b then 0 else place_in names name + 1) [] ≡ name) [
-      | true ↦ λ e. same e
-      | false ↦ λ e. rw add-one (rest (grind (arith, nat_tests)))
-    ] refl
 
 place_below : (names : List (List ℕ)) (name : List ℕ) → is_declared names name ≡ true → place_in names name < length names
 place_below names name h = grind (arith, nat_tests)

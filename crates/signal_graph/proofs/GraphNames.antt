@@ -1,14 +1,13 @@
 -- The index of a table of names, with one more name.
-use Rattle.std.proofs.Common.{◌≡◌, ℕ, ◌+◌, if◌then◌else◌, Bool, true, false, List, [], ◌∷◌, ◌++◌, length, Option, Some, None, refl, sym, ap, subst, ◌∙◌, arith, ◌<◌, ◌≤◌, nat_lt, length-append, unwrap_or, zero-add}
-use Rattle.std.specs.Ordering.{nat_cmp, is_eq, eq_by_cmp}
+use Rattle.std.proofs.Common.{zero, suc, get_or, add-one, IfSome, IfNone, ◌≡◌, ℕ, ◌+◌, if◌then◌else◌, Bool, true, false, List, [], ◌∷◌, ◌++◌, length, Option, Some, None, refl, sym, ap, subst, ◌∙◌, arith, ◌<◌, ◌≤◌, nat_lt, length-append, unwrap_or, zero-add}
+use Rattle.std.specs.Ordering.{nat_cmp, is_eq}
 use Rattle.std.specs.Cmp.{eq_by_cmp_equiv}
 use Rattle.std.specs.Cmp.Lexicographic.{slice_cmp, nat_list_cmp_total, nat_list_eq_equiv, bytes_decides}
 use Rattle.std.specs.Str.{bytes_eq}
-use Rattle.std.specs.BTreeMap.{BTreeMap, get_by, UpdatesBy, is_at}
+use Rattle.std.specs.BTreeMap.{BTreeMap, get_by, UpdatesBy}
 use Rattle.std.specs.Map.{lookup, IsKeyTest, AreApart, KeepsOthers}
 use Rattle.std.specs.Global.{Vec}
 use Rattle.std.proofs.lemmas.Map.Text.{is_eq-slice_cmp}
-use Rattle.std.proofs.lemmas.Grind.{common_steps}
 use Rattle.script_tree.specs.declared.limits.TheConstants.{NODES}
 use Rattle.std.proofs.lemmas.Bool.Decides.{nat_tests}
 use Rattle.signal_graph.specs.Graph.{place_in}
@@ -78,3 +77,40 @@ IsTable-snoc names more new m n key count table grown same counted room absent u
       let grows = found_from-snoc 0 names new name nowhere in
       rw grown (grind (arith, after, before, grows));
 }
+
+-- a declared name stands at its place
+pub name_at_place : (names : List (List ℕ)) (name : List ℕ) → is_declared names name ≡ true → get_or names (place_in names name) [] ≡ name
+name_at_place [] name h = absurd (grind (arith, nat_tests))
+name_at_place (other ∷ names) name h =
+    let rest = name_at_place names name in
+    let same = (bytes_decides other name).0 in
+    elim (bytes_eq other name) as (λ b. bytes_eq other name ≡ b → get_or (other ∷ names) (if b then 0 else place_in names name + 1) [] ≡ name) [
+      | true ↦ λ e. same e
+      | false ↦ λ e. rw add-one (rest (grind (arith, nat_tests)))
+    ] refl
+
+-- no name of a table is one that is not declared
+pub no_name_at : (names : List (List ℕ)) (name : List ℕ) → is_declared names name ≡ false → (m : ℕ) → m < length names → get_or names m [] ≡ name → ⊥
+no_name_at [] name absent m below same = omega arith
+no_name_at (other ∷ names) name absent zero below same =
+    let here = (bytes_decides other name).1 same in grind (arith, nat_tests, here)
+no_name_at (other ∷ names) name absent (suc m) below same =
+    let rest : is_declared names name ≡ false = grind (arith, nat_tests) in
+    no_name_at names name rest m (omega arith) same
+
+-- what an answer of a look-up says of the names by their numbers
+pub found_has_name : (names : List (List ℕ)) (name : List ℕ) (r : Option ℕ) → r ≡ (if is_declared names name then Some (place_in names name) else None)
+    → IfSome r (λ n. get_or names n [] ≡ name)
+found_has_name names name r is =
+    elim (is_declared names name) as (λ b. is_declared names name ≡ b → r ≡ (if b then Some (place_in names name) else None) → IfSome r (λ n. get_or names n [] ≡ name)) [
+      | true ↦ λ declared found. rw found (name_at_place names name declared)
+      | false ↦ λ declared found. rw found tt
+    ] refl is
+
+pub none_has_name : (names : List (List ℕ)) (name : List ℕ) (r : Option ℕ) → r ≡ (if is_declared names name then Some (place_in names name) else None)
+    → IfNone r ((m : ℕ) → m < length names → get_or names m [] ≡ name → ⊥)
+none_has_name names name r is =
+    elim (is_declared names name) as (λ b. is_declared names name ≡ b → r ≡ (if b then Some (place_in names name) else None) → IfNone r ((m : ℕ) → m < length names → get_or names m [] ≡ name → ⊥)) [
+      | true ↦ λ declared found. rw found tt
+      | false ↦ λ declared found. rw found (no_name_at names name declared)
+    ] refl is

@@ -1,8 +1,8 @@
 -- What a graph keeps, node by node.
-use Rattle.std.proofs.Common.{◌≡◌, ℕ, zero, suc, ◌+◌, ◌<◌, ◌≤◌, if◌then◌else◌, true, false, List, [], ◌∷◌, ◌++◌, length, map, get_or, Option, Some, None, refl, sym, ap, subst, ◌∙◌, arith, add-zero, zero-add}
+use Rattle.std.proofs.Common.{◌≡◌, ℕ, zero, suc, ◌+◌, ◌<◌, ◌≤◌, if◌then◌else◌, true, false, List, [], ◌∷◌, ◌++◌, length, get_or, sym, ap, subst, ◌∙◌, arith, add-zero, zero-add}
 use Rattle.std.specs.List.{All, AllByRecursion}
 use Rattle.std.proofs.lemmas.List.{length-map}
-use Rattle.std.proofs.lemmas.List.Elements.{All-from_recursion, recursion_from_All}
+use Rattle.std.proofs.lemmas.List.Elements.{All-from_recursion}
 use Rattle.script_tree.specs.declared.value.Value.TheVariants.{Fault as Faulty}
 use Rattle.script_tree.specs.declared.value.Fault.TheVariants.{Kind}
 use Rattle.script_tree.specs.declared.limits.TheConstants.{SELECTORS}
@@ -10,7 +10,7 @@ use Rattle.script_tree.specs.Scripts.{Scripted, HasNoPicks}
 use Rattle.signal_graph.specs.declared.node.Selector.{Selector}
 use Rattle.signal_graph.specs.declared.node.Node.{Node}
 use Rattle.signal_graph.specs.declared.node.Node.TheVariants.{Source, Signal, Fold, Choose}
-use Rattle.signal_graph.specs.Graph.{IsNode, AreNodes, IsSelector, Resolves, BodyFits, is_in, inputs_of, selectors_of, inputs_of_all, different_from, different}
+use Rattle.signal_graph.specs.Graph.{IsNode, AreNodes, IsSelector, Resolves, is_in, inputs_of, selectors_of, inputs_of_all, different_from}
 use Rattle.signal_graph.specs.Evaluation.{CanRun, CanSelect, CanEvaluate}
 use Rattle.signal_graph.specs.Kept.{NamesEarlier}
 

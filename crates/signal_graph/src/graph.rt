@@ -1,6 +1,6 @@
 // Graphs.
 
-ghost use Rattle.std.specs.Prelude.{◌≡◌, ℕ, ◌<◌, ◌≤◌, if◌then◌else◌, length, slice_get, option_copied, Some, None, IsSome, IfSome, IfNone, IfOk};
+ghost use Rattle.std.specs.Prelude.{◌≡◌, ◌≢◌, ℕ, ◌<◌, ◌≤◌, if◌then◌else◌, length, slice_get, option_copied, Some, None, IsSome, IfSome, IfNone, IfOk};
 ghost use Rattle.signal_graph.specs.Graph as definition;
 ghost use Rattle.signal_graph.specs.Graph.{IsGraph, IsNode, node_at, name_at, number_of, kind_of, script_of, inputs_of, body_of, selectors_of, static_outs};
 ghost use Rattle.signal_graph.specs.Values.{val, start, picks};
@@ -191,6 +191,8 @@ impl Graph {
     /// The number of the node with a name, or none where no node has it.
     pub fn find(&self, name: &Name) -> Option<u32>
         ensures value { result ≡ (if names_node self.now name.now then Some (number_of self.now name.now) else None) }
+        ensures some { IfSome result (λ n. (n < length self.now.nodes) × (name_at self.now n ≡ name.now)) }
+        ensures none { IfNone result ((m : ℕ) → m < length self.now.nodes → name_at self.now m ≢ name.now) }
     {
         self.names.find(name)
     }

@@ -12,3 +12,5 @@ pub mod node;
 mod outs;
 mod resolve;
 mod starts;
+#[cfg(test)]
+mod tests;

@@ -1,6 +1,6 @@
 // Names by number, and the number of each name.
 
-ghost use Rattle.std.specs.Prelude.{◌≡◌, ◌<◌, ◌≤◌, [], ◌∷◌, ◌++◌, false, if◌then◌else◌, length, slice_get, Some, None, OnOk, OnErr};
+ghost use Rattle.std.specs.Prelude.{◌≡◌, ◌≢◌, ℕ, slice_index_or, IfSome, IfNone, ◌<◌, ◌≤◌, [], ◌∷◌, ◌++◌, false, if◌then◌else◌, length, slice_get, Some, None, OnOk, OnErr};
 ghost use Rattle.std.specs.List.{list_any};
 ghost use Rattle.std.specs.Str.{bytes_eq};
 ghost use Rattle.signal_graph.specs.Graph.{place_in};
@@ -63,7 +63,9 @@ impl NameTable {
 
     /// The number of a name, or none where it is not there. Takes no memory.
     pub fn find(&self, name: &Name) -> Option<u32>
-        ensures { result ≡ (if is_declared self.now name.now then Some (place_in self.now name.now) else None) }
+        ensures value { result ≡ (if is_declared self.now name.now then Some (place_in self.now name.now) else None) }
+        ensures some { IfSome result (λ n. slice_index_or self.now n [] ≡ name.now) }
+        ensures none { IfNone result ((m : ℕ) → m < length self.now → slice_index_or self.now m [] ≢ name.now) }
     {
         self.numbers.get(name.as_slice()).copied()
     }

@@ -1,5 +1,4 @@
 use Rattle.std.proofs.Common.{arith}
-use Rattle.signal_graph.specs.Graph.{selectors_of}
 use Rattle.signal_graph.proofs.GraphNodes.{few_selectors}
 use Rattle.signal_graph.proofs.graph.Graph.selectors.Goals as goal
 
