@@ -1,0 +1,14 @@
+use Rattle.std.proofs.Common.{◌≡◌, ◌+◌, ◌≤◌, length}
+use Rattle.deck_text.specs.Lines.{lines}
+use Rattle.deck_text.specs.Readers.{Reads}
+use Rattle.deck_text.proofs.reader.read_deck.Given as goal
+
+abbrev pub invariant-loop-rest : goal.invariant-loop-rest
+invariant-loop-rest l =
+    Reads l.reader
+    × (length l.reader.calls.items ≤ l.number)
+    × (l.number + length l.rest ≤ length l.bytes)
+    × (l.number + length (lines l.rest) ≡ length (lines l.bytes))
+
+abbrev pub decreases-loop-rest : goal.decreases-loop-rest
+decreases-loop-rest l = length l.rest

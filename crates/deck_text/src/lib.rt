@@ -1,0 +1,24 @@
+//! Decks as text: read, and printed in their canonical form.
+#![tactic(auto)]
+
+mod calls;
+mod choose;
+mod cut;
+mod deck;
+mod declarations;
+mod fault;
+mod inputs;
+mod keyword;
+mod lines;
+mod names;
+mod printer;
+mod reader;
+mod reason;
+mod value;
+#[cfg(test)]
+mod tests;
+
+pub use crate::deck::Deck;
+pub use crate::fault::{DeckFault, What};
+pub use crate::printer::print_deck;
+pub use crate::reader::read_deck;

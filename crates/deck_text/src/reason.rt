@@ -1,0 +1,102 @@
+// Why a line is refused.
+
+ghost use Rattle.std.specs.Prelude.{◌≡◌};
+ghost use Rattle.deck_text.specs.Faults.{fault_at};
+
+use crate::fault::{DeckFault, What};
+use expr_script::ScriptFault;
+use script_tree::memory::OutOfMemory;
+use signal_graph::builder::GraphFault;
+use std::alloc::{AllocError, AllocFailed};
+
+/// Why a line is refused, without the line's number.
+#[derive(Clone, Copy, PartialEq, Eq, Debug)]
+pub enum Reason {
+    LineTooLong,
+    Syntax,
+    TooMany(What),
+    DoubleName,
+    UnknownInput,
+    Memory,
+}
+
+impl Reason {
+    /// The fault of a deck whose line of this number is refused for the reason.
+    pub fn at(self, line: u32) -> DeckFault
+        ensures { result ≡ fault_at line self }
+    {
+        match self {
+            Reason::LineTooLong => DeckFault::LineTooLong(line),
+            Reason::Syntax => DeckFault::Syntax(line),
+            Reason::TooMany(what) => DeckFault::TooMany(line, what),
+            Reason::DoubleName => DeckFault::DoubleName(line),
+            Reason::UnknownInput => DeckFault::UnknownInput(line),
+            Reason::Memory => DeckFault::Memory,
+        }
+    }
+}
+
+impl From<OutOfMemory> for Reason {
+    ghost use Rattle.std.specs.Prelude.{◌≡◌};
+    ghost use Rattle.deck_text.specs.declared.reason.Reason.TheVariants.{Memory};
+
+    ghost from_gives = { λ _ e. e ≡ Memory };
+
+    fn from(_: OutOfMemory) -> Reason {
+        Reason::Memory
+    }
+}
+
+impl From<AllocError> for Reason {
+    ghost use Rattle.std.specs.Prelude.{◌≡◌};
+    ghost use Rattle.deck_text.specs.declared.reason.Reason.TheVariants.{Memory};
+
+    ghost from_gives = { λ _ e. e ≡ Memory };
+
+    fn from(_: AllocError) -> Reason {
+        Reason::Memory
+    }
+}
+
+impl<T: Drop> From<AllocFailed<T>> for Reason {
+    ghost use Rattle.std.specs.Prelude.{◌≡◌};
+    ghost use Rattle.deck_text.specs.declared.reason.Reason.TheVariants.{Memory};
+
+    ghost from_gives = { λ _ e. e ≡ Memory };
+
+    fn from(_: AllocFailed<T>) -> Reason {
+        Reason::Memory
+    }
+}
+
+impl From<ScriptFault> for Reason {
+    ghost use Rattle.std.specs.Prelude.{◌≡◌};
+    ghost use Rattle.deck_text.specs.Faults.{reason_of};
+
+    ghost from_gives = { λ fault r. r ≡ reason_of fault };
+
+    fn from(fault: ScriptFault) -> Reason {
+        match fault {
+            ScriptFault::Syntax(_) => Reason::Syntax,
+            ScriptFault::TooDeep(_) => Reason::TooMany(What::Levels),
+            ScriptFault::TooManyInputs => Reason::TooMany(What::Inputs),
+            ScriptFault::Memory => Reason::Memory,
+        }
+    }
+}
+
+impl From<GraphFault> for Reason {
+    ghost use Rattle.std.specs.Prelude.{◌≡◌};
+    ghost use Rattle.deck_text.specs.Faults.{declaration_reason};
+
+    ghost from_gives = { λ fault r. r ≡ declaration_reason fault };
+
+    fn from(fault: GraphFault) -> Reason {
+        match fault {
+            GraphFault::DoubleName => Reason::DoubleName,
+            GraphFault::UnknownInput(_) => Reason::UnknownInput,
+            GraphFault::TooManyNodes => Reason::TooMany(What::Nodes),
+            GraphFault::Memory => Reason::Memory,
+        }
+    }
+}
