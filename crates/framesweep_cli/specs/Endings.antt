@@ -1,39 +1,47 @@
--- How a run of the program ends: what it leaves on its output and on standard error.
-use Rattle.std.specs.Prelude.{◌≡◌, ◌≢◌, ℕ, ◌+◌, ◌≤◌, ⊤, ⊥, ◌⊎◌, List, ◌++◌, length, take, Option, Some, None, Result, Ok, Err}
+-- What the program reads, makes and says.
+use Rattle.std.specs.Prelude.{◌≡◌, ◌≢◌, ℕ, ◌+◌, ⊤, ⊥, ◌⊎◌, List, length, take, Option, Some, None, Result, Ok, Err}
 use Rattle.fs_io.specs.Bytes.{Adds, AddsFirst}
 use Rattle.fs_io.specs.Count.{Rose}
 use Rattle.script_tree.specs.declared.limits.TheConstants.{DECK_BYTES}
-use Rattle.script_tree.specs.declared.value.Value.{Value}
 use Rattle.signal_graph.specs.declared.log.Logged.{Logged}
 use Rattle.signal_graph.specs.declared.log.Refused.{Refused}
-use Rattle.signal_graph.specs.Graph.{Graph}
+use Rattle.signal_graph.specs.Legal.{Legal, finals}
+use Rattle.call_log.specs.Merge.{Merge}
 use Rattle.deck_text.specs.declared.fault.DeckFault.{DeckFault}
 use Rattle.deck_text.specs.declared.fault.DeckFault.TheVariants.{Memory}
-use Rattle.deck_text.specs.Decks.{Decked, ReadsDeck}
-use Rattle.serial_machine.specs.Runs.{IsSerialRun}
+use Rattle.deck_text.specs.Calls.{AreThreads}
+use Rattle.deck_text.specs.Decks.{Decked}
+use Rattle.deck_text.specs.Faults.{NamesLine}
+use Rattle.deck_text.specs.Lines.{lines}
+use Rattle.deck_text.specs.Printed.{canonical}
 use Rattle.report_text.specs.Report.{report_of}
 use Rattle.framesweep_cli.specs.declared.command.Command.{Command}
 use Rattle.framesweep_cli.specs.declared.command.Command.TheVariants.{Run, Serial, Print}
-use Rattle.framesweep_cli.specs.Lines.{fault_line}
 
--- the bytes are what the source had left, as far as it told: all of it, or the first ones of an input that is too long
+-- the bytes are what the source had left, where it told that: all of it, or the first ones of an input that is too long
 abbrev pub IsInput : Option (List ℕ) → List ℕ → Type 0
 IsInput None bytes = ⊤
 IsInput (Some left) bytes = bytes ≡ take (DECK_BYTES + 1) left
 
--- the report of the run of a deck, thread after thread
+-- what is known of how bytes are read as a deck
+abbrev pub ReadsDeck : List ℕ → Result Decked DeckFault → Type 0
+ReadsDeck bytes (Ok deck) = AreThreads deck.scripts
+ReadsDeck bytes (Err fault) = NamesLine (length (lines bytes)) fault
+
+-- the report of a run of a deck: every reply is the one-thread machine's in the order of the log, the log and what was
+-- refused are one merge of all threads' calls, and the final values are those behind the log
 pub record IsReport (deck : Decked) (versions : ℕ) (text : List ℕ) : Type 0 where
   pub log : List Logged
   pub refused : List Refused
-  pub finals : List Value
-  pub run : IsSerialRun deck.graph deck.scripts versions log refused finals
-  pub bytes : text ≡ report_of log refused deck.graph.names finals
+  pub legal : Legal deck.graph log
+  pub merge : Merge deck.graph deck.scripts versions log refused
+  pub bytes : text ≡ report_of log refused deck.graph.names (finals deck.graph log)
 
 -- what a command writes for a deck
 abbrev pub IsOutput : Command → Decked → List ℕ → Type 0
 IsOutput (Run versions) deck text = IsReport deck versions text
 IsOutput (Serial versions) deck text = IsReport deck versions text
-IsOutput Print deck text = ⊤
+IsOutput Print deck text = text ≡ canonical deck
 
 -- the input is read as a deck, and the text is what the command writes for it
 pub record Makes (command : Command) (left : Option (List ℕ)) (text : List ℕ) : Type 0 where
@@ -43,14 +51,14 @@ pub record Makes (command : Command) (left : Option (List ℕ)) (text : List ℕ
   pub read : ReadsDeck bytes (Ok deck)
   pub output : IsOutput command deck text
 
--- the input is refused as a deck for this fault
+-- the input is refused as a deck, for this fault
 pub record Refuses (left : Option (List ℕ)) (fault : DeckFault) : Type 0 where
   pub bytes : List ℕ
   pub input : IsInput left bytes
   pub read : ReadsDeck bytes (Err fault)
   pub known : fault ≢ Memory
 
--- a line came on standard error: whole, or a part of it, which needs that a write to it failed
+-- a line came on standard error: whole, or a part of it, for which a write to it must have failed
 pub record Says (before after : Option (List ℕ)) (faults_before faults_after : ℕ) (line : List ℕ) : Type 0 where
   pub part : AddsFirst before after line
   pub whole : Adds before after line ⊎ Rose faults_before faults_after

@@ -1,0 +1,39 @@
+// From a source to a deck.
+
+ghost use Rattle.std.specs.Prelude.{◌≡◌, ◌+◌, ◌<◌, ◌≤◌, ◌^◌, length, Ok, IfOk, IfErr};
+ghost use Rattle.framesweep_cli.specs.Endings.{IsInput, ReadsDeck};
+ghost use Rattle.framesweep_cli.specs.Stops.{IsRefused, IsUnread};
+
+use crate::stop::Stop;
+use deck_text::{Deck, DeckFault, read_deck};
+use fs_io::{ReadFault, Source, read_all};
+use script_tree::items::Text;
+use script_tree::limits::DECK_BYTES;
+use std::alloc::Global;
+
+/// All bytes of a source to the end of input, or one more than a deck may have. Takes memory.
+#[tactic(auto, using(crate::proofs::Inputs::given_first))]
+pub fn read_input<S: Source>(alloc: Global, source: &mut S) -> Result<Text, Stop>
+    ensures ok { IfOk result (IsInput (S.left source.old)) }
+    ensures small { IfOk result (λ bytes. length bytes < 2 ^ 32) }
+    ensures err { IfErr result (IsUnread (S.faults source.old) (S.faults source.new)) }
+{
+    match read_all(alloc, source, DECK_BYTES) {
+        Ok(bytes) => Ok(bytes),
+        Err(ReadFault::Source) => Err(Stop::Read),
+        Err(ReadFault::Memory) => Err(Stop::Memory),
+    }
+}
+
+/// The deck that bytes are read as. Takes memory.
+pub fn judge(alloc: Global, bytes: &[u8]) -> Result<Deck, Stop>
+    requires { length bytes.now < 2 ^ 32 }
+    ensures ok { IfOk result (λ deck. ReadsDeck bytes.now (Ok deck)) }
+    ensures err { IfErr result (IsRefused bytes.now) }
+{
+    match read_deck(alloc, bytes) {
+        Ok(deck) => Ok(deck),
+        Err(DeckFault::Memory) => Err(Stop::Memory),
+        Err(fault) => Err(Stop::Deck(fault)),
+    }
+}
