@@ -1,3 +1,4 @@
 pub mod Count
 pub mod Bytes
 pub mod Answers
+pub mod Memory

@@ -1,7 +1,9 @@
 //! Sources and sinks of bytes whose faults are counted, and reading and writing a whole text through them.
 #![tactic(auto)]
 
+mod copy;
 pub mod fault;
+pub mod mem_source;
 pub mod sink;
 pub mod source;
 pub mod whole;
