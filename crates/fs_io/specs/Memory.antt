@@ -1,5 +1,5 @@
 -- Sources and sinks in memory as contracts see them, and what a call does to them.
-use Rattle.std.specs.Prelude.{◌≡◌, ℕ, ◌+◌, ◌<◌, Bool, true, false, ◌⊎◌, List, ◌++◌, length, take, drop, Option, None, Some, Contains, if◌then◌else◌}
+use Rattle.std.specs.Prelude.{◌≡◌, ℕ, ◌+◌, ◌<◌, Bool, true, false, ◌⊎◌, List, ◌++◌, length, take, drop, Option, None, Some, Contains, if◌then◌else◌, ◌||◌, nat_lt}
 use Rattle.fs_io.specs.declared.source.Taken.{Taken}
 use Rattle.fs_io.specs.declared.source.Taken.TheVariants.{Got, Failed as ReadFailed}
 use Rattle.fs_io.specs.declared.sink.Given.{Given}
@@ -70,3 +70,10 @@ after_flush s FlushFailed = record s { calls = raised s.calls; faults = raised s
 -- the bytes that it took, while no more came than it keeps
 abbrev pub told : SureStore → Option (List ℕ)
 told s = if s.over then None else Some s.kept
+
+-- the first bytes of all that came are kept, as many as there is room for
+abbrev pub after_sure_write : SureStore → List ℕ → SureStore
+after_sure_write s came = record s { kept = take s.room (s.kept ++ came); over = s.over || nat_lt s.room (length (s.kept ++ came)); clean = false }
+
+abbrev pub after_sure_flush : SureStore → SureStore
+after_sure_flush s = record s { clean = true }

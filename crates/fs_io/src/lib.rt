@@ -3,7 +3,10 @@
 
 mod copy;
 pub mod fault;
+pub mod mem_sink;
 pub mod mem_source;
 pub mod sink;
 pub mod source;
+pub mod sure_sink;
+pub mod sure_source;
 pub mod whole;
