@@ -2,3 +2,4 @@ pub mod Count
 pub mod Bytes
 pub mod Answers
 pub mod Memory
+pub mod Adapted

@@ -1,5 +1,5 @@
 -- Sources and sinks in memory as contracts see them, and what a call does to them.
-use Rattle.std.specs.Prelude.{◌≡◌, ℕ, ◌+◌, ◌<◌, Bool, true, false, ◌⊎◌, List, ◌++◌, length, take, drop, Option, None, Some, Contains, if◌then◌else◌, ◌||◌, nat_lt}
+use Rattle.std.specs.Prelude.{◌≡◌, ℕ, ◌<◌, Bool, true, false, List, ◌++◌, length, take, drop, Option, None, Some, Contains, if◌then◌else◌, ◌||◌, nat_lt}
 use Rattle.fs_io.specs.declared.source.Taken.{Taken}
 use Rattle.fs_io.specs.declared.source.Taken.TheVariants.{Got, Failed as ReadFailed}
 use Rattle.fs_io.specs.declared.sink.Given.{Given}

@@ -1,6 +1,7 @@
 //! Sources and sinks of bytes whose faults are counted, and reading and writing a whole text through them.
 #![tactic(auto)]
 
+pub mod adapters;
 mod copy;
 pub mod fault;
 pub mod mem_sink;
