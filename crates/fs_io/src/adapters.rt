@@ -1,6 +1,7 @@
 // Std's readers and writers as sources and sinks.
 
-ghost use Rattle.std.specs.Prelude.{◌≡◌, false};
+ghost use Rattle.std.specs.Prelude.{◌≡◌, ◌<◌, ◌≤◌, length, true, false};
+ghost use Rattle.fs_io.specs.Answers.{IfGot, OnReadFailed, IfPut, OnWriteFailed, OnFlushed, OnFlushFailed};
 ghost use Rattle.fs_io.specs.Count.{raised};
 
 use crate::sink::{Flushed, Given, Sink};
@@ -54,7 +55,13 @@ impl<R: Read> Source for ReadSource<R> {
 
     ghost faults = { λ s. s.faults };
 
-    fn read(&mut self, buf: &mut [u8]) -> Taken {
+    fn read(&mut self, buf: &mut [u8]) -> Taken
+        ensures within { IfGot result (λ n. n ≤ length buf.new) }
+        ensures never_falls { self.old.faults ≤ self.new.faults }
+
+        ensures got { IfGot result (λ _. self.new.faults ≡ self.old.faults) }
+        ensures failed { OnReadFailed result (self.new.faults ≡ raised self.old.faults) }
+    {
         match self.reader.read(buf) {
             Ok(n) => Taken::Got(n),
             Err(_) => {
@@ -123,7 +130,15 @@ impl<W: Write> Sink for WriteSink<W> {
 
     ghost clean = { λ s. s.clean };
 
-    fn write(&mut self, bytes: &[u8]) -> Given {
+    fn write(&mut self, bytes: &[u8]) -> Given
+        ensures within { IfPut result (λ n. n ≤ length bytes.now) }
+        ensures some { IfPut result (λ n. 0 < length bytes.now → 0 < n) }
+        ensures unclean { self.new.clean ≡ false }
+        ensures never_falls { self.old.faults ≤ self.new.faults }
+
+        ensures put { IfPut result (λ _. self.new.faults ≡ self.old.faults) }
+        ensures failed { OnWriteFailed result (self.new.faults ≡ raised self.old.faults) }
+    {
         self.is_clean = false;
         match self.writer.write(bytes) {
             Ok(n) if n > 0 || bytes.is_empty() => Given::Put(n),
@@ -134,7 +149,12 @@ impl<W: Write> Sink for WriteSink<W> {
         }
     }
 
-    fn flush(&mut self) -> Flushed {
+    fn flush(&mut self) -> Flushed
+        ensures never_falls { self.old.faults ≤ self.new.faults }
+
+        ensures flushed { OnFlushed result ((self.new.clean ≡ true) × (self.new.faults ≡ self.old.faults)) }
+        ensures failed { OnFlushFailed result ((self.new.clean ≡ self.old.clean) × (self.new.faults ≡ raised self.old.faults)) }
+    {
         match self.writer.flush() {
             Ok(()) => {
                 self.is_clean = true;
