@@ -38,7 +38,7 @@ fn reads_to_the_end_or_one_byte_past_the_limit(rt: HostRuntime) -> Result<(), Fa
         let mut source = MemSource::new(rt.alloc(), DIGITS, 7, &[])?;
         let text = read_all(rt.alloc(), &mut source, most as u64)?;
         assert_eq!(rt; text.as_slice(), &DIGITS[..DIGITS.len().min(most + 1)]);
-        assert!(rt; source.calls() <= 2);
+        assert!(rt; source.calls() <= 3);
     }
     Ok(())
 }
