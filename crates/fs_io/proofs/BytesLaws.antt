@@ -1,5 +1,5 @@
 -- How what calls do to told bytes adds up.
-use Rattle.std.proofs.Common.{◌≡◌, ℕ, ◌+◌, ◌≤◌, List, [], ◌∷◌, ◌++◌, length, take, drop, Option, None, Some, Bool, true, false, refl, sym, ◌∙◌, inl, inr, arith}
+use Rattle.std.proofs.Common.{◌≡◌, ℕ, ◌+◌, ◌≤◌, List, [], ◌∷◌, ◌++◌, length, Option, None, Some, refl, sym, ◌∙◌, inl, inr, arith}
 use Rattle.std.proofs.lemmas.Grind.{common_steps}
 use Rattle.std.specs.Io.KnownBytes.{Consumes, IsAtEnd}
 use Rattle.fs_io.specs.Count.{Rose}
@@ -19,11 +19,6 @@ Adds-stays a None (Some w) x p q = absurd q
 Adds-stays None (Some v) (Some w) x p q = absurd p
 Adds-stays (Some u) (Some v) (Some w) x p q = cc
 
--- no growth
-pub Adds-none : (a : Option (List ℕ)) → Adds a a []
-Adds-none None = tt
-Adds-none (Some u) = grind (arith, common_steps)
-
 -- a growth by the front of some bytes is one by the first few of them
 pub AddsFirst-front : (a b : Option (List ℕ)) (x y all : List ℕ) → Adds a b x → all ≡ x ++ y → AddsFirst a b all
 AddsFirst-front a None x y all p e = tt
@@ -36,17 +31,6 @@ Consumes-twice None b c x y p q = tt
 Consumes-twice (Some u) None c x y p q = absurd p
 Consumes-twice (Some u) (Some v) None x y p q = absurd q
 Consumes-twice (Some u) (Some v) (Some w) x y p q = grind (arith, common_steps)
-
--- no loss
-pub Consumes-none : (a : Option (List ℕ)) → Consumes a a []
-Consumes-none None = tt
-Consumes-none (Some u) = refl
-
--- bytes that are lost in front, whatever they are
-pub LosesFront-loss : (a b : Option (List ℕ)) (x : List ℕ) → Consumes a b x → LosesFront a b
-LosesFront-loss None b x p = tt
-LosesFront-loss (Some u) None x p = absurd p
-LosesFront-loss (Some u) (Some v) x p = (x, p)
 
 -- a loss of some bytes, and of some more
 pub LosesFront-after : (a b c : Option (List ℕ)) (x : List ℕ) → Consumes a b x → LosesFront b c → LosesFront a c

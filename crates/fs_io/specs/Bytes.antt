@@ -1,5 +1,5 @@
 -- What calls do to the bytes that a source has left and a sink holds, where those are told.
-use Rattle.std.specs.Prelude.{◌≡◌, ℕ, ◌+◌, ◌≤◌, List, [], ◌++◌, length, take, drop, ⊤, Option, None, Some}
+use Rattle.std.specs.Prelude.{◌≡◌, ℕ, ◌≤◌, List, [], ◌++◌, length, take, drop, ⊤, Option, None, Some}
 use Rattle.std.specs.Io.KnownBytes.{Consumes}
 
 -- told bytes lost some bytes in front, and are still told

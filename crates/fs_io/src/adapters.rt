@@ -1,0 +1,169 @@
+// Std's readers and writers as sources and sinks.
+
+ghost use Rattle.std.specs.Prelude.{◌≡◌, ◌<◌, ◌≤◌, length, true, false};
+ghost use Rattle.fs_io.specs.Answers.{IfGot, OnReadFailed, IfPut, OnWriteFailed, OnFlushed, OnFlushFailed};
+ghost use Rattle.fs_io.specs.Count.{raised};
+
+use crate::sink::{Flushed, Given, Sink};
+use crate::source::{Source, Taken};
+use std::io::{Read, Write};
+use std::marker::Model;
+
+/// A reader of std as a source. It tells nothing of what is left. Each `Err` of the reader counts as a fault.
+#[derive(Debug, Drop)]
+pub struct ReadSource<R> {
+    reader: R,
+    faults: u64,
+}
+
+impl<R> Model for ReadSource<R> {
+    ghost use Rattle.fs_io.specs.Adapted.{Reading};
+
+    ghost Value = { Reading R };
+
+    ghost view = { λ s. record { reader = s.reader; faults = s.faults } };
+}
+
+impl<R> ReadSource<R> {
+    /// A source over the reader, with no fault so far. Takes no memory.
+    pub fn new(reader: R) -> ReadSource<R>
+        ensures { result ≡ record { reader = reader; faults = 0 } }
+    {
+        ReadSource { reader, faults: 0 }
+    }
+
+    /// The reader.
+    pub fn into_inner(self) -> R
+        ensures { result ≡ self.reader }
+    {
+        let ReadSource { reader, faults: _ } = self;
+        reader
+    }
+
+    /// How many faults there were.
+    pub fn faults(&self) -> u64
+        ensures { result ≡ self.now.faults }
+    {
+        self.faults
+    }
+}
+
+impl<R: Read> Source for ReadSource<R> {
+    ghost use Rattle.std.specs.Prelude.{None};
+
+    ghost left = { λ _. None };
+
+    ghost faults = { λ s. s.faults };
+
+    fn read(&mut self, buf: &mut [u8]) -> Taken
+        ensures within { IfGot result (λ n. n ≤ length buf.new) }
+        ensures never_falls { self.old.faults ≤ self.new.faults }
+
+        ensures got { IfGot result (λ _. self.new.faults ≡ self.old.faults) }
+        ensures failed { OnReadFailed result (self.new.faults ≡ raised self.old.faults) }
+    {
+        match self.reader.read(buf) {
+            Ok(n) => Taken::Got(n),
+            Err(_) => {
+                self.faults = self.faults.saturating_add(1);
+                Taken::Failed
+            }
+        }
+    }
+}
+
+/// A writer of std as a sink. It tells nothing of what it holds. Each `Err` of the writer counts as a fault, and so does
+/// a write that takes none of at least one byte.
+#[derive(Debug, Drop)]
+pub struct WriteSink<W> {
+    writer: W,
+    faults: u64,
+    is_clean: bool,
+}
+
+impl<W> Model for WriteSink<W> {
+    ghost use Rattle.fs_io.specs.Adapted.{Writing};
+
+    ghost Value = { Writing W };
+
+    ghost view = { λ s. record { writer = s.writer; faults = s.faults; clean = s.is_clean } };
+}
+
+impl<W> WriteSink<W> {
+    /// A sink over the writer, with no fault so far. It isn't clean, since the writer may hold bytes. Takes no memory.
+    pub fn new(writer: W) -> WriteSink<W>
+        ensures { result ≡ record { writer = writer; faults = 0; clean = false } }
+    {
+        WriteSink {
+            writer,
+            faults: 0,
+            is_clean: false,
+        }
+    }
+
+    /// The writer.
+    pub fn into_inner(self) -> W
+        ensures { result ≡ self.writer }
+    {
+        let WriteSink {
+            writer,
+            faults: _,
+            is_clean: _,
+        } = self;
+        writer
+    }
+
+    /// How many faults there were.
+    pub fn faults(&self) -> u64
+        ensures { result ≡ self.now.faults }
+    {
+        self.faults
+    }
+}
+
+impl<W: Write> Sink for WriteSink<W> {
+    ghost use Rattle.std.specs.Prelude.{None};
+
+    ghost held = { λ _. None };
+
+    ghost faults = { λ s. s.faults };
+
+    ghost clean = { λ s. s.clean };
+
+    fn write(&mut self, bytes: &[u8]) -> Given
+        ensures within { IfPut result (λ n. n ≤ length bytes.now) }
+        ensures some { IfPut result (λ n. 0 < length bytes.now → 0 < n) }
+        ensures unclean { self.new.clean ≡ false }
+        ensures never_falls { self.old.faults ≤ self.new.faults }
+
+        ensures put { IfPut result (λ _. self.new.faults ≡ self.old.faults) }
+        ensures failed { OnWriteFailed result (self.new.faults ≡ raised self.old.faults) }
+    {
+        self.is_clean = false;
+        match self.writer.write(bytes) {
+            Ok(n) if n > 0 || bytes.is_empty() => Given::Put(n),
+            _ => {
+                self.faults = self.faults.saturating_add(1);
+                Given::Failed
+            }
+        }
+    }
+
+    fn flush(&mut self) -> Flushed
+        ensures never_falls { self.old.faults ≤ self.new.faults }
+
+        ensures flushed { OnFlushed result ((self.new.clean ≡ true) × (self.new.faults ≡ self.old.faults)) }
+        ensures failed { OnFlushFailed result ((self.new.clean ≡ self.old.clean) × (self.new.faults ≡ raised self.old.faults)) }
+    {
+        match self.writer.flush() {
+            Ok(()) => {
+                self.is_clean = true;
+                Flushed::Flushed
+            }
+            Err(_) => {
+                self.faults = self.faults.saturating_add(1);
+                Flushed::Failed
+            }
+        }
+    }
+}
