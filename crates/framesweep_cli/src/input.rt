@@ -6,7 +6,9 @@ ghost use Rattle.framesweep_cli.specs.Stops.{IsRefused, IsUnread};
 
 use crate::stop::Stop;
 use deck_text::{Deck, DeckFault, read_deck};
-use fs_io::{ReadFault, Source, read_all};
+use fs_io::fault::ReadFault;
+use fs_io::source::Source;
+use fs_io::whole::read_all;
 use script_tree::items::Text;
 use script_tree::limits::DECK_BYTES;
 use std::alloc::Global;

@@ -2,6 +2,9 @@
 #![tactic(auto)]
 
 pub mod command;
+mod input;
+mod lines;
+mod stop;
 mod words;
 
 pub use words::read_words;

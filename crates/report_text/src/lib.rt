@@ -2,6 +2,6 @@
 #![tactic(auto)]
 
 mod lines;
-mod report;
+mod whole;
 
-pub use report::report;
+pub use whole::report;

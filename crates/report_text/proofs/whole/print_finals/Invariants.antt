@@ -1,7 +1,7 @@
 use Rattle.std.proofs.Common.{◌≡◌, ◌++◌, drop}
 use Rattle.std.specs.List.{flat_map, zip}
 use Rattle.report_text.specs.Report.{final_line}
-use Rattle.report_text.proofs.report.print_finals.Given as goal
+use Rattle.report_text.proofs.whole.print_finals.Given as goal
 
 -- what is still to be printed comes behind what was printed
 abbrev pub invariant-loop-node : goal.invariant-loop-node

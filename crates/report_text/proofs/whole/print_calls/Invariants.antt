@@ -1,7 +1,7 @@
 use Rattle.std.proofs.Common.{◌≡◌, ◌++◌, drop}
 use Rattle.std.specs.List.{flat_map}
 use Rattle.report_text.specs.Report.{call_line}
-use Rattle.report_text.proofs.report.print_calls.Given as goal
+use Rattle.report_text.proofs.whole.print_calls.Given as goal
 
 -- what is still to be printed comes behind what was printed
 abbrev pub invariant-loop-entry : goal.invariant-loop-entry
