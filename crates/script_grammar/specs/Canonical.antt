@@ -4,9 +4,11 @@ use Rattle.script_grammar.specs.declared.token.Word.TheVariants.{Digits, Yes, No
 use Rattle.script_tree.specs.Tree.{Tree, Number, Constant, Input, Pick, Acc, Apply, Join, If}
 use Rattle.script_grammar.specs.Grammar.{Written, Plain, Inside, Before, Between, Choice, level, left, binds}
 
+-- a writing at a place that needs a level
 abbrev pub put : ℕ → Written → Written
 put l w = if nat_le l (level w) then w else Inside w
 
+-- the canonical writing of a tree
 abbrev pub canonical : Tree → Written
 canonical (Number z) = Plain (Digits z)
 canonical (Constant true) = Plain Yes

@@ -19,10 +19,12 @@ word_tree (Called i) = Input i
 word_tree (Picked i) = Pick i
 word_tree Old = Acc
 
+-- the token of an operator between two sides: a minus sign is the same token on one side or two
 abbrev pub sign : Binary → Token
 sign Subtract = Minus
 sign op = Sign op
 
+-- the token of an operator before its operand
 abbrev pub mark : Unary → Token
 mark Negate = Minus
 mark Not = Bang
@@ -72,6 +74,7 @@ binds Remainder = 6
 abbrev pub left : Binary → ℕ
 left op = if binds op == 4 then 5 else binds op
 
+-- the level of what is written
 abbrev pub level : Written → ℕ
 level (Plain word) = 8
 level (Inside w) = 8

@@ -18,6 +18,7 @@ pub data Frame : Type 0 where
   InThen : (c : Tree) → Frame
   InElse : (c x : Tree) → Frame
 
+-- what is begun, the innermost first
 abbrev pub Stack : Type 0
 Stack = List Frame
 
@@ -48,25 +49,31 @@ close (InRight y op ∷ s) x = close s (Join op y x)
 close (InElse c y ∷ s) x = close s (If c y x)
 close s x = Has s x
 
+-- an operator takes the operand before it, where its level may stand
 abbrev pub operate : Binary → State → Option State
 operate op (Wants s) = None
 operate op (Has s x) = if nat_le (need s) (binds op) then Some (Wants (InRight x op ∷ s)) else None
 
+-- a closing parenthesis ends the parenthesis that is begun last, and is the end of an atom
 abbrev pub on_close : State → Option State
 on_close (Has (InOpen ∷ s) x) = Some (settle s x)
 on_close st = None
 
+-- `then` follows the condition of the `if` that is begun last
 abbrev pub on_then : State → Option State
 on_then (Has (InTest ∷ s) x) = Some (Wants (InThen x ∷ s))
 on_then st = None
 
+-- `else` follows the first part of the `if` that is begun last
 abbrev pub on_else : State → Option State
 on_else (Has (InThen c ∷ s) x) = Some (Wants (InElse c x ∷ s))
 on_else st = None
 
+-- an `if` stands only where an operand may have any level
 abbrev pub begin_choice : Stack → Option State
 begin_choice s = if nat_le (need s) 0 then Some (Wants (InTest ∷ s)) else None
 
+-- what is there behind one more token, if a script begins so
 abbrev pub step : State → Token → Option State
 step (Wants s) (W word) = Some (settle s (word_tree word))
 step (Wants s) Minus = Some (Wants (InPrefix Negate ∷ s))
@@ -82,18 +89,22 @@ step (Has s x) ThenWord = on_then (close s x)
 step (Has s x) ElseWord = on_else (close s x)
 step (Has s x) token = None
 
+-- what is there behind some tokens
 abbrev pub run : Option State → List Token → Option State
 run None tokens = None
 run (Some st) [] = Some st
 run (Some st) (t ∷ tokens) = run (step st t) tokens
 
+-- the tree, where nothing is begun any more
 abbrev pub ended : State → Option Tree
 ended (Has [] x) = Some x
 ended st = None
 
+-- the tree at the end of a text
 abbrev pub finish : Option State → Option Tree
 finish (Some (Has s x)) = ended (close s x)
 finish st = None
 
+-- the tree of a text
 abbrev pub read : List Token → Option Tree
 read tokens = finish (run (Some (Wants [])) tokens)

@@ -59,8 +59,9 @@ fn finished(alloc: Global, stack: &mut Stack, top: Option<Expr>) -> Result<Optio
 /// The script that the tokens are. It reads each token once, with a stack of what is begun: a token costs the same
 /// however much is begun, but for what ends at it.
 ///
-/// An answer names the first token at fault. At one token `Syntax` goes before `TooDeep`; `Memory` may be the answer
-/// wherever memory is taken, and says nothing of the tokens.
+/// A script that is answered has no token nested above the limit, and its leaves are the words of the tokens. A refusal
+/// names the first token at fault; at one token `Syntax` goes before `TooDeep`. `Memory` may be the answer wherever
+/// memory is taken, and says nothing of the tokens.
 pub fn read_script(alloc: Global, tokens: &[Token]) -> Result<Expr, Refusal>
     ensures found { IfOk result (λ x. Spells tokens.now (tree_of x)) }
     ensures leaves { IfOk result (λ x. (test : Tree → Bool) → all_leaves test (tree_of x) ≡ all_words (λ word. test (word_tree word)) tokens.now) }

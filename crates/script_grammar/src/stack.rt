@@ -11,7 +11,7 @@ use crate::level::{UNARY, binds};
 use script_tree::expr::Expr;
 use std::alloc::{AllocError, Global};
 
-/// What is begun, the innermost last, with the number of it that nests what stands inside.
+/// What is begun, the innermost last, with the number of frames that nest what stands inside them.
 #[derive(Drop)]
 pub struct Stack {
     pub frames: Vec<Frame>,
@@ -20,6 +20,7 @@ pub struct Stack {
 }
 
 impl Stack {
+    /// Nothing is begun.
     pub fn new(alloc: Global) -> Self
         ensures { stack_of result.frames.items ≡ [] }
     {
@@ -36,13 +37,14 @@ impl Stack {
         self.nesting
     }
 
+    /// Whether nothing is begun.
     pub fn is_empty(&self) -> bool
         ensures { IsTrue result ↔ (stack_of self.now.frames.items ≡ []) }
     {
         self.frames.is_empty()
     }
 
-    /// Begins a frame inside all others. Without memory the stack stays as it is.
+    /// Begins a frame inside all others. Want of memory is the one error.
     #[tactic(auto, using(crate::proofs::FrameLaws::frame_laws))]
     pub fn push(&mut self, frame: Frame) -> Result<(), AllocError>
         ensures { IfOk result (λ _. stack_of self.new.frames.items ≡ frame_of frame ∷ stack_of self.old.frames.items) }
@@ -75,7 +77,7 @@ impl Stack {
         }
     }
 
-    /// An atom ends the prefix operators before it.
+    /// An atom ends the prefix operators before it. Want of memory is the one error, here and below.
     #[tactic(auto, using(crate::proofs::FrameLaws::frame_laws))]
     pub fn settle(&mut self, alloc: Global, x: Expr) -> Result<Expr, AllocError>
         ensures { IfOk result (λ top. Has (stack_of self.new.frames.items) (tree_of top) ≡ settle (stack_of self.old.frames.items) (tree_of x)) }

@@ -141,7 +141,8 @@ fn followed(alloc: Global, stack: &mut Stack, x: Expr, token: Token) -> Result<S
     }
 }
 
-/// What a token leads to behind what is begun and the operand that is there, if one is.
+/// What a token leads to behind what is begun and the operand that is there, if one is, and how deep the token is
+/// nested. Want of memory is the one error.
 pub fn advance(
     alloc: Global,
     stack: &mut Stack,
