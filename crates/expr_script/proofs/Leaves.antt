@@ -11,6 +11,7 @@ use Rattle.script_grammar.specs.declared.token.Word.{Word}
 use Rattle.script_grammar.specs.declared.token.Word.TheVariants as word
 use Rattle.script_grammar.specs.declared.token.Token.{Token}
 use Rattle.script_grammar.specs.declared.token.Token.TheVariants as token
+use Rattle.script_grammar.specs.Words.{all_words}
 use Rattle.script_grammar.specs.Grammar.{Written, Plain, Inside, Before, Between, Choice, word_tree, sign, mark, tokens, tree, Spells}
 use Rattle.expr_script.specs.declared.atoms.Atoms.{Atoms}
 use Rattle.expr_script.specs.declared.atoms.Atoms.TheVariants.{Script, Body}
@@ -33,52 +34,13 @@ and_right : (a b : Bool) → (a && b) ≡ true → b ≡ true
 and_right true b h = h
 and_right false b h = let e : false ≡ true = h in cc
 
-all_front : (p : Token → Bool) (xs ys : List Token) → list_all p (xs ++ ys) ≡ true → list_all p xs ≡ true
-all_front p [] ys h = refl
-all_front p (x ∷ xs) ys h = and_both (and_left (p x) (list_all p (xs ++ ys)) h) (all_front p xs ys (and_right (p x) (list_all p (xs ++ ys)) h))
+-- the leaves of a tree are the words of a text
+abbrev pub HasLeaves : List Token → Tree → Type 0
+HasLeaves text t = (test : Tree → Bool) → all_leaves test t ≡ all_words (λ w. test (word_tree w)) text
 
-all_back : (p : Token → Bool) (xs ys : List Token) → list_all p (xs ++ ys) ≡ true → list_all p ys ≡ true
-all_back p [] ys h = h
-all_back p (x ∷ xs) ys h = all_back p xs ys (and_right (p x) (list_all p (xs ++ ys)) h)
-
-all_rest : (p : Token → Bool) (x : Token) (xs : List Token) → list_all p (x ∷ xs) ≡ true → list_all p xs ≡ true
-all_rest p x xs h = and_right (p x) (list_all p xs) h
-
-word_leaves : (test : Tree → Bool) (w : Word) → test (word_tree w) ≡ true → all_leaves test (word_tree w) ≡ true
-word_leaves test (word.Digits z) h = h
-word_leaves test word.Yes h = h
-word_leaves test word.No h = h
-word_leaves test (word.Called i) h = h
-word_leaves test (word.Pick i) h = h
-word_leaves test word.Acc h = h
-
-leaves_pass : (test : Tree → Bool) (w : Written) → list_all (passes test) (tokens w) ≡ true → all_leaves test (tree w) ≡ true
-leaves_pass test (Plain word) h = word_leaves test word (and_left (test (word_tree word)) true h)
-leaves_pass test (Inside w) h =
-    let behind = all_rest (passes test) token.Opens (tokens w ++ token.Closes ∷ []) h in
-    leaves_pass test w (all_front (passes test) (tokens w) (token.Closes ∷ []) behind)
-leaves_pass test (Before op w) h = leaves_pass test w (all_rest (passes test) (mark op) (tokens w) h)
-leaves_pass test (Between op a b) h =
-    let behind = all_back (passes test) (tokens a) (sign op ∷ tokens b) h in
-    and_both (leaves_pass test a (all_front (passes test) (tokens a) (sign op ∷ tokens b) h)) (leaves_pass test b (all_rest (passes test) (sign op) (tokens b) behind))
-leaves_pass test (Choice c a b) h =
-    let else_part = token.ElseWord ∷ tokens b in
-    let then_part = token.ThenWord ∷ (tokens a ++ else_part) in
-    let behind_if = all_rest (passes test) token.IfWord (tokens c ++ then_part) h in
-    let behind_then = all_rest (passes test) token.ThenWord (tokens a ++ else_part) (all_back (passes test) (tokens c) then_part behind_if) in
-    let behind_else = all_rest (passes test) token.ElseWord (tokens b) (all_back (passes test) (tokens a) else_part behind_then) in
-    and_both (leaves_pass test c (all_front (passes test) (tokens c) then_part behind_if))
-    (and_both (leaves_pass test a (all_front (passes test) (tokens a) else_part behind_then)) (leaves_pass test b behind_else))
-
--- where every token passes, every leaf of the tree passes
-pub spelled_pass : (test : Tree → Bool) (text : List Token) (t : Tree) → list_all (passes test) text ≡ true → Spells text t → all_leaves test t ≡ true
-spelled_pass test text t h s =
-    subst (λ (u : Tree). all_leaves test u ≡ true) s.tree_is
-    (leaves_pass test s.written (ap (list_all (passes test)) s.same ∙ h))
-
-pub mapped_pass : (test : Tree → Bool) (f : Piece → Token) (found : List Piece) → AllByRecursion (λ p. passes test (f p) ≡ true) found → list_all (passes test) (map f found) ≡ true
-mapped_pass test f [] h = refl
-mapped_pass test f (p ∷ found) h = and_both h.0 (mapped_pass test f found h.1)
+pub words_cons : (test : Tree → Bool) (t : Token) (text : List Token) → passes test t ≡ true → all_words (λ w. test (word_tree w)) text ≡ true → all_words (λ w. test (word_tree w)) (t ∷ text) ≡ true
+words_cons test (token.Plain word) text p h = and_both p h
+words_cons test t text p h = h
 
 -- a token passes a test
 pub record Passes (test : Tree → Bool) (t : Token) : Type 0 where

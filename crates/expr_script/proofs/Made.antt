@@ -12,16 +12,17 @@ use Rattle.script_tree.specs.Names.{is_name}
 use Rattle.script_tree.specs.Tree.{Tree, Input}
 use Rattle.script_tree.specs.Scripts.{Scripted, WellFormed, all_leaves, input_below, pick_below, is_not_acc, is_literal}
 use Rattle.script_grammar.specs.declared.token.Token.{Token}
-use Rattle.script_grammar.specs.Grammar.{Spells}
+use Rattle.script_grammar.specs.Grammar.{word_tree}
+use Rattle.script_grammar.specs.Words.{all_words}
 use Rattle.expr_script.specs.declared.atoms.Atoms.{Atoms}
 use Rattle.expr_script.specs.declared.atoms.Atoms.TheVariants.{Script, Body}
 use Rattle.expr_script.specs.declared.pieces.Piece.{Piece}
 use Rattle.expr_script.specs.Inputs.{KeepsFirst}
 use Rattle.expr_script.specs.Pieces.{pieces, bytes_of}
-use Rattle.expr_script.specs.Words.{place_of, name_token}
+use Rattle.expr_script.specs.Words.{place_of, name_token, token}
 use Rattle.expr_script.specs.Tokens.{with_name, names_among, names, inputs, tokens_among, tokens, HasAtoms}
 use Rattle.expr_script.proofs.Kept.{with_known, with_new, place_of-le, take_whole}
-use Rattle.expr_script.proofs.Leaves.{passes, Passes, PassesAtoms, and_both, and_left, script_passes, body_passes, token_passes, spelled_pass}
+use Rattle.expr_script.proofs.Leaves.{passes, Passes, PassesAtoms, and_both, and_left, script_passes, body_passes, token_passes, words_cons, HasLeaves}
 
 lt_step : (t : Bool) (p' l' p l : ℕ) → (p' < l' → p < l) → (if t then 0 else p' + 1) < suc l' → (if t then 0 else p + 1) < suc l
 lt_step true p' l' p l f h = omega arith
@@ -97,20 +98,20 @@ everywhere : (P : Piece → Type 0) (found : List Piece) → ((p : Piece) → P 
 everywhere P [] h = tt
 everywhere P (p ∷ found) h = (h p, everywhere P found h)
 
-tokens_pass : (test : Tree → Bool) (atoms : Atoms) (known : List (List ℕ)) (text : List ℕ) (found : List Piece) → PassesAtoms test atoms → AllByRecursion (λ p. is_name (bytes_of text p) ≡ true → Passes test (name_token atoms known (bytes_of text p))) found → list_all (passes test) (tokens_among atoms known text found) ≡ true
+tokens_pass : (test : Tree → Bool) (atoms : Atoms) (known : List (List ℕ)) (text : List ℕ) (found : List Piece) → PassesAtoms test atoms → AllByRecursion (λ p. is_name (bytes_of text p) ≡ true → Passes test (name_token atoms known (bytes_of text p))) found → all_words (λ w. test (word_tree w)) (tokens_among atoms known text found) ≡ true
 tokens_pass test atoms known text [] h named = refl
 tokens_pass test atoms known text (p ∷ found) h named =
-    and_both (token_passes test atoms known (bytes_of text p) h named.0).passed (tokens_pass test atoms known text found h named.1)
+    words_cons test (token atoms known (bytes_of text p)) (tokens_among atoms known text found) (token_passes test atoms known (bytes_of text p) h named.0).passed (tokens_pass test atoms known text found h named.1)
 
 any_name : (test : Tree → Bool) (atoms : Atoms) (known : List (List ℕ)) (w : List ℕ) → ((i : ℕ) → test (Input i) ≡ true) → Passes test (name_token atoms known w)
 any_name test (Script acc) known w h = record { passed = h (place_of known w) }
 any_name test (Body picks) known w h = record { passed = refl }
 
 -- a test that every input passes holds for every leaf
-leaves_of : (test : Tree → Bool) (atoms : Atoms) (known : List (List ℕ)) (text : List ℕ) (found : List Piece) (tree : Tree) → PassesAtoms test atoms → ((i : ℕ) → test (Input i) ≡ true) → Spells (tokens_among atoms known text found) tree → all_leaves test tree ≡ true
+leaves_of : (test : Tree → Bool) (atoms : Atoms) (known : List (List ℕ)) (text : List ℕ) (found : List Piece) (tree : Tree) → PassesAtoms test atoms → ((i : ℕ) → test (Input i) ≡ true) → HasLeaves (tokens_among atoms known text found) tree → all_leaves test tree ≡ true
 leaves_of test atoms known text found tree h i s =
-    spelled_pass test (tokens_among atoms known text found) tree
-    (tokens_pass test atoms known text found h (everywhere (λ p. is_name (bytes_of text p) ≡ true → Passes test (name_token atoms known (bytes_of text p))) found (λ p _. any_name test atoms known (bytes_of text p) i))) s
+    s test ∙
+    (tokens_pass test atoms known text found h (everywhere (λ p. is_name (bytes_of text p) ≡ true → Passes test (name_token atoms known (bytes_of text p))) found (λ p _. any_name test atoms known (bytes_of text p) i)))
 
 literal_atoms : (atoms : Atoms) → PassesAtoms is_literal atoms
 literal_atoms (Script acc) = record { truths = record { yes = refl; no = refl }; numbers = λ n h. h; others = λ w. script_passes is_literal acc w (record { yes = refl; no = refl }) (λ _. refl) }
@@ -156,16 +157,16 @@ unfolding step
 all_named (Script acc) text = fold_named text (pieces text) [] refl
 all_named (Body picks) text = refl
 
-input_leaves : (atoms : Atoms) (text : List ℕ) (tree : Tree) → Spells (tokens_among atoms (names atoms text) text (pieces text)) tree → all_leaves (input_below (length (names atoms text))) tree ≡ true
+input_leaves : (atoms : Atoms) (text : List ℕ) (tree : Tree) → HasLeaves (tokens_among atoms (names atoms text) text (pieces text)) tree → all_leaves (input_below (length (names atoms text))) tree ≡ true
 input_leaves atoms text tree s =
-    spelled_pass (input_below (length (names atoms text))) (tokens_among atoms (names atoms text) text (pieces text)) tree
-    (tokens_pass (input_below (length (names atoms text))) atoms (names atoms text) text (pieces text) (input_atoms (length (names atoms text)) atoms) (names_there atoms text)) s
+    s (input_below (length (names atoms text))) ∙
+    (tokens_pass (input_below (length (names atoms text))) atoms (names atoms text) text (pieces text) (input_atoms (length (names atoms text)) atoms) (names_there atoms text))
 
 -- where all names are kept, the names and the tree make a script
-pub well_formed : (atoms : Atoms) (text : List ℕ) (kept : List (List ℕ)) (more : Bool) (tree : Tree) → KeepsFirst INPUTS kept more (names atoms text) → more ≡ false → Spells (tokens_among atoms kept text (pieces text)) tree → (kept ≡ names atoms text) × WellFormed kept tree
+pub well_formed : (atoms : Atoms) (text : List ℕ) (kept : List (List ℕ)) (more : Bool) (tree : Tree) → KeepsFirst INPUTS kept more (names atoms text) → more ≡ false → HasLeaves (tokens_among atoms kept text (pieces text)) tree → (kept ≡ names atoms text) × WellFormed kept tree
 well_formed atoms text kept more tree k m s =
     let all : kept ≡ names atoms text = k.first ∙ take_whole INPUTS (names atoms text) (not_more INPUTS (length (names atoms text)) more k.rest m) in
-    let spelled : Spells (tokens_among atoms (names atoms text) text (pieces text)) tree = subst (λ (l : List (List ℕ)). Spells (tokens_among atoms l text (pieces text)) tree) all s in (
+    let spelled : HasLeaves (tokens_among atoms (names atoms text) text (pieces text)) tree = subst (λ (l : List (List ℕ)). HasLeaves (tokens_among atoms l text (pieces text)) tree) all s in (
       all,
       subst (λ (l : List (List ℕ)). WellFormed l tree) (sym all) (record {
         few = subst (λ (l : List (List ℕ)). length l ≤ INPUTS) (sym k.first ∙ all) (length_take INPUTS (names atoms text));
@@ -176,10 +177,10 @@ well_formed atoms text kept more tree k m s =
     )
 
 -- the atoms of a script are those of its kind
-pub has_atoms : (atoms : Atoms) (text : List ℕ) (script : Scripted) → script.names ≡ names atoms text → Spells (tokens atoms text) script.tree → HasAtoms atoms script
+pub has_atoms : (atoms : Atoms) (text : List ℕ) (script : Scripted) → script.names ≡ names atoms text → HasLeaves (tokens atoms text) script.tree → HasAtoms atoms script
 has_atoms (Script acc) text script n s = (
   leaves_of (pick_below 0) (Script acc) (inputs (Script acc) text) text (pieces text) script.tree (no_pick_atoms acc) (λ i. refl) s,
-  λ e. let without : Spells (tokens (Script false) text) script.tree = subst (λ (b : Bool). Spells (tokens (Script b) text) script.tree) e s in
+  λ e. let without : HasLeaves (tokens (Script false) text) script.tree = subst (λ (b : Bool). HasLeaves (tokens (Script b) text) script.tree) e s in
       leaves_of is_not_acc (Script false) (inputs (Script false) text) text (pieces text) script.tree no_acc_atoms (λ i. refl) without,
 )
 has_atoms (Body picks) text script n s = record {
@@ -191,12 +192,12 @@ has_atoms (Body picks) text script n s = record {
 same_tokens : (atoms : Atoms) (text : List ℕ) (kept : List (List ℕ)) (more : Bool) (found : List Piece) → KeepsFirst INPUTS kept more (names atoms text) → found ≡ pieces text → tokens_among atoms kept text found ≡ tokens atoms text
 same_tokens atoms text kept more found k e = ap (λ l. tokens_among atoms l text found) k.first ∙ ap (tokens_among atoms (inputs atoms text) text) e
 
--- what the tokens of a text spell, in each of the two forms
-pub spells_text : (atoms : Atoms) (text : List ℕ) (kept : List (List ℕ)) (more : Bool) (found : List Piece) (read : List Token) (tree : Tree) → KeepsFirst INPUTS kept more (names atoms text) → found ≡ pieces text → read ≡ tokens_among atoms kept text found → Spells read tree → Spells (tokens atoms text) tree
-spells_text atoms text kept more found read tree k e r s = subst (λ (l : List Token). Spells l tree) (r ∙ same_tokens atoms text kept more found k e) s
+-- the tokens that were read are those of the text
+pub read_text : (atoms : Atoms) (text : List ℕ) (kept : List (List ℕ)) (more : Bool) (found : List Piece) (read : List Token) → KeepsFirst INPUTS kept more (names atoms text) → found ≡ pieces text → read ≡ tokens_among atoms kept text found → read ≡ tokens atoms text
+read_text atoms text kept more found read k e r = r ∙ same_tokens atoms text kept more found k e
 
-pub spells_kept : (atoms : Atoms) (text : List ℕ) (kept : List (List ℕ)) (found : List Piece) (read : List Token) (tree : Tree) → found ≡ pieces text → read ≡ tokens_among atoms kept text found → Spells read tree → Spells (tokens_among atoms kept text (pieces text)) tree
-spells_kept atoms text kept found read tree e r s = subst (λ (l : List Token). Spells l tree) (r ∙ ap (tokens_among atoms kept text) e) s
+pub read_kept : (atoms : Atoms) (text : List ℕ) (kept : List (List ℕ)) (found : List Piece) (read : List Token) → found ≡ pieces text → read ≡ tokens_among atoms kept text found → read ≡ tokens_among atoms kept text (pieces text)
+read_kept atoms text kept found read e r = r ∙ ap (tokens_among atoms kept text) e
 
 pub few_kept : (all kept : List (List ℕ)) (more : Bool) → KeepsFirst INPUTS kept more all → length kept ≤ INPUTS
 few_kept all kept more k = omega (arith, ap length k.first, length_take INPUTS all)

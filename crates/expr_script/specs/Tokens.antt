@@ -6,7 +6,8 @@ use Rattle.script_tree.specs.Names.{is_name}
 use Rattle.script_tree.specs.Tree.{Tree}
 use Rattle.script_tree.specs.Scripts.{Scripted, HasNoPicks, HasNoAcc, IsBody}
 use Rattle.script_grammar.specs.declared.token.Token.{Token}
-use Rattle.script_grammar.specs.Grammar.{Spells, IsSyntaxAt, IsTooDeepAt}
+use Rattle.script_grammar.specs.Grammar.{Spells, BeginsWithin, IsTooDeepAt}
+use Rattle.script_grammar.specs.Refusals.{IsFirstFaultAt}
 use Rattle.script_grammar.specs.declared.reader.Refusal.{Refusal}
 use Rattle.script_grammar.specs.declared.reader.Refusal.TheVariants as refusal
 use Rattle.expr_script.specs.declared.atoms.Atoms.{Atoms}
@@ -58,9 +59,9 @@ fault_of found end refusal.Memory = Memory
 
 -- what each fault says of a text
 abbrev pub IsFault : Atoms → List ℕ → ScriptFault → Type 0
-IsFault atoms text (Syntax at) = (k : ℕ) × IsSyntaxAt (tokens atoms text) k × (at ≡ place text k)
+IsFault atoms text (Syntax at) = (k : ℕ) × IsFirstFaultAt LEVELS (tokens atoms text) k × (at ≡ place text k)
 IsFault atoms text (TooDeep at) = (k : ℕ) × IsTooDeepAt LEVELS (tokens atoms text) k × (at ≡ place text k)
-IsFault atoms text TooManyInputs = (tree : Tree) × Spells (tokens atoms text) tree × (INPUTS < length (names atoms text))
+IsFault atoms text TooManyInputs = (tree : Tree) × Spells (tokens atoms text) tree × BeginsWithin LEVELS (tokens atoms text) × (INPUTS < length (names atoms text))
 IsFault atoms text Memory = Unit {0}
 
 -- which atoms stand in a script of each kind

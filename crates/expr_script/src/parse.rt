@@ -1,7 +1,7 @@
 // A script from its text.
 
 ghost use Rattle.std.specs.Prelude.{◌≡◌, ◌+◌, ◌≤◌, length, All, IfOk, IfErr};
-ghost use Rattle.script_grammar.specs.Grammar.{Spells};
+ghost use Rattle.script_grammar.specs.Grammar.{BeginsWithin, Spells};
 ghost use Rattle.expr_script.specs.Inputs.{KeepsFirst};
 ghost use Rattle.expr_script.specs.Pieces.{pieces};
 ghost use Rattle.expr_script.specs.Tokens.{names, tokens, fault_of, IsFault, HasAtoms};
@@ -12,7 +12,7 @@ use crate::inputs::Inputs;
 use crate::lexer::{place_at, tokens_of};
 use crate::pieces::{Piece, pieces};
 use script_grammar::reader::{Refusal, read_script};
-use script_tree::limits::{INPUTS, LINE_BYTES};
+use script_tree::limits::{INPUTS, LEVELS, LINE_BYTES};
 use script_tree::memory::OutOfMemory;
 use script_tree::script::Script;
 use std::alloc::Global;
@@ -50,6 +50,7 @@ fn fault_of(refusal: Refusal, found: &[Piece], end: usize) -> ScriptFault
 pub fn parse(alloc: Global, text: &[u8], atoms: Atoms) -> Result<Script, ScriptFault>
     requires { length text.now ≤ LINE_BYTES }
     ensures tree { IfOk result (λ script. Spells (tokens atoms text.now) script.tree) }
+    ensures shallow { IfOk result (λ _. BeginsWithin LEVELS (tokens atoms text.now)) }
     ensures names { IfOk result (λ script. script.names ≡ names atoms text.now) }
     ensures atoms { IfOk result (HasAtoms atoms) }
     ensures fault { IfErr result (IsFault atoms text.now) }

@@ -2,13 +2,13 @@
 
 ghost use Rattle.std.specs.Prelude.{◌≡◌, ◌≢◌, ◌≤◌, false, length, IfOk, IfErr};
 ghost use Rattle.script_tree.specs.Scripts.{HasNoPicks, HasNoAcc, IsBody};
-ghost use Rattle.script_grammar.specs.Grammar.{Spells};
+ghost use Rattle.script_grammar.specs.Grammar.{BeginsWithin, Spells};
 ghost use Rattle.expr_script.specs.Tokens.{script_names, script_tokens, body_tokens, IsScriptFault, IsBodyFault};
 
 use crate::atoms::Atoms;
 use crate::faults::ScriptFault;
 use crate::parse::parse;
-use script_tree::limits::{LINE_BYTES, SELECTORS};
+use script_tree::limits::{LEVELS, LINE_BYTES, SELECTORS};
 use script_tree::script::Script;
 use std::alloc::Global;
 
@@ -19,6 +19,7 @@ use std::alloc::Global;
 pub fn parse_script(alloc: Global, text: &str, acc: bool) -> Result<Script, ScriptFault>
     requires { length text.now ≤ LINE_BYTES }
     ensures tree { IfOk result (λ script. Spells (script_tokens acc text.now) script.tree) }
+    ensures shallow { IfOk result (λ _. BeginsWithin LEVELS (script_tokens acc text.now)) }
     ensures names { IfOk result (λ script. script.names ≡ script_names text.now) }
     ensures picks { IfOk result HasNoPicks }
     ensures acc { acc ≡ false → IfOk result HasNoAcc }
@@ -31,6 +32,7 @@ pub fn parse_script(alloc: Global, text: &str, acc: bool) -> Result<Script, Scri
 pub fn parse_script_bytes(alloc: Global, text: &[u8], acc: bool) -> Result<Script, ScriptFault>
     requires { length text.now ≤ LINE_BYTES }
     ensures tree { IfOk result (λ script. Spells (script_tokens acc text.now) script.tree) }
+    ensures shallow { IfOk result (λ _. BeginsWithin LEVELS (script_tokens acc text.now)) }
     ensures names { IfOk result (λ script. script.names ≡ script_names text.now) }
     ensures picks { IfOk result HasNoPicks }
     ensures acc { acc ≡ false → IfOk result HasNoAcc }
@@ -47,6 +49,7 @@ pub fn parse_body(alloc: Global, text: &str, picks: u32) -> Result<Script, Scrip
     requires some { 1 ≤ picks }
     requires few { picks ≤ SELECTORS }
     ensures tree { IfOk result (λ script. Spells (body_tokens picks text.now) script.tree) }
+    ensures shallow { IfOk result (λ _. BeginsWithin LEVELS (body_tokens picks text.now)) }
     ensures body { IfOk result (IsBody picks) }
     ensures fault { IfErr result (IsBodyFault picks text.now) }
 {
@@ -59,6 +62,7 @@ pub fn parse_body_bytes(alloc: Global, text: &[u8], picks: u32) -> Result<Script
     requires some { 1 ≤ picks }
     requires few { picks ≤ SELECTORS }
     ensures tree { IfOk result (λ script. Spells (body_tokens picks text.now) script.tree) }
+    ensures shallow { IfOk result (λ _. BeginsWithin LEVELS (body_tokens picks text.now)) }
     ensures body { IfOk result (IsBody picks) }
     ensures fault { IfErr result (IsBodyFault picks text.now) }
 {
