@@ -1,21 +1,19 @@
 -- The leaves of a script come from its tokens.
-use Rattle.std.proofs.Common.{◌≡◌, ℕ, ◌^◌, Bool, true, false, List, [], ◌∷◌, ◌++◌, refl, ap, ◌∙◌, subst}
-use Rattle.std.specs.Prelude.{◌&&◌, if◌then◌else◌, map, nat_lt, pos, codes}
+use Rattle.std.proofs.Common.{◌≡◌, ℕ, ◌^◌, Bool, true, false, List, [], ◌∷◌, refl, ap, ◌∙◌}
+use Rattle.std.specs.Prelude.{◌&&◌, if◌then◌else◌, nat_lt, pos, codes}
 use Rattle.std.specs.Str.{bytes_eq}
 use Rattle.std.specs.Char.{is_ascii_digit}
-use Rattle.std.specs.List.{list_all, AllByRecursion}
+use Rattle.std.specs.List.{list_all}
 use Rattle.script_tree.specs.Tree.{Tree, Number, Constant, Pick, Acc}
 use Rattle.script_tree.specs.Names.{is_name}
 use Rattle.script_tree.specs.Scripts.{all_leaves}
-use Rattle.script_grammar.specs.declared.token.Word.{Word}
 use Rattle.script_grammar.specs.declared.token.Word.TheVariants as word
 use Rattle.script_grammar.specs.declared.token.Token.{Token}
 use Rattle.script_grammar.specs.declared.token.Token.TheVariants as token
 use Rattle.script_grammar.specs.Words.{all_words}
-use Rattle.script_grammar.specs.Grammar.{Written, Plain, Inside, Before, Between, Choice, word_tree, sign, mark, tokens, tree, Spells}
+use Rattle.script_grammar.specs.Grammar.{word_tree}
 use Rattle.expr_script.specs.declared.atoms.Atoms.{Atoms}
 use Rattle.expr_script.specs.declared.atoms.Atoms.TheVariants.{Script, Body}
-use Rattle.expr_script.specs.declared.pieces.Piece.{Piece}
 use Rattle.expr_script.specs.Words.{value, number, name_token, look_up, short_signs, long_signs, script_words, short_sign, sign_token, fixed_token, pick_token, other_token, token as token_of}
 
 -- whether a token's leaf, if it has one, passes a test

@@ -22,7 +22,7 @@ use Rattle.expr_script.specs.Pieces.{pieces, bytes_of}
 use Rattle.expr_script.specs.Words.{place_of, name_token, token}
 use Rattle.expr_script.specs.Tokens.{with_name, names_among, names, inputs, tokens_among, tokens, HasAtoms}
 use Rattle.expr_script.proofs.Kept.{with_known, with_new, place_of-le, take_whole}
-use Rattle.expr_script.proofs.Leaves.{passes, Passes, PassesAtoms, and_both, and_left, script_passes, body_passes, token_passes, words_cons, HasLeaves}
+use Rattle.expr_script.proofs.Leaves.{Passes, PassesAtoms, and_both, and_left, script_passes, body_passes, token_passes, words_cons, HasLeaves}
 
 lt_step : (t : Bool) (p' l' p l : ℕ) → (p' < l' → p < l) → (if t then 0 else p' + 1) < suc l' → (if t then 0 else p + 1) < suc l
 lt_step true p' l' p l f h = omega arith

@@ -1,4 +1,5 @@
-//! Scripts as text: read, and printed in their canonical form.
+//! Scripts as text. `parse_script` and `parse_body` read them, and `print_script` writes the canonical form, whatever
+//! blanks, parentheses and zeros a text had. `pieces` cuts a line into the words and signs of the language.
 #![tactic(auto)]
 
 mod atoms;
@@ -21,3 +22,6 @@ pub use script_tree::name::{Name, NameList};
 pub use script_tree::picks::Picks;
 pub use script_tree::script::Script;
 pub use script_tree::value::{Fault, Value};
+
+#[cfg(test)]
+mod tests;

@@ -93,7 +93,8 @@ fn one_byte(
 }
 
 /// The words and signs of a line, in their order: a word is a longest run of ASCII letters, digits and `_`, of signs
-/// the longest is taken, blanks are space and tab, and any other byte is a piece by itself. Takes memory.
+/// the longest is taken, blanks are space and tab, and any other byte is a piece by itself. The bytes need not be
+/// UTF-8. Takes memory; want of it is the one error.
 pub fn pieces(alloc: Global, text: &[u8]) -> Result<Vec<Piece>, OutOfMemory>
     ensures found { IfOk result (λ found. found.items ≡ pieces text.now) }
     ensures within { IfOk result (λ found. All (λ piece. piece.from + piece.len ≤ length text.now) found.items) }

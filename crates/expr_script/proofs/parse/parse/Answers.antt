@@ -1,5 +1,4 @@
-use Rattle.std.proofs.Common.{◌≡◌, List, sym, ◌∙◌, subst}
-use Rattle.script_tree.specs.Scripts.{Scripted}
+use Rattle.std.proofs.Common.{List, sym, ◌∙◌, subst}
 use Rattle.script_tree.specs.Tree.{Tree, tree_of}
 use Rattle.script_tree.specs.declared.limits.TheConstants.{LEVELS}
 use Rattle.script_grammar.specs.Grammar.{Spells, BeginsWithin}
@@ -14,29 +13,30 @@ tokens_of-requires-clause-few c = few_kept (names c.args.atoms c.args.text.now) 
 
 pub returns-then-inputs-clause-fault : goal.returns-then-inputs-clause-fault
 returns-then-inputs-clause-fault c =
-    let read = read_text c.args.atoms c.args.text.now c.in_ok-inputs.inputs.names c.in_ok-inputs.inputs.more c.deref-2.result.now c.deref-3.result.now c.in_ok-inputs.ensures (c.deref-2.ensures.value ∙ c.in_ok-pieces.ensures.found) (c.deref-3.ensures.value ∙ c.in_ok-tokens.ensures) in
-    (tree_of c.in-Ok.tree,
-     subst (λ (l : List Token). Spells l (tree_of c.in-Ok.tree)) read c.in-Ok.ensures.found,
-     subst (λ (l : List Token). BeginsWithin LEVELS l) read c.in-Ok.ensures.shallow,
-     many_names (names c.args.atoms c.args.text.now) c.in_ok-inputs.inputs.names c.in_ok-inputs.inputs.more c.in_ok-inputs.ensures c.if-inputs.true)
+    let read = read_text c.args.atoms c.args.text.now c.in_ok-inputs.inputs.names c.in_ok-inputs.inputs.more c.deref-2.result.now c.deref-3.result.now c.in_ok-inputs.ensures (c.deref-2.ensures.value ∙ c.in_ok-pieces.ensures.found) (c.deref-3.ensures.value ∙ c.in_ok-tokens.ensures) in (
+      tree_of c.in-Ok.tree,
+      subst (λ (l : List Token). Spells l (tree_of c.in-Ok.tree)) read c.in-Ok.ensures.found,
+      subst (λ (l : List Token). BeginsWithin LEVELS l) read c.in-Ok.ensures.shallow,
+      many_names (names c.args.atoms c.args.text.now) c.in_ok-inputs.inputs.names c.in_ok-inputs.inputs.more c.in_ok-inputs.ensures c.if-inputs.true,
+    )
 
 pub new-requires : goal.new-requires
 new-requires c = (well_formed c.args.atoms c.args.text.now c.in_ok-inputs.inputs.names c.in_ok-inputs.inputs.more (tree_of c.in-Ok.tree) c.in_ok-inputs.ensures c.if-inputs.false
-      (subst (λ (l : List Token). HasLeaves l (tree_of c.in-Ok.tree))
-        (read_kept c.args.atoms c.args.text.now c.in_ok-inputs.inputs.names c.deref-2.result.now c.deref-3.result.now (c.deref-2.ensures.value ∙ c.in_ok-pieces.ensures.found) (c.deref-3.ensures.value ∙ c.in_ok-tokens.ensures))
-        c.in-Ok.ensures.leaves)).1
+    (subst (λ (l : List Token). HasLeaves l (tree_of c.in-Ok.tree))
+    (read_kept c.args.atoms c.args.text.now c.in_ok-inputs.inputs.names c.deref-2.result.now c.deref-3.result.now (c.deref-2.ensures.value ∙ c.in_ok-pieces.ensures.found) (c.deref-3.ensures.value ∙ c.in_ok-tokens.ensures))
+    c.in-Ok.ensures.leaves)).1
 
 pub returns-clause-names : goal.returns-clause-names
 returns-clause-names c = c.new.ensures.names ∙ (well_formed c.args.atoms c.args.text.now c.in_ok-inputs.inputs.names c.in_ok-inputs.inputs.more (tree_of c.in-Ok.tree) c.in_ok-inputs.ensures c.if-inputs.false
-      (subst (λ (l : List Token). HasLeaves l (tree_of c.in-Ok.tree))
-        (read_kept c.args.atoms c.args.text.now c.in_ok-inputs.inputs.names c.deref-2.result.now c.deref-3.result.now (c.deref-2.ensures.value ∙ c.in_ok-pieces.ensures.found) (c.deref-3.ensures.value ∙ c.in_ok-tokens.ensures))
-        c.in-Ok.ensures.leaves)).0
+    (subst (λ (l : List Token). HasLeaves l (tree_of c.in-Ok.tree))
+    (read_kept c.args.atoms c.args.text.now c.in_ok-inputs.inputs.names c.deref-2.result.now c.deref-3.result.now (c.deref-2.ensures.value ∙ c.in_ok-pieces.ensures.found) (c.deref-3.ensures.value ∙ c.in_ok-tokens.ensures))
+    c.in-Ok.ensures.leaves)).0
 
 pub returns-clause-atoms : goal.returns-clause-atoms
 returns-clause-atoms c =
     has_atoms c.args.atoms c.args.text.now c.new.result (c.new.ensures.names ∙ (well_formed c.args.atoms c.args.text.now c.in_ok-inputs.inputs.names c.in_ok-inputs.inputs.more (tree_of c.in-Ok.tree) c.in_ok-inputs.ensures c.if-inputs.false
-      (subst (λ (l : List Token). HasLeaves l (tree_of c.in-Ok.tree))
-        (read_kept c.args.atoms c.args.text.now c.in_ok-inputs.inputs.names c.deref-2.result.now c.deref-3.result.now (c.deref-2.ensures.value ∙ c.in_ok-pieces.ensures.found) (c.deref-3.ensures.value ∙ c.in_ok-tokens.ensures))
-        c.in-Ok.ensures.leaves)).0)
-      (subst (λ (t : Tree). HasLeaves (tokens c.args.atoms c.args.text.now) t) (sym c.new.ensures.tree)
-        (subst (λ (l : List Token). HasLeaves l (tree_of c.in-Ok.tree)) (read_text c.args.atoms c.args.text.now c.in_ok-inputs.inputs.names c.in_ok-inputs.inputs.more c.deref-2.result.now c.deref-3.result.now c.in_ok-inputs.ensures (c.deref-2.ensures.value ∙ c.in_ok-pieces.ensures.found) (c.deref-3.ensures.value ∙ c.in_ok-tokens.ensures)) c.in-Ok.ensures.leaves))
+    (subst (λ (l : List Token). HasLeaves l (tree_of c.in-Ok.tree))
+    (read_kept c.args.atoms c.args.text.now c.in_ok-inputs.inputs.names c.deref-2.result.now c.deref-3.result.now (c.deref-2.ensures.value ∙ c.in_ok-pieces.ensures.found) (c.deref-3.ensures.value ∙ c.in_ok-tokens.ensures))
+    c.in-Ok.ensures.leaves)).0)
+    (subst (λ (t : Tree). HasLeaves (tokens c.args.atoms c.args.text.now) t) (sym c.new.ensures.tree)
+    (subst (λ (l : List Token). HasLeaves l (tree_of c.in-Ok.tree)) (read_text c.args.atoms c.args.text.now c.in_ok-inputs.inputs.names c.in_ok-inputs.inputs.more c.deref-2.result.now c.deref-3.result.now c.in_ok-inputs.ensures (c.deref-2.ensures.value ∙ c.in_ok-pieces.ensures.found) (c.deref-3.ensures.value ∙ c.in_ok-tokens.ensures)) c.in-Ok.ensures.leaves))
