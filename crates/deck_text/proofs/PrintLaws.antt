@@ -1,16 +1,30 @@
 -- Printing lists item by item.
-use Rattle.std.proofs.Common.{◌≡◌, ℕ, suc, ◌+◌, ◌<◌, ◌≤◌, List, [], ◌∷◌, ◌++◌, length, get_or, drop, refl, sym, ap, ◌∙◌, arith, add-one, drop-cons}
-use Rattle.std.specs.Prelude.{map}
+use Rattle.std.proofs.Common.{◌≡◌, ℕ, zero, suc, ◌+◌, ◌<◌, ◌≤◌, List, [], ◌∷◌, ◌++◌, length, get_or, drop, refl, sym, ap, subst, ◌∙◌, arith, add-zero, add-one, drop-cons}
+use Rattle.std.specs.Prelude.{map, codes}
+use Rattle.std.specs.List.{All, AllByRecursion}
+use Rattle.std.proofs.lemmas.List.Elements.{All-from_recursion, All-tail}
+use Rattle.script_tree.specs.declared.value.Value.TheVariants.{Fault as Faulty}
+use Rattle.script_tree.specs.declared.value.Fault.TheVariants.{Kind}
+use Rattle.signal_graph.specs.declared.node.Node.TheVariants.{Source, Signal, Fold, Choose}
 use Rattle.std.proofs.lemmas.List.{drop_all}
 use Rattle.script_tree.specs.declared.value.Value.{Value}
 use Rattle.signal_graph.specs.declared.call.Call.{Call}
 use Rattle.signal_graph.specs.declared.node.Selector.{Selector}
 use Rattle.signal_graph.specs.declared.node.Node.{Node}
-use Rattle.signal_graph.specs.Graph.{Graph, name_at}
-use Rattle.deck_text.specs.Printed.{with_word, with_set, with_call, with_thread, with_selector, with_node, with_more_names, with_more_sets, with_calls, with_threads, with_more_selectors, with_nodes}
+use Rattle.signal_graph.specs.Graph.{Graph, IsGraph, IsNode, AreNodes, IsSelector, name_at, node_at}
+use Rattle.deck_text.specs.Printed.{with_word, with_set, with_call, with_thread, with_selector, with_node, with_names, with_more_names, with_sets, with_more_sets, with_looks, with_selectors, with_calls, with_threads, with_more_selectors, with_nodes, CandidatesBelow}
 
 drop_item : {A : Type 0} (xs : List A) (k : ℕ) (x : A) → k < length xs → x ≡ get_or xs k x → drop k xs ≡ x ∷ drop (k + 1) xs
 drop_item xs k x h e = rw (add-one, drop-cons xs k x) (ap (λ y. y ∷ drop (suc k) xs) (sym e))
+
+same_further : {A : Type 0} (xs : List A) (k : ℕ) (d e : A) → k < length xs → get_or xs k d ≡ get_or xs k e
+same_further [] k d e h = absurd (omega arith)
+same_further (x ∷ xs) zero d e h = refl
+same_further (x ∷ xs) (suc k) d e h = same_further xs k d e (omega arith)
+
+-- within a list the default doesn't count
+same_at : {A : Type 0} (xs : List A) (k : ℕ) (d : A) → k < length xs → get_or xs k d ≡ get_or xs k (get_or xs k d)
+same_at xs k d h = same_further xs k d (get_or xs k d) h
 
 pub name_next : (text : List ℕ) (names : List (List ℕ)) (k : ℕ) (name : List ℕ) → k < length names → name ≡ get_or names k name
     → with_more_names text (drop k names) ≡ with_more_names (with_word (text ++ 44 ∷ []) name) (drop (k + 1) names)
@@ -54,4 +68,82 @@ selector_next graph text selectors k s h e = ap (with_more_selectors graph text)
 pub selectors_done : (graph : Graph) (text : List ℕ) (selectors : List Selector) (k : ℕ) → length selectors ≤ k → with_more_selectors graph text (drop k selectors) ≡ text
 selectors_done graph text selectors k h = ap (with_more_selectors graph text) (drop_all k selectors h)
 
-pub ruleset print_laws = (name_next, names_done, set_next, sets_done, call_next, calls_done, thread_next, threads_done, candidate_next, candidates_done, selector_next, selectors_done)
+-- the node at an index, counted from k
+node_is : (names : List (List ℕ)) (k : ℕ) (nodes : List Node) (i : ℕ) (d : Node) → AreNodes names k nodes → i < length nodes → IsNode names (k + i) (get_or nodes i d)
+node_is names k [] i d h below = absurd (omega arith)
+node_is names k (node ∷ rest) zero d h below = rw add-zero h.0
+node_is names k (node ∷ rest) (suc i) d h below =
+    let further : (k + 1) + i ≡ k + suc i = omega arith in
+    subst (λ n. IsNode names n (get_or rest i d)) further (node_is names (k + 1) rest i d h.1 (omega arith))
+
+all_below : (n bound : ℕ) (ms : List ℕ) → AllByRecursion (λ m. m < n) ms → n ≤ bound → All (λ m. m < bound) ms
+all_below n bound ms h le = λ k d below. omega (arith, All-from_recursion (λ m. m < n) ms h k d below)
+
+candidates_of : (names : List (List ℕ)) (n bound : ℕ) (selectors : List Selector) → AllByRecursion (IsSelector names n) selectors → n ≤ bound → AllByRecursion (λ s. All (λ m. m < bound) s.candidates) selectors
+candidates_of names n bound [] h le = tt
+candidates_of names n bound (s ∷ rest) h le = (all_below n bound s.candidates h.0.candidates_earlier le, candidates_of names n bound rest h.1 le)
+
+candidates_below : (names : List (List ℕ)) (n bound : ℕ) (node : Node) → IsNode names n node → n ≤ bound → CandidatesBelow bound node
+candidates_below names n bound (Source start) h le = tt
+candidates_below names n bound (Signal script inputs) h le = tt
+candidates_below names n bound (Fold start script inputs) h le = tt
+candidates_below names n bound (Choose selectors body inputs) h le =
+    All-from_recursion (λ s. All (λ m. m < bound) s.candidates) selectors (candidates_of names n bound selectors h.2 le)
+
+-- the candidates of a graph's nodes are nodes of the graph
+pub graph_candidates : (graph : Graph) (n : ℕ) → IsGraph graph → n < length graph.nodes → CandidatesBelow (length graph.nodes) (node_at graph n)
+graph_candidates graph n h below =
+    candidates_below graph.names (0 + n) (length graph.nodes) _ (node_is graph.names 0 graph.nodes n (Source (Faulty Kind)) h.nodes below) (omega arith)
+
+pub node_next : (graph : Graph) (text : List ℕ) (k : ℕ) → k < length graph.nodes
+    → with_nodes graph text k (drop k graph.nodes) ≡ with_nodes graph (with_node graph text (name_at graph k) (node_at graph k)) (k + 1) (drop (k + 1) graph.nodes)
+node_next graph text k h = ap (with_nodes graph text k) (drop_item graph.nodes k (node_at graph k) h (same_at graph.nodes k _ h))
+
+pub nodes_done : (graph : Graph) (text : List ℕ) (k : ℕ) → length graph.nodes ≤ k → with_nodes graph text k (drop k graph.nodes) ≡ text
+nodes_done graph text k h = ap (with_nodes graph text k) (drop_all k graph.nodes h)
+
+pub ruleset print_laws = (graph_candidates, node_next, nodes_done, name_next, names_done, set_next, sets_done, call_next, calls_done, thread_next, threads_done, candidate_next, candidates_done, selector_next, selectors_done)
+
+pub no_names : (text : List ℕ) (names : List (List ℕ)) → length names ≡ 0 → with_names text names ≡ text
+no_names text [] h = refl
+no_names text (name ∷ names) h = absurd (omega arith)
+
+pub first_name : (text : List ℕ) (names : List (List ℕ)) (first : List ℕ) (rest : List (List ℕ)) → names ≡ first ∷ rest → with_names text names ≡ with_more_names (with_word text first) rest
+first_name text names first rest e = ap (with_names text) e
+
+pub no_sets : (text : List ℕ) (sets : List (List ℕ × Value)) → length sets ≡ 0 → with_sets text sets ≡ text
+no_sets text [] h = refl
+no_sets text (s ∷ sets) h = absurd (omega arith)
+
+pub first_set : (text : List ℕ) (sets : List (List ℕ × Value)) (first : List ℕ × Value) (rest : List (List ℕ × Value)) → sets ≡ first ∷ rest → with_sets text sets ≡ with_more_sets (with_set text first) rest
+first_set text sets first rest e = ap (with_sets text) e
+
+pub no_looks : (text : List ℕ) (names : List (List ℕ)) → length names ≡ 0 → with_looks text names ≡ text
+no_looks text [] h = refl
+no_looks text (name ∷ names) h = absurd (omega arith)
+
+pub some_looks : (text : List ℕ) (names : List (List ℕ)) → (length names ≡ 0 → ⊥) → with_looks text names ≡ with_names (with_word text (codes "look")) names
+some_looks text [] h = absurd (h refl)
+some_looks text (name ∷ names) h = refl
+
+pub no_candidates : (graph : Graph) (text : List ℕ) (ns : List ℕ) → length ns ≡ 0 → with_names text (map (name_at graph) ns) ≡ text
+no_candidates graph text [] h = refl
+no_candidates graph text (n ∷ ns) h = absurd (omega arith)
+
+pub first_candidate : (graph : Graph) (text : List ℕ) (ns : List ℕ) (first : ℕ) (rest : List ℕ) → ns ≡ first ∷ rest → with_names text (map (name_at graph) ns) ≡ with_more_names (with_word text (name_at graph first)) (map (name_at graph) rest)
+first_candidate graph text ns first rest e = ap (λ xs. with_names text (map (name_at graph) xs)) e
+
+pub no_selectors : (graph : Graph) (text : List ℕ) (selectors : List Selector) → length selectors ≡ 0 → with_selectors graph text selectors ≡ text
+no_selectors graph text [] h = refl
+no_selectors graph text (s ∷ selectors) h = absurd (omega arith)
+
+pub first_selector : (graph : Graph) (text : List ℕ) (selectors : List Selector) (first : Selector) (rest : List Selector) → selectors ≡ first ∷ rest → with_selectors graph text selectors ≡ with_more_selectors graph (with_selector graph text first) rest
+first_selector graph text selectors first rest e = ap (with_selectors graph text) e
+
+pub below_first : (bound : ℕ) (ns : List ℕ) (first : ℕ) (rest : List ℕ) → ns ≡ first ∷ rest → All (λ m. m < bound) ns → first < bound
+below_first bound ns first rest e h = subst (λ xs. All (λ m. m < bound) xs) e h 0 0 (omega arith)
+
+pub below_rest : (bound : ℕ) (ns : List ℕ) (first : ℕ) (rest : List ℕ) → ns ≡ first ∷ rest → All (λ m. m < bound) ns → All (λ m. m < bound) rest
+below_rest bound ns first rest e h = All-tail (λ m. m < bound) first rest (subst (λ xs. All (λ m. m < bound) xs) e h)
+
+pub ruleset first_laws = (no_names, first_name, no_sets, first_set, no_looks, some_looks, no_candidates, first_candidate, no_selectors, first_selector, below_first, below_rest)

@@ -38,9 +38,10 @@ fn ends_with_word(text: &[u8]) -> bool
 fn push_word(text: &mut Text, word: &[u8]) -> Result<(), OutOfMemory>
     ensures { OnOk result (text.new ≡ with_word text.old word.now) }
 {
-    if ends_with_word(text.as_slice()) {
-        text.push(b' ')?;
+    if !ends_with_word(text.as_slice()) {
+        return text.extend_from_slice(word);
     }
+    text.push(b' ')?;
     text.extend_from_slice(word)
 }
 
@@ -66,16 +67,15 @@ fn push_more_names(text: &mut Text, names: &[Name]) -> Result<(), OutOfMemory>
 }
 
 // Names, separated by commas.
+#[tactic(auto, using(crate::proofs::PrintLaws::first_laws))]
 fn push_names(text: &mut Text, names: &[Name]) -> Result<(), OutOfMemory>
     ensures { OnOk result (text.new ≡ with_names text.old names.now) }
 {
-    match names {
-        [] => Ok(()),
-        [first, rest @ ..] => {
-            push_word(text, first.as_slice())?;
-            push_more_names(text, rest)
-        }
-    }
+    let Some((first, rest)) = names.split_first() else {
+        return Ok(());
+    };
+    push_word(text, first.as_slice())?;
+    push_more_names(text, rest)
 }
 
 // A name, `=` and a value.
@@ -98,19 +98,19 @@ fn push_more_sets(text: &mut Text, sets: &[(Name, Value)]) -> Result<(), OutOfMe
     Ok(())
 }
 
+#[tactic(auto, using(crate::proofs::PrintLaws::first_laws))]
 fn push_sets(text: &mut Text, sets: &[(Name, Value)]) -> Result<(), OutOfMemory>
     ensures { OnOk result (text.new ≡ with_sets text.old sets.now) }
 {
-    match sets {
-        [] => Ok(()),
-        [first, rest @ ..] => {
-            push_set(text, first)?;
-            push_more_sets(text, rest)
-        }
-    }
+    let Some((first, rest)) = sets.split_first() else {
+        return Ok(());
+    };
+    push_set(text, first)?;
+    push_more_sets(text, rest)
 }
 
 // The looks of a fire, behind the word `look` where there are any.
+#[tactic(auto, using(crate::proofs::PrintLaws::first_laws))]
 fn push_looks(text: &mut Text, looks: &[Name]) -> Result<(), OutOfMemory>
     ensures { OnOk result (text.new ≡ with_looks text.old looks.now) }
 {
@@ -179,17 +179,16 @@ fn push_more_candidates(
 }
 
 // The names of candidates, separated by commas.
+#[tactic(auto, using(crate::proofs::PrintLaws::first_laws))]
 fn push_candidates(text: &mut Text, graph: &Graph, candidates: &[u32]) -> Result<(), OutOfMemory>
     requires { All (λ m. m < length graph.now.nodes) candidates.now }
     ensures { OnOk result (text.new ≡ with_names text.old (map (name_at graph.now) candidates.now)) }
 {
-    match candidates {
-        [] => Ok(()),
-        [first, rest @ ..] => {
-            push_word(text, graph.name(*first).as_slice())?;
-            push_more_candidates(text, graph, rest)
-        }
-    }
+    let Some((first, rest)) = candidates.split_first() else {
+        return Ok(());
+    };
+    push_word(text, graph.name(*first).as_slice())?;
+    push_more_candidates(text, graph, rest)
 }
 
 // A script, `among` and the candidates.
@@ -225,6 +224,7 @@ fn push_more_selectors(
 }
 
 // Selectors, separated by colons.
+#[tactic(auto, using(crate::proofs::PrintLaws::first_laws))]
 fn push_selectors(
     alloc: Global,
     text: &mut Text,
@@ -234,13 +234,11 @@ fn push_selectors(
     requires { All (λ s. All (λ m. m < length graph.now.nodes) s.candidates) selectors.now }
     ensures { OnOk result (text.new ≡ with_selectors graph.now text.old selectors.now) }
 {
-    match selectors {
-        [] => Ok(()),
-        [first, rest @ ..] => {
-            push_selector(alloc, text, graph, first)?;
-            push_more_selectors(alloc, text, graph, rest)
-        }
-    }
+    let Some((first, rest)) = selectors.split_first() else {
+        return Ok(());
+    };
+    push_selector(alloc, text, graph, first)?;
+    push_more_selectors(alloc, text, graph, rest)
 }
 
 fn push_body(
