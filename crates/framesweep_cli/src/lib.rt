@@ -2,9 +2,13 @@
 #![tactic(auto)]
 
 pub mod command;
+mod ending;
 mod input;
 mod lines;
+mod output;
 mod stop;
+mod top;
 mod words;
 
+pub use top::{framesweep, framesweep_alone};
 pub use words::read_words;

@@ -4,6 +4,7 @@ ghost use Rattle.std.specs.Prelude.{◌≡◌, ◌++◌, length, OnOk, decimal};
 ghost use Rattle.std.specs.List.{zip};
 ghost use Rattle.report_text.specs.Report.{named_value, more_looks, looks_text, fire_looks, fire_text, reply_text, call_line, why_text, refused_line, final_line, done_line, names_of, values_of, Answers};
 
+use itoa::Buffer;
 use script_tree::items::Text;
 use script_tree::memory::OutOfMemory;
 use script_tree::name::Name;
@@ -168,11 +169,20 @@ pub fn print_final(out: &mut Text, name: &Name, value: Value) -> Result<(), OutO
     out.extend_from_slice(b"\n")
 }
 
+// A label with a length behind it.
+fn print_length(out: &mut Text, label: &[u8], length: usize) -> Result<(), OutOfMemory>
+    ensures { OnOk result (out.new ≡ out.old ++ (label.now ++ decimal length)) }
+{
+    let mut buffer = Buffer::new();
+    out.extend_from_slice(label)?;
+    out.extend_from_slice(buffer.format(length).as_bytes())
+}
+
 /// Adds the last line.
-pub fn print_done(out: &mut Text, accepted: u32, refused: u32) -> Result<(), OutOfMemory>
+pub fn print_done(out: &mut Text, accepted: usize, refused: usize) -> Result<(), OutOfMemory>
     ensures { OnOk result (out.new ≡ out.old ++ done_line accepted refused) }
 {
-    print_count(out, b"done ", accepted)?;
-    print_count(out, b" accepted ", refused)?;
+    print_length(out, b"done ", accepted)?;
+    print_length(out, b" accepted ", refused)?;
     out.extend_from_slice(b" refused\n")
 }

@@ -58,8 +58,6 @@ pub fn report(alloc: Global, graph: &Graph, finished: &Finished) -> Result<Text,
     print_calls(&mut out, finished.log.as_slice())?;
     print_all_refused(&mut out, finished.refused.as_slice())?;
     print_finals(&mut out, graph, finished.finals.as_slice())?;
-    let accepted = finished.log.len();
-    let refused = finished.refused.len() as u32;
-    print_done(&mut out, accepted, refused)?;
+    print_done(&mut out, finished.log.as_slice().len(), finished.refused.len())?;
     Ok(out)
 }

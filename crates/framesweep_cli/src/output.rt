@@ -1,0 +1,32 @@
+// What a command writes for a deck.
+
+ghost use Rattle.std.specs.Prelude.{◌≡◌, ◌≤◌, IfOk};
+ghost use Rattle.framesweep_cli.specs.Endings.{IsOutput, IsReport};
+
+use crate::command::Command;
+use deck_text::{Deck, print_deck};
+use report_text::report;
+use script_tree::items::Text;
+use script_tree::memory::OutOfMemory;
+use serial_machine::serial;
+use std::alloc::Global;
+
+// The report of the run of a deck, thread after thread.
+#[tactic(auto, using(crate::proofs::Answered::legal_answered))]
+fn run(alloc: Global, deck: &Deck, versions: u32) -> Result<Text, OutOfMemory>
+    ensures { IfOk result (IsReport deck.now versions) }
+{
+    let graph = deck.graph();
+    let finished = serial(alloc, graph, deck.scripts(), versions)?;
+    report(alloc, graph, &finished)
+}
+
+/// What a command writes for a deck. Takes memory.
+pub fn output(alloc: Global, command: &Command, deck: &Deck) -> Result<Text, OutOfMemory>
+    ensures { IfOk result (IsOutput command.now deck.now) }
+{
+    match command {
+        Command::Print => print_deck(alloc, deck),
+        Command::Run { versions } | Command::Serial { versions } => run(alloc, deck, *versions),
+    }
+}
