@@ -1,1 +1,4 @@
+pub mod Closure
+pub mod Kept
 pub mod SlotLemmas
+pub mod TableLemmas

@@ -1,6 +1,9 @@
 //! The recorded order of live calls: direct pairs between slots, and for each slot the set of all slots that precede it.
 #![tactic(auto)]
 
+pub use order::OrderGraph;
+
+mod order;
 mod slot_set;
 
 /// The largest number of callers, and so of slots.
