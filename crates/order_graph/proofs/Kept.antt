@@ -379,3 +379,8 @@ next_is_least n direct nodes before b from s (Some a) kept fits read h = record 
 pub none_is_next : (n : ℕ) (direct : List Slots) (nodes : List ℕ) (before : List Slots) (b from : ℕ) (s : Slots) (r : Option ℕ) → IsKept n direct nodes before → b < n → s ≡ get_or direct b s → IfNone r (HasNoneFrom s from) → IfNone r ((x : ℕ) → from ≤ x → ¬ (IsTrue (is_recorded (kept_pairs n direct nodes) x b)))
 none_is_next n direct nodes before b from s None kept fits read h = λ x at there. both_ways _ (recorded_there n direct nodes before b x s false kept fits read (h x at)) there
 none_is_next n direct nodes before b from s (Some a) kept fits read h = h
+
+-- Where nothing is recorded before a slot, nothing precedes it.
+pub none_precedes : (pairs : List Pair) (b from : ℕ) (r : Option ℕ) → from ≡ 0 → IfNone r ((x : ℕ) → from ≤ x → ¬ (IsTrue (is_recorded pairs x b))) → IfNone r ((x : ℕ) → ¬ (Precedes pairs x b))
+none_precedes pairs b from None zero_from h = λ x chained. let last = last_pair chained in h last.0 (omega arith) last.1
+none_precedes pairs b from (Some a) zero_from h = h

@@ -5,6 +5,8 @@ pub use order::OrderGraph;
 
 mod order;
 mod slot_set;
+#[cfg(test)]
+mod tests;
 
 /// The largest number of callers, and so of slots.
 pub const MAX_CALLERS: u32 = 256;

@@ -6,6 +6,7 @@ ghost use Rattle.order_graph.specs.Table.{slots_at, passed_on};
 
 use crate::MAX_CALLERS;
 use crate::slot_set::SlotSet;
+use script_tree::memory::OutOfMemory;
 use std::alloc::{AllocError, Global};
 use std::marker::Model;
 
@@ -37,7 +38,7 @@ impl Model for OrderGraph {
 
 impl OrderGraph {
     /// An order of `callers` slots without pairs. Takes all memory that the order will need.
-    pub fn new(alloc: Global, callers: u32) -> Result<OrderGraph, AllocError>
+    pub fn new(alloc: Global, callers: u32) -> Result<OrderGraph, OutOfMemory>
         requires some { 0 < callers }
         requires few { callers ≤ MAX_CALLERS }
         ensures { IfOk result (λ graph. graph ≡ without_pairs callers) }
@@ -66,6 +67,9 @@ impl OrderGraph {
         ensures slot { IfSome result (λ a. a < self.now.callers) }
         ensures some { IfSome result (IsNextBefore self.now.pairs b from) }
         ensures none { IfNone result ((x : ℕ) → from ≤ x → ¬ IsTrue (is_recorded self.now.pairs x b)) }
+
+        // Where nothing is a direct predecessor, nothing precedes.
+        ensures first { from ≡ 0 → IfNone result ((x : ℕ) → ¬ (Precedes self.now.pairs x b)) }
     {
         self.direct[b as usize].least_from(from)
     }
@@ -113,13 +117,14 @@ impl OrderGraph {
         take_out(self.before.as_mut_slice(), a);
     }
 
-    /// The number of callers is 1 to 256, each slot has a mask, and a slot is in the mask of another exactly where it
-    /// precedes that one.
+    /// What holds of every order: the number of callers is 1 to 256, each slot has a mask, a slot is in the mask of
+    /// another exactly where it precedes that one, and no slot precedes itself. Does nothing when it runs.
     pub fn masks_are_closure(&self)
         ensures some { 0 < self.now.callers }
         ensures few { self.now.callers ≤ MAX_CALLERS }
         ensures length { length self.now.masks ≡ self.now.callers }
         ensures closure { MasksAreClosure self.now }
+        ensures no_cycle { (a : ℕ) → ¬ (Precedes self.now.pairs a a) }
     {
         let _ = &self.before;
     }

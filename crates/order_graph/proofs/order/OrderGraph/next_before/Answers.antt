@@ -1,7 +1,7 @@
 use Rattle.std.proofs.Common.{ℕ, ◌<◌, ◌≤◌, ap, subst, arith}
 use Rattle.std.specs.Prelude.{IfSome, IfNone, IsTrue}
 use Rattle.order_graph.specs.Order.{Order, is_recorded, IsNextBefore}
-use Rattle.order_graph.proofs.Kept.{next_is_slot, next_is_least, none_is_next}
+use Rattle.order_graph.proofs.Kept.{next_is_slot, next_is_least, none_is_next, none_precedes}
 use Rattle.order_graph.proofs.order.OrderGraph.next_before.Goals as goal
 
 pub returns-clause-slot : goal.returns-clause-slot
@@ -21,3 +21,6 @@ returns-clause-none c =
     let fits : c.args.b < c.self.inside.callers = omega (arith, ap (λ o. o.callers) c.self.view_is) in
     let P = λ (o : Order). IfNone c.least_from.result ((x : ℕ) → c.args.from ≤ x → ¬ (IsTrue (is_recorded o.pairs x c.args.b))) in
     subst P c.self.view_is (none_is_next c.self.inside.callers c.self.inside.direct.items c.self.inside.nodes.items c.self.inside.before.items c.args.b c.args.from c.index.result.now c.least_from.result c.self.invariant fits c.index.ensures c.least_from.ensures.none)
+
+pub returns-clause-first : goal.returns-clause-first
+returns-clause-first c = λ at_start. none_precedes c.args.self.now.pairs c.args.b c.args.from c.least_from.result at_start (returns-clause-none c)
