@@ -1,4 +1,3 @@
 pub mod Closure
-pub mod Kept
+pub mod KeptLemmas
 pub mod SlotLemmas
-pub mod TableLemmas

@@ -1,3 +1,3 @@
+pub mod Kept
 pub mod Order
 pub mod Slots
-pub mod Table

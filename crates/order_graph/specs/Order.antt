@@ -1,16 +1,11 @@
 -- The recorded order of live calls: pairs of slots, and what they lead to.
-use Rattle.std.specs.Prelude.{◌≡◌, ℕ, ◌<◌, ◌≤◌, Bool, not, ◌&&◌, ◌||◌, ◌==◌, if◌then◌else◌, nat_lt, List, [], ◌∷◌, Option, find, filter, replicate, slice_index_or, IsTrue, ◌↔◌, refl}
+use Rattle.std.specs.Prelude.{◌≡◌, ℕ, ◌<◌, ◌≤◌, Bool, false, not, ◌&&◌, ◌||◌, ◌==◌, if◌then◌else◌, List, [], ◌∷◌, ◌++◌, Option, find, filter, replicate, slice_index_or, IsTrue, ◌↔◌, refl}
 use Rattle.std.specs.List.{list_any}
 use Rattle.std.specs.Option.{option_map}
 use Rattle.std.specs.Coded.{Coded, code_by, coded×, coded_list, coded_ℕ}
 use Rattle.std.specs.FinSet as set
 use Rattle.order_graph.specs.Slots.{Slots}
-
--- Slot `from` was recorded to come before slot `to`, first for this node.
-pub record Pair : Type 0 where
-  pub from : ℕ
-  pub to : ℕ
-  pub node : ℕ
+pub use Rattle.order_graph.specs.declared.pair.Pair.{Pair}
 
 -- this pair is recorded of a and b
 abbrev pub joins : ℕ → ℕ → Pair → Bool
@@ -29,18 +24,9 @@ pub data Precedes (pairs : List Pair) : ℕ → ℕ → Type 0 where
   by_pair : {a b : ℕ} → IsTrue (is_recorded pairs a b) → Precedes pairs a b
   by_chain : {a b c : ℕ} → IsTrue (is_recorded pairs a b) → Precedes pairs b c → Precedes pairs a c
 
--- Pairs stand in the order of the later slot, and then of the earlier one.
-abbrev pub stands_before : Pair → Pair → Bool
-stands_before p q = nat_lt p.to q.to || ((p.to == q.to) && nat_lt p.from q.from)
-
--- the pairs with one more, in its place
-abbrev pub with_pair : Pair → List Pair → List Pair
-with_pair p [] = p ∷ []
-with_pair p (q ∷ pairs) = if stands_before p q then p ∷ q ∷ pairs else (q ∷ with_pair p pairs)
-
--- The pairs with one of a and b. A pair that is recorded keeps its node.
+-- The pairs with one of a and b. A pair that is recorded keeps its node, and a new one stands last.
 abbrev pub linked : List Pair → ℕ → ℕ → ℕ → List Pair
-linked pairs a b node = if is_recorded pairs a b then pairs else with_pair (record { from = a; to = b; node = node }) pairs
+linked pairs a b node = if is_recorded pairs a b then pairs else (pairs ++ record { from = a; to = b; node = node } ∷ [])
 
 -- the pairs without those of slot a
 abbrev pub retired : List Pair → ℕ → List Pair
@@ -55,6 +41,11 @@ pub record Order : Type 0 where
 -- the mask of a slot
 abbrev pub mask_of : Order → ℕ → Slots
 mask_of order b = slice_index_or order.masks b set.empty
+
+-- no two pairs are of the same slots
+abbrev pub AreApart : List Pair → Type 0
+AreApart [] = Unit {0}
+AreApart (p ∷ pairs) = (is_recorded pairs p.from p.to ≡ false) × AreApart pairs
 
 -- Slot a is in the mask of slot b exactly where a precedes b.
 abbrev pub MasksAreClosure : Order → Type 0

@@ -2,8 +2,10 @@
 #![tactic(auto)]
 
 pub use order::OrderGraph;
+pub use pair::Pair;
 
 mod order;
+mod pair;
 mod slot_set;
 #[cfg(test)]
 mod tests;

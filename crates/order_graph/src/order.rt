@@ -1,10 +1,11 @@
 // The recorded order and its masks.
-ghost use Rattle.std.specs.Prelude.{◌≡◌, ◌≢◌, ℕ, ◌*◌, ◌<◌, ◌≤◌, ◌↔◌, map, replicate, length, vec_len, IsTrue, IfOk, IfSome, IfNone};
+ghost use Rattle.std.specs.Prelude.{◌≡◌, ◌≢◌, ℕ, ◌*◌, ◌<◌, ◌≤◌, ◌↔◌, map, replicate, length, vec_len, vec_capacity, IsTrue, IfOk, IfSome, IfNone};
 ghost use Rattle.std.specs.FinSet as set;
 ghost use Rattle.order_graph.specs.Order.{Precedes, is_recorded, node_of, linked, retired, mask_of, MasksAreClosure, without_pairs, IsNextBefore};
-ghost use Rattle.order_graph.specs.Table.{slots_at, passed_on};
+ghost use Rattle.order_graph.specs.Kept.{slots_at, passed_on};
 
 use crate::MAX_CALLERS;
+use crate::pair::Pair;
 use crate::slot_set::SlotSet;
 use script_tree::memory::OutOfMemory;
 use std::alloc::{AllocError, Global};
@@ -13,11 +14,13 @@ use std::marker::Model;
 /// The recorded order between the slots of live calls: pairs of slots, each with the node that it was first recorded
 /// for, and for each slot the set of all slots that precede it.
 ///
-/// Slots are the numbers below the number of callers. A slot precedes another where a chain of recorded pairs leads
+/// Contracts see the number of callers, the list of recorded pairs in the order in which they were recorded, and the
+/// sets, called masks, as a list with one mask per slot. Slots are the numbers below the number of callers. A slot precedes another where a chain of recorded pairs leads
 /// from the first to the second. The sets are kept beside the pairs, so that `precedes` reads one bit.
 #[derive(Drop)]
 pub struct OrderGraph {
     callers: u32,
+    pairs: Vec<Pair>,
     direct: Vec<SlotSet>,
     nodes: Vec<u32>,
     before: Vec<SlotSet>,
@@ -25,15 +28,17 @@ pub struct OrderGraph {
 
 impl Model for OrderGraph {
     ghost use Rattle.order_graph.specs.Order.{Order, order_code};
-    ghost use Rattle.order_graph.specs.Table.{order_of, IsKept};
+    ghost use Rattle.order_graph.specs.Kept.{order_of, IsKept};
+
+    ghost use Rattle.std.specs.Vec.{vec_capacity};
 
     ghost Value = { Order };
 
     ghost coded = { order_code };
 
-    ghost view = { λ g. order_of g.callers g.direct.items g.nodes.items g.before.items };
+    ghost view = { λ g. order_of g.callers g.pairs.items g.before.items };
 
-    ghost invariant = { λ g. IsKept g.callers g.direct.items g.nodes.items g.before.items };
+    ghost invariant = { λ g. IsKept g.callers (vec_capacity g.pairs) g.pairs.items g.direct.items g.nodes.items g.before.items };
 }
 
 impl OrderGraph {
@@ -43,10 +48,12 @@ impl OrderGraph {
         requires few { callers ≤ MAX_CALLERS }
         ensures { IfOk result (λ graph. graph ≡ without_pairs callers) }
     {
+        let cells = (callers * callers) as usize;
         Ok(OrderGraph {
             callers,
+            pairs: Vec::with_capacity(alloc, cells)?,
             direct: empty_sets(alloc, callers)?,
-            nodes: vec![in alloc; 0; (callers * callers) as usize]?,
+            nodes: vec![in alloc; 0; cells]?,
             before: empty_sets(alloc, callers)?,
         })
     }
@@ -100,6 +107,11 @@ impl OrderGraph {
         if self.direct[b as usize].contains(a) {
             return;
         }
+        self.pairs.push_reserved(Pair {
+            from: a,
+            to: b,
+            node,
+        });
         self.direct[b as usize].insert(a);
         self.nodes[(b * self.callers + a) as usize] = node;
         pass_on(self.before.as_mut_slice(), a, b);
@@ -113,6 +125,7 @@ impl OrderGraph {
         ensures pairs { self.new.pairs ≡ retired self.old.pairs a }
         ensures masks { MasksAreClosure self.new }
     {
+        remove_pairs(&mut self.pairs, a);
         take_out(self.direct.as_mut_slice(), a);
         take_out(self.before.as_mut_slice(), a);
     }
@@ -165,4 +178,12 @@ fn take_out(sets: &mut [SlotSet], slot: u32)
     for set in sets.iter_mut() {
         set.remove(slot);
     }
+}
+
+// Takes out the pairs of slot a. The others keep their order.
+fn remove_pairs(pairs: &mut Vec<Pair>, a: u32)
+    ensures pairs { pairs.new.items ≡ retired pairs.old.items a }
+    ensures capacity { vec_capacity pairs.new ≡ vec_capacity pairs.old }
+{
+    pairs.retain(|pair| !(pair.from == a || pair.to == a));
 }

@@ -1,4 +1,4 @@
-use Rattle.order_graph.proofs.Kept.{PassedBelow}
+use Rattle.order_graph.proofs.KeptLemmas.{PassedBelow}
 use Rattle.order_graph.proofs.order.pass_on.Given as goal
 
 abbrev pub invariant-loop-slot : goal.invariant-loop-slot
