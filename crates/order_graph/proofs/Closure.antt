@@ -119,19 +119,24 @@ masks_added old new a b adds m n were are x y = (there, back)
   where
     to_a : (((x == a) || m x a) ≡ true) → (x ≡ a) ⊎ Precedes old x a
     to_a h = elim (or_cases _ _ h) [ inl e ↦ inl (eqb-true x a e) | inr k ↦ inr ((were x a).0 k) ]
+
     from_b : (((y == b) || m b y) ≡ true) → (y ≡ b) ⊎ Precedes old b y
     from_b h = elim (or_cases _ _ h) [ inl e ↦ inl (eqb-true y b e) | inr k ↦ inr ((were b y).0 k) ]
+
     there : n x y ≡ true → Precedes new x y
     there h = elim (or_cases _ _ (sym (are x y) ∙ h)) [
       | inl was ↦ Precedes-kept old new a b adds ((were x y).0 was)
       | inr both ↦ let parts = and_parts _ _ both in through_pair old new a b adds x y (to_a parts.0) (from_pair old new a b adds y (from_b parts.1))
     ]
+
     is_to_a : (x ≡ a) ⊎ Precedes old x a → ((x == a) || m x a) ≡ true
     is_to_a (inl e) = or_left _ _ (eq-eqb x a e)
     is_to_a (inr k) = or_right _ _ ((were x a).1 k)
+
     is_from_b : (y ≡ b) ⊎ Precedes old b y → ((y == b) || m b y) ≡ true
     is_from_b (inl e) = or_left _ _ (eq-eqb y b e)
     is_from_b (inr k) = or_right _ _ ((were b y).1 k)
+
     back : Precedes new x y → n x y ≡ true
     back h = elim (split old new a b adds h) [
       | inl was ↦ are x y ∙ or_left _ _ ((were x y).1 was)
@@ -144,5 +149,6 @@ masks_dropped old new a drops none m n were are x y = (there, back)
   where
     there : n x y ≡ true → Precedes new x y
     there h = let parts = and_parts _ _ (sym (are x y) ∙ h) in Precedes-stays old new a drops none (eqb-false x a (not-true _ parts.0)) ((were x y).0 parts.1)
+
     back : Precedes new x y → n x y ≡ true
     back h = are x y ∙ and_from _ _ (not_from_false _ (ne_eqb x a (Precedes-not_from old new a drops h))) ((were x y).1 (Precedes-fewer old new a drops h))

@@ -74,7 +74,7 @@ cond_has false s t x = refl
 
 -- what a mask has after a pair joins
 pub has-passed_on : (masks : List Slots) (a b x y : ℕ) → finset.contains (passed_on masks a b y) x
-  ≡ (finset.contains (slots_at masks y) x || (((x == a) || finset.contains (slots_at masks a) x) && ((y == b) || finset.contains (slots_at masks y) b)))
+    ≡ (finset.contains (slots_at masks y) x || (((x == a) || finset.contains (slots_at masks a) x) && ((y == b) || finset.contains (slots_at masks y) b)))
 has-passed_on masks a b x y =
     let c = (y == b) || finset.contains (slots_at masks y) b in
     let m = finset.contains (slots_at masks y) x in
@@ -91,7 +91,7 @@ abbrev pub mask_test : List Slots → ℕ → ℕ → Bool
 mask_test masks x y = finset.contains (slots_at masks y) x
 
 passed_test : (old new : List Slots) (a b : ℕ) → b < length old → length new ≡ length old → ((y : ℕ) → y < length old → slots_at new y ≡ passed_on old a b y) → (x y : ℕ) → mask_test new x y
-  ≡ (mask_test old x y || (((x == a) || mask_test old x a) && ((y == b) || mask_test old b y)))
+    ≡ (mask_test old x y || (((x == a) || mask_test old x a) && ((y == b) || mask_test old b y)))
 passed_test old new a b h len passed x y = elim (cases_lt y (length old)) [
   | inl below ↦ ap (λ s. finset.contains s x) (passed y below) ∙ has-passed_on old a b x y
   | inr past ↦
@@ -111,7 +111,6 @@ has-without sets a x y = elim (cases_lt y (length sets)) [
   | inr past ↦ none_past (without sets a) x y (omega (arith, length-map sets (λ s. finset.remove s a))) ∙ sym (and_right (not (x == a)) (finset.contains (slots_at sets y) x) (none_past sets x y past))
 ]
 
-
 -- ---- pairs of slots, no two the same
 
 pub slots_of_recorded : (n : ℕ) (pairs : List Pair) → AreOfSlots n pairs → (x y : ℕ) → is_recorded pairs x y ≡ true → (x < n) × (y < n)
@@ -130,8 +129,8 @@ other_places n p [] few all h = tt
 other_places n p (q ∷ pairs) few all h =
     let parts = or_parts _ _ h in
     let other : place_of n p ≢ place_of n q = λ e.
-        let same = same_from_place p.to p.from q.to q.from n few all.0.0 e in
-        both_ways _ parts.0 (and_from _ _ (eq-eqb q.from p.from (sym same.1)) (eq-eqb q.to p.to (sym same.0))) in
+    let same = same_from_place p.to p.from q.to q.from n few all.0.0 e in
+    both_ways _ parts.0 (and_from _ _ (eq-eqb q.from p.from (sym same.1)) (eq-eqb q.to p.to (sym same.0))) in
     (ne_eqb (place_of n p) (place_of n q) other, other_places n p pairs few all.1 parts.1)
 
 distinct_places : (n : ℕ) (pairs : List Pair) → AreOfSlots n pairs → AreApart pairs → IsDistinct eqb (map (place_of n) pairs)
@@ -256,9 +255,9 @@ find_kept test keep h [] = refl
 find_kept test keep h (p ∷ pairs) = elim (cases_Bool (test p)) [
   | inl passes ↦ rw (h p passes, passes) refl
   | inr fails ↦ elim (cases_Bool (keep p)) [
-      | inl kept ↦ rw (kept, fails) (find_kept test keep h pairs)
-      | inr gone ↦ rw (gone, fails) (find_kept test keep h pairs)
-    ]
+    | inl kept ↦ rw (kept, fails) (find_kept test keep h pairs)
+    | inr gone ↦ rw (gone, fails) (find_kept test keep h pairs)
+  ]
 ]
 
 node_stays : (pairs : List Pair) (a x y : ℕ) → not ((x == a) || (y == a)) ≡ true → node_of (retired pairs a) x y ≡ node_of pairs x y
@@ -288,7 +287,7 @@ direct-retired pairs sets a same none x y =
 
 -- the cell of each pair when a pair joins
 nodes_linked : (n : ℕ) (pairs : List Pair) (cells : List ℕ) (a b node : ℕ) → a < n → b < n → AreOfSlots n pairs → b * n + a < length cells → ((x y : ℕ) → is_recorded pairs x y ≡ true → node_of pairs x y ≡ Some (get_or cells (y * n + x) 0)) → is_recorded pairs a b ≡ false
-  → (x y : ℕ) → (((x == a) && (y == b)) ≡ true) ⊎ (is_recorded pairs x y ≡ true) → node_of (with_pair pairs a b node) x y ≡ Some (get_or (set cells (b * n + a) node) (y * n + x) 0)
+    → (x y : ℕ) → (((x == a) && (y == b)) ≡ true) ⊎ (is_recorded pairs x y ≡ true) → node_of (with_pair pairs a b node) x y ≡ Some (get_or (set cells (b * n + a) node) (y * n + x) 0)
 nodes_linked n pairs cells a b node few fits all place nodes new x y (inl here) =
     let parts = and_parts (x == a) (y == b) here in
     let at_a = eqb-true x a parts.0 in
@@ -297,13 +296,13 @@ nodes_linked n pairs cells a b node few fits all place nodes new x y (inl here) 
 nodes_linked n pairs cells a b node few fits all place nodes new x y (inr was) =
     let slots = slots_of_recorded n pairs all x y was in
     let other : y * n + x ≢ b * n + a = λ e.
-        let same = same_from_place y x b a n slots.0 few e in
-        both_ways _ new (ap (λ k. is_recorded pairs k b) (sym same.1) ∙ ap (is_recorded pairs x) (sym same.0) ∙ was) in
+    let same = same_from_place y x b a n slots.0 few e in
+    both_ways _ new (ap (λ k. is_recorded pairs k b) (sym same.1) ∙ ap (is_recorded pairs x) (sym same.0) ∙ was) in
     node_kept pairs a b node x y was ∙ nodes x y was ∙ ap Some (sym (get_or-set_other cells (b * n + a) (y * n + x) node 0 other))
 
 pub kept-link : (n room more : ℕ) (pairs : List Pair) (earlier : List Slots) (cells : List ℕ) (before after : List Slots) (a b node : ℕ) → IsKept n room pairs earlier cells before → n * n ≤ more → a < n → b < n → a ≢ b → ¬ (Precedes pairs b a) → is_recorded pairs a b ≡ false
-  → length after ≡ length before → ((y : ℕ) → y < length before → slots_at after y ≡ passed_on before a b y)
-  → IsKept n more (with_pair pairs a b node) (set earlier b (finset.insert (slots_at earlier b) a)) (set cells (b * n + a) node) after
+    → length after ≡ length before → ((y : ℕ) → y < length before → slots_at after y ≡ passed_on before a b y)
+    → IsKept n more (with_pair pairs a b node) (set earlier b (finset.insert (slots_at earlier b) a)) (set cells (b * n + a) node) after
 kept-link n room more pairs earlier cells before after a b node kept enough few fits apart forward new len passed =
     let adds = adds-with_pair pairs a b node in
     let in_sets : b < length earlier = omega (arith, kept.sets) in
@@ -389,23 +388,23 @@ lost_slot len sets lent new a is lost size =
     whole_slice len new sets (ap length gone ∙ length-map sets (λ s. finset.remove s a)) size ∙ gone
 
 pub after_link : (n room more : ℕ) (pairs : List Pair) (earlier : List Slots) (cells : List ℕ) (before : List Slots) (a b node : ℕ) (was s larger : Slots) (longer : List Pair) (old new after : List Slots)
-  → IsKept n room pairs earlier cells before → more ≡ room → a < n → b < n → a ≢ b → ¬ (Precedes pairs b a)
-  → was ≡ get_or earlier b was → finset.contains was a ≡ false → longer ≡ with_pair pairs a b node
-  → s ≡ get_or earlier b s → larger ≡ finset.insert s a → old ≡ before → length new ≡ length old → ((y : ℕ) → y < length old → slots_at new y ≡ passed_on old a b y) → after ≡ new
-  → IsKept n more longer (set earlier b larger) (set cells (b * n + a) node) after
+    → IsKept n room pairs earlier cells before → more ≡ room → a < n → b < n → a ≢ b → ¬ (Precedes pairs b a)
+    → was ≡ get_or earlier b was → finset.contains was a ≡ false → longer ≡ with_pair pairs a b node
+    → s ≡ get_or earlier b s → larger ≡ finset.insert s a → old ≡ before → length new ≡ length old → ((y : ℕ) → y < length old → slots_at new y ≡ passed_on old a b y) → after ≡ new
+    → IsKept n more longer (set earlier b larger) (set cells (b * n + a) node) after
 after_link n room more pairs earlier cells before a b node was s larger longer old new after kept enough few fits apart forward first lacks one_more read added lent len passed is =
     let in_place : b < length earlier = omega (arith, kept.sets) in
     let unrecorded : is_recorded pairs a b ≡ false = recorded_there n room pairs earlier cells before b a was false kept fits first lacks in
     let added_there : larger ≡ finset.insert (slots_at earlier b) a = added ∙ ap (λ t. finset.insert t a) (read_set earlier b s in_place read) in
     let there : (length new ≡ length before) × ((y : ℕ) → y < length before → slots_at new y ≡ passed_on before a b y) =
-        subst (λ (m : List Slots). (length new ≡ length m) × ((y : ℕ) → y < length m → slots_at new y ≡ passed_on m a b y)) lent (len, passed) in
+    subst (λ (m : List Slots). (length new ≡ length m) × ((y : ℕ) → y < length m → slots_at new y ≡ passed_on m a b y)) lent (len, passed) in
     subst (λ (m : List Slots). IsKept n more longer (set earlier b larger) (set cells (b * n + a) node) m) (sym is)
     (subst (λ (t : Slots). IsKept n more longer (set earlier b t) (set cells (b * n + a) node) new) (sym added_there)
     (subst (λ (ps : List Pair). IsKept n more ps (set earlier b (finset.insert (slots_at earlier b) a)) (set cells (b * n + a) node) new) (sym one_more)
     (kept-link n room more pairs earlier cells before new a b node kept (omega (arith, kept.room)) few fits apart forward unrecorded there.0 there.1)))
 
 pub after_retire : (n room more : ℕ) (pairs fewer : List Pair) (earlier smaller : List Slots) (cells : List ℕ) (before after : List Slots) (a : ℕ)
-  → IsKept n room pairs earlier cells before → more ≡ room → ((x : ℕ) → ¬ (Precedes pairs x a)) → fewer ≡ retired pairs a → smaller ≡ without earlier a → after ≡ without before a → IsKept n more fewer smaller cells after
+    → IsKept n room pairs earlier cells before → more ≡ room → ((x : ℕ) → ¬ (Precedes pairs x a)) → fewer ≡ retired pairs a → smaller ≡ without earlier a → after ≡ without before a → IsKept n more fewer smaller cells after
 after_retire n room more pairs fewer earlier smaller cells before after a kept enough none gone is js =
     subst (λ (m : List Slots). IsKept n more fewer smaller cells m) (sym js)
     (subst (λ (d : List Slots). IsKept n more fewer d cells (without before a)) (sym is)

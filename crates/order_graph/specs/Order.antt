@@ -24,6 +24,11 @@ pub data Precedes (pairs : List Pair) : ℕ → ℕ → Type 0 where
   by_pair : {a b : ℕ} → IsTrue (is_recorded pairs a b) → Precedes pairs a b
   by_chain : {a b c : ℕ} → IsTrue (is_recorded pairs a b) → Precedes pairs b c → Precedes pairs a c
 
+-- Whether a chain leads from a to b, as a test: with one pair more, it goes through that pair once or not at all.
+abbrev pub reaches : List Pair → ℕ → ℕ → Bool
+reaches [] a b = false
+reaches (p ∷ pairs) a b = reaches pairs a b || (((p.from == a) || reaches pairs a p.from) && ((p.to == b) || reaches pairs p.to b))
+
 -- The pairs with one of a and b. A pair that is recorded keeps its node, and a new one stands last.
 abbrev pub linked : List Pair → ℕ → ℕ → ℕ → List Pair
 linked pairs a b node = if is_recorded pairs a b then pairs else (pairs ++ record { from = a; to = b; node = node } ∷ [])

@@ -4,6 +4,7 @@
 pub use order::OrderGraph;
 pub use pair::Pair;
 
+pub mod laws;
 mod order;
 mod pair;
 mod slot_set;

@@ -1,7 +1,7 @@
 // The recorded order and its masks.
 ghost use Rattle.std.specs.Prelude.{◌≡◌, ◌≢◌, ℕ, ◌*◌, ◌<◌, ◌≤◌, ◌↔◌, map, replicate, length, vec_len, vec_capacity, IsTrue, IfOk, IfSome, IfNone};
 ghost use Rattle.std.specs.FinSet as set;
-ghost use Rattle.order_graph.specs.Order.{Precedes, is_recorded, node_of, linked, retired, mask_of, MasksAreClosure, without_pairs, IsNextBefore};
+ghost use Rattle.order_graph.specs.Order.{Precedes, reaches, is_recorded, node_of, linked, retired, mask_of, MasksAreClosure, without_pairs, IsNextBefore};
 ghost use Rattle.order_graph.specs.Kept.{slots_at, passed_on};
 
 use crate::MAX_CALLERS;
@@ -29,7 +29,6 @@ pub struct OrderGraph {
 impl Model for OrderGraph {
     ghost use Rattle.order_graph.specs.Order.{Order, order_code};
     ghost use Rattle.order_graph.specs.Kept.{order_of, IsKept};
-
     ghost use Rattle.std.specs.Vec.{vec_capacity};
 
     ghost Value = { Order };
@@ -63,6 +62,7 @@ impl OrderGraph {
         requires a_is_slot { a < self.now.callers }
         requires b_is_slot { b < self.now.callers }
         ensures closure { IsTrue result ↔ Precedes self.now.pairs a b }
+        ensures test { result ≡ reaches self.now.pairs a b }
         ensures mask { result ≡ set.contains (mask_of self.now b) a }
     {
         self.before[b as usize].contains(a)

@@ -28,7 +28,12 @@ impl Draws {
 }
 
 // Draws one link or one retire, and makes it where its condition holds.
-fn step(order: &mut OrderGraph, pairs: &mut Vec<Recorded>, draws: &mut Draws, callers: u32) -> Result<(), OutOfMemory>
+fn step(
+    order: &mut OrderGraph,
+    pairs: &mut Vec<Recorded>,
+    draws: &mut Draws,
+    callers: u32,
+) -> Result<(), OutOfMemory>
     requires some { 0 < callers }
     requires callers { order.old.callers ≡ callers }
     ensures { order.new.callers ≡ callers }
@@ -68,7 +73,13 @@ fn reached_from(alloc: Global, pairs: &[Recorded], a: u32) -> Result<Vec<u32>, O
 }
 
 // Each pair of slots: whether one precedes the other, and the node of their pair.
-fn compare(rt: &impl Abort, alloc: Global, order: &OrderGraph, pairs: &[Recorded], callers: u32) -> Result<(), OutOfMemory>
+fn compare(
+    rt: &impl Abort,
+    alloc: Global,
+    order: &OrderGraph,
+    pairs: &[Recorded],
+    callers: u32,
+) -> Result<(), OutOfMemory>
     requires { order.now.callers ≡ callers }
 {
     for a in 0..callers {
@@ -109,11 +120,13 @@ fn worked_example(rt: HostRuntime) -> Result<(), Fail> {
     let mut order = OrderGraph::new(rt.alloc(), 3)?;
     order.link(0, 1, 7);
     order.link(1, 2, 8);
+    assert!(rt; !order.precedes(1, 0));
     order.link(0, 1, 9);
     assert!(rt; order.precedes(0, 2));
     assert_eq!(rt; order.node_of(0, 1), Some(7));
     assert_eq!(rt; order.node_of(0, 2), None);
     assert_eq!(rt; order.next_before(2, 0), Some(1));
+    assert!(rt; order.next_before(0, 0).is_none());
     order.retire(0);
     assert!(rt; !order.precedes(0, 2));
     assert!(rt; order.precedes(1, 2));

@@ -9,7 +9,7 @@ push_reserved-requires c =
     let few : c.args.a < c.self.inside.callers = omega (arith, ap (λ o. o.callers) c.self.view_is) in
     let fits : c.args.b < c.self.inside.callers = omega (arith, ap (λ o. o.callers) c.self.view_is) in
     let new : is_recorded c.self.inside.pairs.items c.args.a c.args.b ≡ false =
-        recorded_there c.self.inside.callers (vec_capacity c.self.inside.pairs) c.self.inside.pairs.items c.self.inside.direct.items c.self.inside.nodes.items c.self.inside.before.items c.args.b c.args.a c.index.result.now false c.self.invariant fits c.index.ensures (sym c.contains.ensures ∙ c.if-contains.false) in
+    recorded_there c.self.inside.callers (vec_capacity c.self.inside.pairs) c.self.inside.pairs.items c.self.inside.direct.items c.self.inside.nodes.items c.self.inside.before.items c.args.b c.args.a c.index.result.now false c.self.invariant fits c.index.ensures (sym c.contains.ensures ∙ c.if-contains.false) in
     let room = room_for_pair c.self.inside.callers c.self.inside.pairs.items c.args.a c.args.b c.self.invariant.slots c.self.invariant.apart few fits new in
     omega (arith, room, c.self.invariant.room)
 
