@@ -1,23 +1,22 @@
 -- What is kept of an order through its calls.
-use Rattle.std.proofs.Common.{◌≡◌, ◌≢◌, ℕ, zero, suc, ◌+◌, ◌*◌, ◌<◌, ◌≤◌, ◌⊎◌, inl, inr, Bool, true, false, not, ◌&&◌, ◌||◌, ◌==◌, eqb, ltb, cond, List, [], ◌∷◌, ◌++◌, length, get_or, set, map, take, drop, replicate, Option, Some, None, refl, sym, ap, ◌∙◌, subst, arith}
-use Rattle.std.specs.Prelude.{IsTrue, IfSome, IfNone, ◌↔◌}
+use Rattle.std.proofs.Common.{◌≡◌, ◌≢◌, ℕ, ◌+◌, ◌*◌, ◌<◌, ◌≤◌, ◌⊎◌, inl, inr, Bool, true, false, not, ◌&&◌, ◌||◌, ◌==◌, eqb, cond, List, [], ◌∷◌, ◌++◌, length, get_or, set, map, take, drop, replicate, Option, Some, None, refl, sym, ap, ◌∙◌, subst, arith}
+use Rattle.std.specs.Prelude.{IsTrue, IfSome, IfNone}
 use Rattle.std.specs.Option.{is_some, option_map, option_or}
 use Rattle.std.specs.List.{list_any, filter, find, AllByRecursion, IsDistinct}
 use Rattle.std.specs.Ordering.{nat_cmp, eq_by_cmp}
 use Rattle.std.specs.Cmp.{nat_cmp_total}
 use Rattle.std.specs.FinSet as finset
-use Rattle.std.proofs.lemmas.Bool.{cases_eq, cases_lt, cases_Bool, or_cases, or_left, or_right, or_from, or_parts, and_right, and_parts, and_from, eqb-true, eq-eqb, ne_eqb, not-true, false_from_ne_true, both_ways, false≢true}
+use Rattle.std.proofs.lemmas.Bool.{cases_eq, cases_lt, cases_Bool, or_cases, or_from, or_parts, and_right, and_parts, and_from, eqb-true, eq-eqb, ne_eqb, false_from_ne_true, both_ways, false≢true}
 use Rattle.std.proofs.lemmas.Bool.Decides.{nat_tests}
 use Rattle.std.proofs.lemmas.List.{get_or-set_same, get_or-set_other, get_or_past, get_or_default, length-set, take_at, get_or-map, length-map, get_or-replicate, length-replicate, length-append}
 use Rattle.std.proofs.lemmas.List.Folds.{find-append, list_any-append}
 use Rattle.std.proofs.lemmas.Map.Views.{any-filter_same}
-use Rattle.std.proofs.lemmas.Map.Keys.{IsDistinct-cons}
 use Rattle.std.proofs.lemmas.Map.Steps.{length-le_from_distinct_below}
 use Rattle.std.proofs.lemmas.Nat.{mul-add-lt, same_from_place}
 use Rattle.order_graph.specs.Slots.{Slots, IsLeastFrom, HasNoneFrom}
-use Rattle.order_graph.specs.Order.{Pair, joins, is_recorded, node_of, Precedes, linked, retired, AreApart, IsNextBefore}
+use Rattle.order_graph.specs.Order.{Pair, joins, is_recorded, node_of, Precedes, retired, AreApart, IsNextBefore}
 use Rattle.order_graph.specs.Order.Precedes.{by_pair, by_chain}
-use Rattle.order_graph.specs.Kept.{slots_at, AreOfSlots, order_of, IsKept, passed_on}
+use Rattle.order_graph.specs.Kept.{slots_at, AreOfSlots, IsKept, passed_on}
 use Rattle.order_graph.proofs.Closure.{Adds, Drops, masks_added, masks_dropped, last_pair, Precedes-fewer, no_cycle-added}
 
 -- the masks below i have taken in what a pair of a and b passes on, and the rest are as they were

@@ -1,11 +1,11 @@
 -- The test of the closure.
-use Rattle.std.proofs.Common.{◌≡◌, ◌≢◌, ℕ, ◌⊎◌, inl, inr, Bool, true, false, not, ◌&&◌, ◌||◌, ◌==◌, cond, List, [], ◌∷◌, ◌++◌, refl, sym, ap, ◌∙◌, subst, arith}
+use Rattle.std.proofs.Common.{◌≡◌, ℕ, ◌⊎◌, inl, inr, Bool, true, false, not, ◌&&◌, ◌||◌, ◌==◌, cond, List, [], ◌∷◌, refl, sym, ap, ◌∙◌, subst, arith}
 use Rattle.std.specs.Prelude.{IsTrue, ◌↔◌}
 use Rattle.std.proofs.lemmas.Bool.{or_cases, or_left, or_right, and_parts, and_from, eqb-true, eq-eqb, cases_Bool, both_ways, false≢true}
 use Rattle.std.proofs.lemmas.Bool.Decides.{eqb_tells}
 use Rattle.order_graph.specs.Order.{Pair, joins, is_recorded, Precedes, reaches, linked, retired}
 use Rattle.order_graph.specs.Order.Precedes.{by_pair, by_chain}
-use Rattle.order_graph.proofs.Closure.{Adds, Drops, Precedes-join, masks_added, masks_dropped}
+use Rattle.order_graph.proofs.Closure.{Adds, Precedes-join, masks_added, masks_dropped}
 use Rattle.order_graph.proofs.KeptLemmas.{adds-with_pair, drops-retired, with_pair}
 
 recorded-reaches : (pairs : List Pair) (a b : ℕ) → is_recorded pairs a b ≡ true → reaches pairs a b ≡ true

@@ -5,12 +5,12 @@ use Rattle.std.specs.Int.{bit_at, trailing_zeros}
 use Rattle.std.specs.Ordering.{nat_cmp, eq_by_cmp}
 use Rattle.std.specs.Cmp.{nat_cmp_total}
 use Rattle.std.specs.FinSet as finset
-use Rattle.std.proofs.lemmas.Bool.Decides.{eqb_tells, leb_tells, nat_tests}
+use Rattle.std.proofs.lemmas.Bool.Decides.{nat_tests}
 use Rattle.std.proofs.lemmas.Nat.{one_shl, pow_pos, and_le_l}
-use Rattle.std.proofs.lemmas.Nat.Bits.{and_pow, bit_at-lt, bit_at_or, bit_at_set_same, bit_at_set_other, bit_at_clear_same, bit_at_clear_other, bit_at-zero, bit_at_mask_inside, bit_at_mask_below, bit_at_and, bit_at-trailing_zeros, ones_shl}
+use Rattle.std.proofs.lemmas.Nat.Bits.{and_pow, bit_at-lt, bit_at_or, bit_at_set_same, bit_at_set_other, bit_at_clear_same, bit_at_clear_other, bit_at-zero, bit_at_mask_inside, bit_at_mask_below, bit_at_and, bit_at-trailing_zeros}
 use Rattle.std.proofs.lemmas.Bool.{lt-ltb, le-ltb, cases_lt, cases_eq, eq-eqb, ne_eqb}
 use Rattle.std.proofs.lemmas.List.{get_or-set_same, get_or-set_other, get_or_past}
-use Rattle.order_graph.specs.Slots.{Slots, is_set, slots_of, IsLowestBit, HasNoBit, IsLeastFrom, HasNoneFrom}
+use Rattle.order_graph.specs.Slots.{is_set, slots_of, IsLowestBit, HasNoBit, IsLeastFrom, HasNoneFrom}
 
 any_cond : (t : ℕ → Bool) (b : Bool) (x : ℕ) (xs : List ℕ) → list_any t (cond b (x ∷ xs) xs) ≡ ((b && t x) || list_any t xs)
 any_cond t true x xs = refl

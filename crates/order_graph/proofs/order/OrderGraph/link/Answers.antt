@@ -1,4 +1,4 @@
-use Rattle.std.proofs.Common.{◌≡◌, ℕ, ◌<◌, false, ◌∙◌, sym, ap, subst, arith}
+use Rattle.std.proofs.Common.{◌≡◌, ◌<◌, false, ◌∙◌, sym, ap, subst, arith}
 use Rattle.std.specs.Vec.{vec_capacity}
 use Rattle.order_graph.specs.Order.{Order, Precedes, is_recorded}
 use Rattle.order_graph.proofs.KeptLemmas.{after_link, recorded_there, room_for_pair, whole_slice}

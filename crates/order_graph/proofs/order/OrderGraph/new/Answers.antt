@@ -1,4 +1,4 @@
-use Rattle.std.proofs.Common.{◌≡◌, ℕ, List, [], replicate, sym, subst, arith}
+use Rattle.std.proofs.Common.{List, [], replicate, sym, subst, arith}
 use Rattle.std.specs.FinSet as set
 use Rattle.std.specs.Vec.{vec_capacity}
 use Rattle.order_graph.specs.Slots.{Slots}

@@ -1,6 +1,6 @@
-use Rattle.std.proofs.Common.{ℕ, ◌<◌, ◌∙◌, sym, ap, arith, false}
+use Rattle.std.proofs.Common.{◌<◌, ◌∙◌, sym, ap, arith, false}
 use Rattle.std.specs.Vec.{vec_capacity}
-use Rattle.order_graph.specs.Order.{Order, node_of}
+use Rattle.order_graph.specs.Order.{node_of}
 use Rattle.order_graph.proofs.KeptLemmas.{node_unknown, recorded_there}
 use Rattle.order_graph.proofs.order.OrderGraph.node_of.Goals as goal
 

@@ -1,4 +1,4 @@
-use Rattle.std.proofs.Common.{ap, ◌∙◌, sym, arith}
+use Rattle.std.proofs.Common.{ap, ◌∙◌}
 use Rattle.std.specs.FinSet as set
 use Rattle.order_graph.proofs.SlotLemmas.{contains-bit}
 use Rattle.order_graph.proofs.slot_set.SlotSet.contains.Goals as goal

@@ -1,4 +1,3 @@
-use Rattle.std.proofs.Common.{◌≡◌, ℕ, ◌<◌, ◌≤◌, get_or, bit_or}
 use Rattle.order_graph.proofs.slot_set.SlotSet.join.Given as goal
 use Rattle.order_graph.proofs.SlotLemmas.{JoinedBelow}
 

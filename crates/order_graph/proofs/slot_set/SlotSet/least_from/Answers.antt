@@ -1,4 +1,4 @@
-use Rattle.std.proofs.Common.{ℕ, ◌+◌, ◌*◌, subst, arith}
+use Rattle.std.proofs.Common.{◌+◌, ◌*◌, subst, arith}
 use Rattle.order_graph.specs.Slots.{Slots, IsLeastFrom, HasNoneFrom}
 use Rattle.order_graph.proofs.SlotLemmas.{least_in_word, search_more, searched_all}
 use Rattle.order_graph.proofs.slot_set.SlotSet.least_from.Goals as goal
