@@ -8,6 +8,9 @@ use Rattle.order_graph.specs.Order.Precedes.{by_pair, by_chain}
 use Rattle.order_graph.proofs.Closure.{Adds, Precedes-join, masks_added, masks_dropped}
 use Rattle.order_graph.proofs.KeptLemmas.{adds-with_pair, drops-retired, with_pair}
 
+reaches-cons : (p : Pair) (pairs : List Pair) (a b : ℕ) → reaches (p ∷ pairs) a b ≡ (reaches pairs a b || (((p.from == a) || reaches pairs a p.from) && ((p.to == b) || reaches pairs p.to b)))
+reaches-cons p pairs a b = grind arith
+
 recorded-reaches : (pairs : List Pair) (a b : ℕ) → is_recorded pairs a b ≡ true → reaches pairs a b ≡ true
 recorded-reaches [] a b h = h
 recorded-reaches (p ∷ pairs) a b h = let r = recorded-reaches pairs a b in grind (arith, eqb_tells, r)
@@ -50,7 +53,7 @@ from_first p pairs says a b k h = elim (or_cases _ _ h) [
 
 reaches-Precedes : (pairs : List Pair) → Says pairs
 reaches-Precedes [] a b h = absurd (false≢true h)
-reaches-Precedes (p ∷ pairs) a b h = elim (or_cases (reaches pairs a b) _ h) [
+reaches-Precedes (p ∷ pairs) a b h = elim (or_cases (reaches pairs a b) _ (sym (reaches-cons p pairs a b) ∙ h)) [
   | inl r ↦ Precedes-more (reaches-Precedes pairs a b r)
   | inr both ↦
       let parts = and_parts ((p.from == a) || reaches pairs a p.from) ((p.to == b) || reaches pairs p.to b) both in

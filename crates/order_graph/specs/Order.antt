@@ -1,5 +1,5 @@
 -- The recorded order of live calls: pairs of slots, and what they lead to.
-use Rattle.std.specs.Prelude.{◌≡◌, ℕ, ◌≤◌, Bool, false, not, ◌&&◌, ◌||◌, ◌==◌, if◌then◌else◌, List, [], ◌∷◌, ◌++◌, Option, find, filter, replicate, slice_index_or, IsTrue, ◌↔◌, refl}
+use Rattle.std.specs.Prelude.{◌≡◌, ℕ, ◌≤◌, Bool, true, false, not, ◌&&◌, ◌||◌, ◌==◌, if◌then◌else◌, List, [], ◌∷◌, ◌++◌, Option, find, filter, replicate, slice_index_or, IsTrue, ◌↔◌, refl}
 use Rattle.std.specs.List.{list_any}
 use Rattle.std.specs.Option.{option_map}
 use Rattle.std.specs.Coded.{Coded, code_by, coded×, coded_list, coded_ℕ}
@@ -25,9 +25,13 @@ pub data Precedes (pairs : List Pair) : ℕ → ℕ → Type 0 where
   by_chain : {a b c : ℕ} → IsTrue (is_recorded pairs a b) → Precedes pairs b c → Precedes pairs a c
 
 -- Whether a chain leads from a to b, as a test: with one pair more, it goes through that pair once or not at all.
+-- By `elim`, which leaves out what is not asked, so that examples compute.
 abbrev pub reaches : List Pair → ℕ → ℕ → Bool
 reaches [] a b = false
-reaches (p ∷ pairs) a b = reaches pairs a b || (((p.from == a) || reaches pairs a p.from) && ((p.to == b) || reaches pairs p.to b))
+reaches (p ∷ pairs) a b = elim (reaches pairs a b) [
+  | true ↦ true
+  | false ↦ elim ((p.from == a) || reaches pairs a p.from) [ true ↦ (p.to == b) || reaches pairs p.to b | false ↦ false ]
+]
 
 -- The pairs with one of a and b. A pair that is recorded keeps its node, and a new one stands last.
 abbrev pub linked : List Pair → ℕ → ℕ → ℕ → List Pair
