@@ -1,8 +1,8 @@
 // The recorded order and its masks.
 ghost use Rattle.std.specs.Prelude.{◌≡◌, ◌≢◌, ℕ, ◌*◌, ◌<◌, ◌≤◌, ◌↔◌, map, replicate, length, vec_len, vec_capacity, IsTrue, IfOk, IfSome, IfNone};
 ghost use Rattle.std.specs.FinSet as set;
-ghost use Rattle.order_graph.specs.Order.{Precedes, reaches, is_recorded, node_of, linked, retired, mask_of, MasksAreClosure, without_pairs, IsNextBefore};
-ghost use Rattle.order_graph.specs.Kept.{slots_at, passed_on};
+ghost use Rattle.order_graph.specs.Order.{Precedes, reaches, is_recorded, node_of, linked, retired, mask_of, MasksAreClosure, without_pairs, AreApart, IsNextBefore};
+ghost use Rattle.order_graph.specs.Kept.{slots_at, AreOfSlots, passed_on};
 
 use crate::MAX_CALLERS;
 use crate::pair::Pair;
@@ -15,8 +15,9 @@ use std::marker::Model;
 /// for, and for each slot the set of all slots that precede it.
 ///
 /// Contracts see the number of callers, the list of recorded pairs in the order in which they were recorded, and the
-/// sets, called masks, as a list with one mask per slot. Slots are the numbers below the number of callers. A slot precedes another where a chain of recorded pairs leads
-/// from the first to the second. The sets are kept beside the pairs, so that `precedes` reads one bit.
+/// sets, called masks, as a list with one mask per slot. Slots are the numbers below the number of callers. A slot
+/// precedes another where a chain of recorded pairs leads from the first to the second. The masks are kept beside the
+/// pairs, so that `precedes` reads one bit.
 #[derive(Drop)]
 pub struct OrderGraph {
     callers: u32,
@@ -130,11 +131,14 @@ impl OrderGraph {
         take_out(self.before.as_mut_slice(), a);
     }
 
-    /// What holds of every order: the number of callers is 1 to 256, each slot has a mask, a slot is in the mask of
-    /// another exactly where it precedes that one, and no slot precedes itself. Does nothing when it runs.
+    /// What holds of every order: the number of callers is 1 to 256, the pairs are of slots and no two of the same
+    /// slots, each slot has a mask, a slot is in the mask of another exactly where it precedes that one, and no slot
+    /// precedes itself. Does nothing when it runs.
     pub fn masks_are_closure(&self)
         ensures some { 0 < self.now.callers }
         ensures few { self.now.callers ≤ MAX_CALLERS }
+        ensures slots { AreOfSlots self.now.callers self.now.pairs }
+        ensures apart { AreApart self.now.pairs }
         ensures length { length self.now.masks ≡ self.now.callers }
         ensures closure { MasksAreClosure self.now }
         ensures no_cycle { (a : ℕ) → ¬ (Precedes self.now.pairs a a) }
