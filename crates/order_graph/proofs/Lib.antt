@@ -1,0 +1,4 @@
+pub mod Closure
+pub mod KeptLemmas
+pub mod Reaching
+pub mod SlotLemmas

@@ -1,0 +1,7 @@
+use Rattle.std.proofs.Common.{ap, ◌∙◌, arith}
+use Rattle.std.specs.FinSet as set
+use Rattle.order_graph.proofs.SlotLemmas.{slots_of-remove}
+use Rattle.order_graph.proofs.slot_set.SlotSet.remove.Goals as goal
+
+pub returns : goal.returns
+returns c = slots_of-remove c.self.inside.words c.args.slot (omega arith) c.requires ∙ ap (λ s. set.remove s c.args.slot) c.self.view_is
