@@ -5,6 +5,7 @@ pub mod builder;
 pub mod call;
 pub mod evaluate;
 pub mod graph;
+pub mod laws;
 pub mod log;
 mod names;
 pub mod node;

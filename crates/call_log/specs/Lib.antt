@@ -1,0 +1,4 @@
+pub mod Record
+pub mod Made
+pub mod LeftOut
+pub mod Merge

@@ -1,0 +1,8 @@
+use Rattle.signal_graph.proofs.Values.{values_are, length-values}
+use Rattle.signal_graph.proofs.laws.values_are.Goals as goal
+
+pub returns-clause-each : goal.returns-clause-each
+returns-clause-each c graph is_graph kept n within = values_are graph kept n is_graph.nodes within
+
+pub returns-clause-all : goal.returns-clause-all
+returns-clause-all c = length-values
