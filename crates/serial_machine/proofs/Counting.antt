@@ -1,0 +1,92 @@
+-- Loops over the nodes of a graph by their numbers.
+use Rattle.std.proofs.Common.{◌≡◌, ℕ, zero, suc, ◌+◌, ◌<◌, ◌≤◌, Bool, true, false, List, [], ◌∷◌, ◌++◌, length, drop, get_or, refl, sym, ap, ◌∙◌, arith}
+use Rattle.std.specs.Prelude.{filter, map, cond, slice_set, slice_index_or, slice_get, Option, Some, None, ◌||◌}
+use Rattle.std.specs.List.{list_any}
+use Rattle.std.proofs.lemmas.Bool.Decides.{nat_tests}
+use Rattle.std.proofs.lemmas.List.{drop_more}
+use Rattle.std.proofs.lemmas.Option.{slice_get_within, get_or_from_slice_get}
+use Rattle.script_tree.specs.declared.value.Fault.TheVariants.{Kind}
+use Rattle.script_tree.specs.declared.value.Value.{Value}
+use Rattle.script_tree.specs.declared.value.Value.TheVariants.{Fault as Faulty}
+use Rattle.signal_graph.specs.declared.node.Node.{Node}
+use Rattle.signal_graph.specs.declared.node.Node.TheVariants.{Source}
+use Rattle.signal_graph.specs.Graph.{Graph, IsGraph, node_at, place_in, number_of, numbers_from}
+use Rattle.signal_graph.specs.Values.{Values, at, nodes_in, node_value, values_from, start_value, start}
+use Rattle.signal_graph.specs.Machine.{with_sets, names_node}
+use Rattle.signal_graph.specs.OnePass.{new_value, new_from}
+
+-- how many nodes from a number on pass a test
+abbrev pub left : (ℕ → Bool) → List Node → ℕ → ℕ
+left p nodes n = length (filter p (numbers_from n (drop n nodes)))
+
+length_cond : (b : Bool) (x : ℕ) (xs : List ℕ) → b ≡ true → length (cond b (x ∷ xs) xs) ≡ length xs + 1
+length_cond true x xs h = omega arith
+length_cond false x xs h = absurd (cc)
+
+length_cond_no : (b : Bool) (x : ℕ) (xs : List ℕ) → b ≡ false → length (cond b (x ∷ xs) xs) ≡ length xs
+length_cond_no true x xs h = absurd (cc)
+length_cond_no false x xs h = refl
+
+pub one_more : (p : ℕ → Bool) (nodes : List Node) (n : ℕ) → n < length nodes → p n ≡ true → left p nodes n ≡ left p nodes (n + 1) + 1
+one_more p nodes n within h = ap (λ ns. length (filter p (numbers_from n ns))) (drop_more nodes n (Source (Faulty Kind)) within) ∙ length_cond (p n) n (filter p (numbers_from (n + 1) (drop (n + 1) nodes))) h
+
+pub none_more : (p : ℕ → Bool) (nodes : List Node) (n : ℕ) → n < length nodes → p n ≡ false → left p nodes n ≡ left p nodes (n + 1)
+none_more p nodes n within h = ap (λ ns. length (filter p (numbers_from n ns))) (drop_more nodes n (Source (Faulty Kind)) within) ∙ length_cond_no (p n) n (filter p (numbers_from (n + 1) (drop (n + 1) nodes))) h
+
+-- the next node's value in one pass
+pub new_step : (before set earlier : Values) (nodes : List Node) (n : ℕ) → n < length nodes → length earlier ≡ n → new_from before set earlier (drop n nodes) ≡ new_from before set (earlier ++ new_value (slice_index_or nodes n (Source (Faulty Kind))) (at set n) (at before n) before earlier ∷ []) (drop (n + 1) nodes)
+new_step before set earlier nodes n within here =
+    ap (new_from before set earlier) (drop_more nodes n (Source (Faulty Kind)) within)
+    ∙ ap (λ i. new_from before set (earlier ++ new_value (slice_index_or nodes n (Source (Faulty Kind))) (at set i) (at before i) before earlier ∷ []) (drop (n + 1) nodes)) here
+
+nodes_in_cons : (p : ℕ → Bool) (pick : Option ℕ) (rest : List (Option ℕ)) → list_any p (nodes_in (pick ∷ rest)) ≡ (list_any p (nodes_in (pick ∷ [])) || list_any p (nodes_in rest))
+nodes_in_cons p None rest = refl
+nodes_in_cons p (Some node) rest = grind arith
+
+-- the nodes among picks from an index on
+pub pick_step : (p : ℕ → Bool) (picks : List (Option ℕ)) (i : ℕ) (pick : Option ℕ) → slice_get picks i ≡ Some pick → list_any p (nodes_in (drop i picks)) ≡ (list_any p (nodes_in (pick ∷ [])) || list_any p (nodes_in (drop (i + 1) picks)))
+pick_step p picks i pick h =
+    ap (λ ps. list_any p (nodes_in ps)) (drop_more picks i None (slice_get_within picks i pick h))
+    ∙ ap (λ o. list_any p (nodes_in (o ∷ drop (i + 1) picks))) (get_or_from_slice_get picks i pick None h)
+    ∙ nodes_in_cons p pick (drop (i + 1) picks)
+
+pub any_append : (p : ℕ → Bool) (xs ys : List ℕ) → list_any p (xs ++ ys) ≡ (list_any p xs || list_any p ys)
+any_append p [] ys = refl
+any_append p (x ∷ xs) ys = either (p x) (any_append p xs ys)
+  where
+    either : (b : Bool) → list_any p (xs ++ ys) ≡ (list_any p xs || list_any p ys) → (b || list_any p (xs ++ ys)) ≡ ((b || list_any p xs) || list_any p ys)
+    either true e = refl
+    either false e = e
+
+start_at : (nodes : List Node) (n : ℕ) → n < length nodes → at (map start_value nodes) n ≡ start_value (slice_index_or nodes n (Source (Faulty Kind)))
+start_at [] n h = absurd (omega arith)
+start_at (node ∷ nodes) zero h = refl
+start_at (node ∷ nodes) (suc n) h = start_at nodes n (omega arith)
+
+-- the next node's value in the start state
+pub start_step : (graph : Graph) (earlier : Values) (n : ℕ) → n < length graph.nodes → length earlier ≡ n → values_from earlier (drop n graph.nodes) (start graph) ≡ values_from (earlier ++ node_value (node_at graph n) (start_value (node_at graph n)) earlier ∷ []) (drop (n + 1) graph.nodes) (start graph)
+start_step graph earlier n within here =
+    ap (λ ns. values_from earlier ns (start graph)) (drop_more graph.nodes n (Source (Faulty Kind)) within)
+    ∙ ap (λ i. values_from (earlier ++ node_value (node_at graph n) (at (start graph) i) earlier ∷ []) (drop (n + 1) graph.nodes) (start graph)) here
+    ∙ ap (λ v. values_from (earlier ++ node_value (node_at graph n) v earlier ∷ []) (drop (n + 1) graph.nodes) (start graph)) (start_at graph.nodes n within)
+
+-- the next set of a fire
+pub sets_step : (graph : Graph) (kept : Values) (sets : List (List ℕ × Value)) (i : ℕ) (d : List ℕ × Value) → i < length sets → with_sets graph kept (drop i sets) ≡ with_sets graph (slice_set kept (number_of graph (get_or sets i d).0) (get_or sets i d).1) (drop (i + 1) sets)
+sets_step graph kept sets i d within = ap (with_sets graph kept) (drop_more sets i d within)
+
+-- what is set behind the end of a list changes nothing
+pub set_beyond : (values : Values) (n : ℕ) (v : Value) → length values ≤ n → slice_set values n v ≡ values
+set_beyond [] n v h = refl
+set_beyond (u ∷ values) zero v h = absurd (omega arith)
+set_beyond (u ∷ values) (suc n) v h = ap (λ vs. u ∷ vs) (set_beyond values n v (omega arith))
+
+place_within : (names : List (List ℕ)) (name : List ℕ) → place_in names name ≤ length names
+place_within [] name = omega arith
+place_within (other ∷ names) name = let rest = place_within names name in grind (arith, rest)
+
+-- a name that no node has gets the number behind the last node
+pub number_beyond : (graph : Graph) (name : List ℕ) → IsGraph graph → names_node graph name ≡ false → number_of graph name ≡ length graph.nodes
+number_beyond graph name is_graph absent =
+    let within = place_within graph.names name in
+    let named = is_graph.named in
+    grind (arith, nat_tests, within, named)

@@ -1,0 +1,6 @@
+//! The plain one-thread machine, which finds every value again at each call, and the run of all scripts on it.
+#![tactic(auto)]
+
+mod compare;
+mod machine;
+mod pass;
