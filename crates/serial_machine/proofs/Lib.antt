@@ -1,2 +1,4 @@
 pub mod ReplyLaws
 pub mod Counting
+pub mod Runs
+pub mod Merging

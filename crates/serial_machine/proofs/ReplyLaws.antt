@@ -96,8 +96,8 @@ changed_is graph before now b n d = cases (nat_lt d (length graph.nodes)) refl
 evaluated_is : (graph : Graph) (kept next : Values) → length (values graph kept) ≡ length graph.nodes → length (values graph next) ≡ length graph.nodes → length (evaluated graph kept next) ≡ count_evaluated graph (values graph kept) (values graph next)
 evaluated_is graph kept next b n =
     ap length (filter_same _ (λ m. is_evaluated (values graph kept) (values graph next) (node_at graph m))
-      (λ m. ap (λ t. not (is_source (node_at graph m)) && t) (any_same _ (differs (values graph kept) (values graph next)) (λ d. changed_is graph (values graph kept) (values graph next) b n d) (deps graph kept m)))
-      (numbers graph))
+    (λ m. ap (λ t. not (is_source (node_at graph m)) && t) (any_same _ (differs (values graph kept) (values graph next)) (λ d. changed_is graph (values graph kept) (values graph next) b n d) (deps graph kept m)))
+    (numbers graph))
 
 -- the reply follows from the values of all nodes before the call and after it
 pub reply_is : (graph : Graph) (kept now : Values) (call : Call) → length (values graph kept) ≡ length graph.nodes → length now ≡ length graph.nodes → values graph (after graph kept call) ≡ now → reply graph kept call ≡ reply_between graph (values graph kept) now call

@@ -1,3 +1,4 @@
 pub mod State
 pub mod Between
 pub mod Progress
+pub mod Running

@@ -4,3 +4,7 @@
 mod compare;
 mod machine;
 mod pass;
+mod run;
+
+pub use machine::Machine;
+pub use run::serial;

@@ -164,7 +164,7 @@ impl<'g> Machine<'g> {
 
     /// The values of all nodes, by their numbers. Takes no memory.
     pub fn into_values(self) -> ValueList
-        ensures { (kept : Values) → IsAt self kept → result ≡ values self.graph kept }
+        ensures { (kept : Values) → IsAt self.entry kept → result ≡ values self.entry.graph kept }
     {
         let Machine { values, .. } = self;
         Items::from_vec(values)
@@ -196,6 +196,13 @@ impl<'g> Machine<'g> {
         )?;
         mem::swap(&mut self.values, &mut self.next);
         Ok(reply)
+    }
+
+    /// The graph. Takes no memory.
+    pub fn graph(&self) -> &Graph
+        ensures { result.now ≡ self.now.graph }
+    {
+        self.graph
     }
 
     /// The value of a node. Takes no memory.

@@ -11,12 +11,12 @@ pub returns-then-is_changed : goal.returns-then-is_changed
 returns-then-is_changed c =
     let test = differs c.args.before.now c.args.now.now in
     sym (sym c.loop-index.invariant
-      ∙ pick_step test c.args.picks.now c.loop-index.index c.get.result c.get.ensures
-      ∙ ap (λ b. b || list_any test (nodes_in (drop (c.loop-index.index + 1) c.args.picks.now))) (sym c.is_changed.ensures ∙ c.if-is_changed.true))
+    ∙ pick_step test c.args.picks.now c.loop-index.index c.get.result c.get.ensures
+    ∙ ap (λ b. b || list_any test (nodes_in (drop (c.loop-index.index + 1) c.args.picks.now))) (sym c.is_changed.ensures ∙ c.if-is_changed.true))
 
 pub loop-index-preserved : goal.loop-index-preserved
 loop-index-preserved c =
     let test = differs c.args.before.now c.args.now.now in
     sym (sym c.loop-index.invariant
-      ∙ pick_step test c.args.picks.now c.loop-index.index c.get.result c.get.ensures
-      ∙ ap (λ b. b || list_any test (nodes_in (drop (c.loop-index.index + 1) c.args.picks.now))) (sym c.is_changed.ensures ∙ c.if-is_changed.false))
+    ∙ pick_step test c.args.picks.now c.loop-index.index c.get.result c.get.ensures
+    ∙ ap (λ b. b || list_any test (nodes_in (drop (c.loop-index.index + 1) c.args.picks.now))) (sym c.is_changed.ensures ∙ c.if-is_changed.false))

@@ -28,10 +28,10 @@ returns-in-Fire-clause-replies c kept at =
     let all = c.args.self.now.all in
     let call = c.args.call.now in
     replies c.fire.result _ _ c.fire.ensures.replies
-      (step_is graph all kept call (sym (ap length at.gives) ∙ c.values_are.ensures.all graph kept) at.gives
-        (c.literal.ensures.pass graph c.nodes.ensures.kept kept at.fits call c.requires)
-        (c.values_are.ensures.all graph (after graph kept call))
-      ∙ ap (λ k. reply_between graph all (after_call graph all k) k) c.in-Fire.is)
+    (step_is graph all kept call (sym (ap length at.gives) ∙ c.values_are.ensures.all graph kept) at.gives
+    (c.literal.ensures.pass graph c.nodes.ensures.kept kept at.fits call c.requires)
+    (c.values_are.ensures.all graph (after graph kept call))
+    ∙ ap (λ k. reply_between graph all (after_call graph all k) k) c.in-Fire.is)
 
 pub returns-in-Fire-clause-moves : goal.returns-in-Fire-clause-moves
 returns-in-Fire-clause-moves c kept at =
@@ -39,7 +39,7 @@ returns-in-Fire-clause-moves c kept at =
     let all = c.args.self.now.all in
     let call = c.args.call.now in
     moves c.fire.result c.args.self.now c.fire.new.self _ (after graph kept call) c.fire.ensures.moves c.fire.ensures.graph
-      (c.literal.ensures.size graph kept call ∙ at.fits)
-      (c.literal.ensures.pass graph c.nodes.ensures.kept kept at.fits call c.requires
-        ∙ ap (λ vs. after_call graph vs call) at.gives
-        ∙ ap (after_call graph all) c.in-Fire.is)
+    (c.literal.ensures.size graph kept call ∙ at.fits)
+    (c.literal.ensures.pass graph c.nodes.ensures.kept kept at.fits call c.requires
+    ∙ ap (λ vs. after_call graph vs call) at.gives
+    ∙ ap (after_call graph all) c.in-Fire.is)

@@ -1,0 +1,174 @@
+// The run of all scripts, thread after thread.
+
+ghost use Rattle.std.specs.Prelude.{◌≡◌, ◌<◌, ◌≤◌, ◌+◌, ◌^◌, ◌∷◌, [], ◌++◌, length, None, IfOk, OnOk, All};
+ghost use Rattle.signal_graph.specs.Machine.{misnamed};
+ghost use Rattle.signal_graph.specs.Legal.{Legal, state_after, finals};
+ghost use Rattle.signal_graph.specs.Values.{values};
+ghost use Rattle.call_log.specs.LeftOut.{why_not, refusal};
+ghost use Rattle.call_log.specs.Merge.{Merge};
+ghost use Rattle.serial_machine.specs.Progress.{why_not_next, entry_of, called, all_called, all_run, nothing_yet};
+ghost use Rattle.serial_machine.specs.Running.{IsWithinLimits};
+
+use crate::machine::Machine;
+use call_log::{Finished, Log, Logged, Refused, RefusedList, Why};
+use script_tree::items::Items;
+use script_tree::memory::OutOfMemory;
+use signal_graph::call::{Call, CallList, Scripts};
+use signal_graph::graph::Graph;
+use std::alloc::Global;
+use std::marker::Model;
+
+/// A run in its middle: the machine stands where the calls of the log have brought it.
+#[derive(Drop)]
+struct Run<'g> {
+    alloc: Global,
+    limit: u32,
+    machine: Machine<'g>,
+    log: Log,
+    refused: RefusedList,
+}
+
+impl<'g> Model for Run<'g> {
+    ghost use Rattle.std.specs.Prelude.{◌<◌, ◌≤◌, ◌^◌, length};
+    ghost use Rattle.std.specs.Coded.{codes};
+    ghost use Rattle.script_tree.specs.TreeCode.{tree_code};
+    ghost use Rattle.signal_graph.specs.Legal.{state_after};
+    ghost use Rattle.serial_machine.specs.State.{IsAt};
+    ghost use Rattle.serial_machine.specs.Running.{Running};
+
+    ghost Value = { Running };
+
+    ghost coded = { Prim.hlevel (codes, tree_code) };
+
+    ghost view = { λ run. record { graph = run.machine.graph; limit = run.limit; progress = record { log = run.log.entries; refused = run.refused } } };
+
+    ghost invariant = { λ run. IsAt run.machine (state_after run.machine.graph run.log.entries) × (length run.log.entries ≤ run.limit) × (run.limit < 2 ^ 32) };
+}
+
+impl<'g> Run<'g> {
+    /// A run that has not made a call.
+    fn new(alloc: Global, graph: &'g Graph, limit: u32) -> Result<Run<'g>, OutOfMemory>
+        ensures { IfOk result (λ run. run ≡ record { graph = graph.now; limit = limit; progress = nothing_yet }) }
+    {
+        let machine = Machine::new(alloc, graph)?;
+        Ok(Run {
+            alloc,
+            limit,
+            machine,
+            log: Log::new(alloc),
+            refused: Items::new(alloc),
+        })
+    }
+
+    /// Why the next call is not made, where it is not.
+    #[tactic(auto, using(crate::proofs::Runs::used_up, crate::proofs::Runs::has_room))]
+    fn why_not(&self, call: &Call) -> Option<Why>
+        requires { IsWithinLimits call.now }
+        ensures { result ≡ why_not_next self.now.graph self.now.limit self.now.progress.log call.now }
+    {
+        if let Some(place) = call.misnamed(self.machine.graph()) {
+            return Some(Why::UnknownName(place));
+        }
+        if self.log.len() >= self.limit {
+            return Some(Why::VersionsUsedUp(self.limit));
+        }
+        None
+    }
+
+    /// Makes a call with the next version.
+    fn make(&mut self, caller: u32, call: &Call) -> Result<(), OutOfMemory>
+        requires named { misnamed self.old.graph call.now ≡ None }
+        requires room { length self.old.progress.log < self.old.limit }
+        ensures graph { self.new.graph ≡ self.old.graph }
+        ensures limit { self.new.limit ≡ self.old.limit }
+        ensures log { OnOk result (self.new.progress.log ≡ self.old.progress.log ++ entry_of self.old.graph caller self.old.progress.log call.now ∷ []) }
+        ensures refused { self.new.progress.refused ≡ self.old.progress.refused }
+    {
+        let copy = call.copy(self.alloc)?;
+        self.log.reserve_one()?;
+        let version = self.log.len() + 1;
+        let reply = self.machine.step(call)?;
+        self.log.append(Logged {
+            caller,
+            version,
+            call: copy,
+            reply,
+        });
+        Ok(())
+    }
+
+    /// Makes a call, or refuses it.
+    #[tactic(auto, using(crate::proofs::Runs::is_named, crate::proofs::Runs::is_below))]
+    fn call(&mut self, caller: u32, number: u32, call: &Call) -> Result<(), OutOfMemory>
+        requires { IsWithinLimits call.now }
+        ensures graph { self.new.graph ≡ self.old.graph }
+        ensures limit { self.new.limit ≡ self.old.limit }
+        ensures called { OnOk result (self.new.progress ≡ called self.old.graph self.old.limit caller number call.now self.old.progress) }
+    {
+        match self.why_not(call) {
+            None => self.make(caller, call),
+            Some(why) => self.refused.push(Refused {
+                caller,
+                number,
+                why,
+            }),
+        }
+    }
+
+    /// Makes or refuses all calls of a caller.
+    #[tactic(auto, using(crate::proofs::Runs::next_called))]
+    fn call_all(&mut self, caller: u32, calls: &CallList) -> Result<(), OutOfMemory>
+        requires few { length calls.now < 2 ^ 32 }
+        requires within { All IsWithinLimits calls.now }
+        ensures graph { self.new.graph ≡ self.old.graph }
+        ensures limit { self.new.limit ≡ self.old.limit }
+        ensures called { OnOk result (self.new.progress ≡ all_called self.old.graph self.old.limit caller 1 calls.now self.old.progress) }
+    {
+        for (index, call) in calls.as_slice().iter().enumerate() {
+            self.call(caller, index as u32 + 1, call)?;
+        }
+        Ok(())
+    }
+
+    /// What the run leaves.
+    fn finish(self) -> Finished
+        ensures log { result.log.entries ≡ self.entry.progress.log }
+        ensures refused { result.refused ≡ self.entry.progress.refused }
+        ensures finals { result.finals ≡ finals self.entry.graph self.entry.progress.log }
+    {
+        let Run {
+            machine,
+            log,
+            refused,
+            ..
+        } = self;
+        Finished {
+            finals: machine.into_values(),
+            log,
+            refused,
+        }
+    }
+}
+
+/// Runs all calls of thread 1, then all of thread 2, and so on, with versions in that order. A misnamed call is not
+/// made, and neither is a well-named one that finds `versions` calls made. Takes memory.
+#[tactic(auto, using(crate::proofs::Runs::next_caller))]
+pub fn serial(
+    alloc: Global,
+    graph: &Graph,
+    scripts: &Scripts,
+    versions: u32,
+) -> Result<Finished, OutOfMemory>
+    requires few { length scripts.now < 2 ^ 32 }
+    requires few_calls { All (λ calls. length calls < 2 ^ 32) scripts.now }
+    requires within { All (All IsWithinLimits) scripts.now }
+    ensures legal { IfOk result (λ run. Legal graph.now run.log.entries) }
+    ensures merge { IfOk result (λ run. Merge graph.now scripts.now versions run.log.entries run.refused) }
+    ensures finals { IfOk result (λ run. run.finals ≡ finals graph.now run.log.entries) }
+{
+    let mut run = Run::new(alloc, graph, versions)?;
+    for (index, calls) in scripts.as_slice().iter().enumerate() {
+        run.call_all(index as u32 + 1, calls)?;
+    }
+    Ok(run.finish())
+}
