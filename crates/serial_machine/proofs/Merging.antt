@@ -1,8 +1,8 @@
 -- A run of scripts one after the other is a merge of them.
 use Rattle.std.proofs.Common.{◌≡◌, ℕ, zero, suc, ◌+◌, ◌-◌, ◌<◌, ◌≤◌, min, Bool, true, false, cond, List, [], ◌∷◌, ◌++◌, length, take, Option, Some, None, refl, sym, ap, ◌∙◌, subst, arith, length-append, append_assoc}
-use Rattle.std.specs.Prelude.{map, filter, ◌==◌, is_none, slice_index, slice_index_or, count_by, sum_by, All}
+use Rattle.std.specs.Prelude.{◌==◌, is_none, slice_index, count_by, All}
 use Rattle.std.specs.List.Sorted.{IsStrictlyIncreasing}
-use Rattle.std.proofs.lemmas.Bool.Decides.{eqb_tells, nat_tests}
+use Rattle.std.proofs.lemmas.Bool.Decides.{eqb_tells}
 use Rattle.std.proofs.lemmas.List.{length-take, map-append, take_min}
 use Rattle.std.proofs.lemmas.List.Sums.{sum_by-cons}
 use Rattle.std.proofs.lemmas.List.Elements.{filter-append, All-append}
@@ -13,10 +13,10 @@ use Rattle.signal_graph.specs.declared.log.Why.TheVariants.{UnknownName, Version
 use Rattle.signal_graph.specs.declared.log.Refused.{Refused}
 use Rattle.signal_graph.specs.Graph.{Graph}
 use Rattle.signal_graph.specs.Machine.{misnamed}
-use Rattle.call_log.specs.Made.{entries_of, calls_in, versions_in, is_well_named, well_named, count_well_named, script_of, IsPrefix}
-use Rattle.call_log.specs.LeftOut.{why_not, left_behind, refusal, left_out_from, left_out_of, left_out}
+use Rattle.call_log.specs.Made.{entries_of, calls_in, versions_in, well_named, count_well_named, script_of, IsPrefix}
+use Rattle.call_log.specs.LeftOut.{why_not, left_behind, refusal, left_out_from, left_out_of}
 use Rattle.call_log.specs.Merge.{IsOfCaller, AreVersions, Merge}
-use Rattle.serial_machine.specs.Progress.{Progress, why_not_next, entry_of, with_entry, called, all_called, all_run, nothing_yet}
+use Rattle.serial_machine.specs.Progress.{Progress, entry_of, with_entry, all_called, all_run, nothing_yet}
 
 -- so many numbers from one on
 abbrev upto : ℕ → ℕ → List ℕ

@@ -1,6 +1,6 @@
 -- The reply that the values before a call and after it give is the one-thread machine's.
-use Rattle.std.proofs.Common.{◌≡◌, ℕ, zero, suc, ◌+◌, ◌<◌, ◌≤◌, Bool, true, false, List, [], ◌∷◌, ◌++◌, length, refl, sym, ap, ◌∙◌, subst, arith}
-use Rattle.std.specs.Prelude.{map, filter, cond, not, nat_lt, ◌&&◌, ◌||◌, ◌==◌}
+use Rattle.std.proofs.Common.{◌≡◌, ℕ, ◌+◌, ◌<◌, ◌≤◌, Bool, true, false, List, [], ◌∷◌, length, refl, sym, ap, ◌∙◌, subst, arith}
+use Rattle.std.specs.Prelude.{filter, cond, not, nat_lt, ◌&&◌, ◌||◌, ◌==◌}
 use Rattle.std.specs.List.{list_any}
 use Rattle.std.proofs.lemmas.Cmp.{int_eq_equiv}
 use Rattle.std.proofs.lemmas.List.{get_or_past}
@@ -11,11 +11,10 @@ use Rattle.script_tree.specs.declared.value.Fault.TheVariants.{Overflow, ZeroDiv
 use Rattle.signal_graph.specs.declared.node.Node.{Node}
 use Rattle.signal_graph.specs.declared.call.Call.{Call}
 use Rattle.signal_graph.specs.declared.call.Call.TheVariants.{Fire, Read}
-use Rattle.signal_graph.specs.declared.call.Reply.{Reply}
 use Rattle.signal_graph.specs.declared.call.Reply.TheVariants.{Fire as Fired, Read as Seen}
-use Rattle.signal_graph.specs.Graph.{Graph, node_at, number_of, numbers, numbers_from, is_in, is_source, inputs_of}
-use Rattle.signal_graph.specs.Values.{Values, at, values, deps, picks_of, nodes_in}
-use Rattle.signal_graph.specs.Machine.{differs, same, after, reply, changed, evaluated, looked}
+use Rattle.signal_graph.specs.Graph.{Graph, node_at, numbers, numbers_from, is_in, is_source}
+use Rattle.signal_graph.specs.Values.{Values, at, values, deps}
+use Rattle.signal_graph.specs.Machine.{differs, same, after, reply, evaluated, looked}
 use Rattle.signal_graph.specs.OnePass.{after_call}
 use Rattle.serial_machine.specs.Between.{is_evaluated, count_changed, count_evaluated, looked_in, reply_between}
 

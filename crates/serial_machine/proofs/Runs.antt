@@ -4,12 +4,12 @@ use Rattle.std.proofs.lemmas.List.{drop_more}
 use Rattle.signal_graph.specs.declared.call.Call.{Call}
 use Rattle.signal_graph.specs.declared.log.Logged.{Logged}
 use Rattle.signal_graph.specs.declared.log.Why.{Why}
-use Rattle.signal_graph.specs.declared.log.Why.TheVariants.{UnknownName, VersionsUsedUp}
+use Rattle.signal_graph.specs.declared.log.Why.TheVariants.{VersionsUsedUp}
 use Rattle.signal_graph.specs.Graph.{Graph}
 use Rattle.signal_graph.specs.Values.{Values, start}
-use Rattle.signal_graph.specs.Machine.{misnamed, after, reply}
+use Rattle.signal_graph.specs.Machine.{after, reply}
 use Rattle.signal_graph.specs.Legal.{LegalFrom, Legal, state_from, state_after}
-use Rattle.call_log.specs.LeftOut.{why_not, refusal}
+use Rattle.call_log.specs.LeftOut.{why_not}
 use Rattle.serial_machine.specs.State.{State, IsAt}
 use Rattle.serial_machine.specs.Progress.{Progress, why_not_next, entry_of, with_entry, called, all_called, all_run, nothing_yet}
 

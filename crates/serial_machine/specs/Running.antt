@@ -1,6 +1,5 @@
 -- A run in its middle.
-use Rattle.std.specs.Prelude.{ℕ, ◌≤◌, List, length}
-use Rattle.std.specs.List.{All}
+use Rattle.std.specs.Prelude.{ℕ, ◌≤◌, length}
 use Rattle.script_tree.specs.declared.limits.TheConstants.{SETS, LOOKS}
 use Rattle.signal_graph.specs.declared.call.Call.{Call}
 use Rattle.signal_graph.specs.Graph.{Graph}

@@ -1,10 +1,9 @@
-use Rattle.std.proofs.Common.{◌≡◌, sym, ap, ◌∙◌, subst, Result, Ok, Err, length}
+use Rattle.std.proofs.Common.{◌≡◌, sym, ap, ◌∙◌, Result, Ok, Err, length}
 use Rattle.std.specs.Prelude.{IfOk, OnOk}
 use Rattle.script_tree.specs.declared.memory.OutOfMemory.{OutOfMemory}
-use Rattle.signal_graph.specs.declared.call.Call.{Call}
 use Rattle.signal_graph.specs.declared.call.Reply.{Reply}
 use Rattle.signal_graph.specs.Values.{Values, values}
-use Rattle.signal_graph.specs.Machine.{after, reply}
+use Rattle.signal_graph.specs.Machine.{after}
 use Rattle.signal_graph.specs.OnePass.{after_call}
 use Rattle.serial_machine.specs.State.{State, IsAt}
 use Rattle.serial_machine.specs.Between.{reply_between}
