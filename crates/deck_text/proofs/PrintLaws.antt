@@ -54,9 +54,12 @@ thread_next text threads k calls h e = ap (with_threads text) (drop_item threads
 pub threads_done : (text : List ℕ) (threads : List (List Call)) (k : ℕ) → length threads ≤ k → with_threads text (drop k threads) ≡ text
 threads_done text threads k h = ap (with_threads text) (drop_all k threads h)
 
+drop_number : (ns : List ℕ) (k : ℕ) → k < length ns → drop k ns ≡ get_or ns k 0 ∷ drop (k + 1) ns
+drop_number ns k h = rw (add-one, drop-cons ns k 0) refl
+
 pub candidate_next : (graph : Graph) (text : List ℕ) (ns : List ℕ) (k : ℕ) → k < length ns
     → with_more_names text (map (name_at graph) (drop k ns)) ≡ with_more_names (with_word (text ++ 44 ∷ []) (name_at graph (get_or ns k 0))) (map (name_at graph) (drop (k + 1) ns))
-candidate_next graph text ns k h = ap (λ xs. with_more_names text (map (name_at graph) xs)) (rw (add-one, drop-cons ns k 0) refl)
+candidate_next graph text ns k h = ap (λ (xs : List ℕ). with_more_names text (map (name_at graph) xs)) (drop_number ns k h)
 
 pub candidates_done : (graph : Graph) (text : List ℕ) (ns : List ℕ) (k : ℕ) → length ns ≤ k → with_more_names text (map (name_at graph) (drop k ns)) ≡ text
 candidates_done graph text ns k h = ap (λ xs. with_more_names text (map (name_at graph) xs)) (drop_all k ns h)
@@ -145,5 +148,14 @@ below_first bound ns first rest e h = subst (λ xs. All (λ m. m < bound) xs) e 
 
 pub below_rest : (bound : ℕ) (ns : List ℕ) (first : ℕ) (rest : List ℕ) → ns ≡ first ∷ rest → All (λ m. m < bound) ns → All (λ m. m < bound) rest
 below_rest bound ns first rest e h = All-tail (λ m. m < bound) first rest (subst (λ xs. All (λ m. m < bound) xs) e h)
+
+abbrev AllBelow : ℕ → Selector → Type 0
+AllBelow bound s = All (λ m. m < bound) s.candidates
+
+pub selectors_first : (bound : ℕ) (selectors : List Selector) (first : Selector) (rest : List Selector) → selectors ≡ first ∷ rest → All (λ s. All (λ m. m < bound) s.candidates) selectors → All (λ m. m < bound) first.candidates
+selectors_first bound selectors first rest e h = subst (λ xs. All (AllBelow bound) xs) e h 0 first (omega arith)
+
+pub selectors_rest : (bound : ℕ) (selectors : List Selector) (first : Selector) (rest : List Selector) → selectors ≡ first ∷ rest → All (λ s. All (λ m. m < bound) s.candidates) selectors → All (λ s. All (λ m. m < bound) s.candidates) rest
+selectors_rest bound selectors first rest e h = All-tail (AllBelow bound) first rest (subst (λ xs. All (AllBelow bound) xs) e h)
 
 pub ruleset first_laws = (no_names, first_name, no_sets, first_set, no_looks, some_looks, no_candidates, first_candidate, no_selectors, first_selector, below_first, below_rest)

@@ -17,7 +17,7 @@ use Rattle.deck_text.specs.Decks.{Decked}
 
 -- whether a text ends with a byte of a word
 abbrev pub ends_with_word : List ℕ → Bool
-ends_with_word text = option_map_or is_word false (slice_get text (length text - 1))
+ends_with_word text = option_map_or is_word (slice_get text (length text - 1)) false
 
 -- a word, with a space before it where it follows another one
 abbrev pub with_word : List ℕ → List ℕ → List ℕ
