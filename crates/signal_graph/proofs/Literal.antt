@@ -52,7 +52,7 @@ fold_stepped graph before kept earlier n start script inputs names agree old wit
     let next = if test then slice_set kept n (run script inputs now (at before n)) else kept in
     subst (λ v. Stepped kept next n (Fold start script inputs) earlier v)
     (ap (λ t. if t then run script inputs now (at before n) else at before n) (same_any n before now earlier agree inputs names)
-      ∙ ap (λ vs. if list_any (differs before earlier) inputs then eval_script script.tree vs (at before n) else at before n) (same_run n now earlier agree inputs names))
+    ∙ ap (λ vs. if list_any (differs before earlier) inputs then eval_script script.tree vs (at before n) else at before n) (same_run n now earlier agree inputs names))
     (cases (run script inputs now (at before n)) test)
   where
     cases : (r : Value) (t : Bool) → Stepped kept (if t then slice_set kept n r else kept) n (Fold start script inputs) earlier (if t then r else at before n)
@@ -90,15 +90,15 @@ literal_from (node ∷ rest) graph earlier kept set before n here long nodes_are
     let st = node_stepped graph set before kept earlier node n rest nodes_are folds now (agree n (omega arith)) within in
     let long_next = st.long in
     literal_from rest graph (earlier ++ v ∷ []) next set before (n + 1)
-      (omega (arith, length-append earlier (v ∷ [])))
-      (omega (arith, long_next))
-      nodes_are.1
-      (folds_after node n rest set before folds)
-      (λ k h. st.others k (λ e. omega arith) ∙ agree k (omega arith))
-      (λ s same. prefix s (λ m h. same m (omega arith) ∙ st.others m (λ e. omega arith))
-        ∙ ap (λ i. values_from (earlier ++ node_value node (at s i) earlier ∷ []) rest s) (sym here)
-        ∙ ap (λ u. values_from (earlier ++ node_value node u earlier ∷ []) rest s) (same n (omega arith))
-        ∙ ap (λ u. values_from (earlier ++ u ∷ []) rest s) st.here)
+    (omega (arith, length-append earlier (v ∷ [])))
+    (omega (arith, long_next))
+    nodes_are.1
+    (folds_after node n rest set before folds)
+    (λ k h. st.others k (λ e. omega arith) ∙ agree k (omega arith))
+    (λ s same. prefix s (λ m h. same m (omega arith) ∙ st.others m (λ e. omega arith))
+    ∙ ap (λ i. values_from (earlier ++ node_value node (at s i) earlier ∷ []) rest s) (sym here)
+    ∙ ap (λ u. values_from (earlier ++ node_value node u earlier ∷ []) rest s) (same n (omega arith))
+    ∙ ap (λ u. values_from (earlier ++ u ∷ []) rest s) st.here)
     ∙ ap (λ i. new_from before set (earlier ++ new_value node (at set i) (at before i) before earlier ∷ []) rest) here
 
 -- the folds' steps one after the other give the values of the one pass
@@ -159,7 +159,7 @@ set_agrees a b k n v long within e = cases (n == k) refl
     cases true here =
         let e : k ≡ n = grind (arith, eqb_tells, here) in
         subst (λ i. at (slice_set a i v) n ≡ at (slice_set b i v) n) (sym e)
-          (get_or-set_same a n v (Faulty NoChoice) within ∙ sym (get_or-set_same b n v (Faulty NoChoice) (omega arith)))
+        (get_or-set_same a n v (Faulty NoChoice) within ∙ sym (get_or-set_same b n v (Faulty NoChoice) (omega arith)))
     cases false there =
         let ne : n ≡ k → ⊥ = λ i. grind (arith, eqb_tells, there) in
         get_or-set_other a k n v (Faulty NoChoice) ne ∙ e ∙ sym (get_or-set_other b k n v (Faulty NoChoice) ne)
@@ -170,9 +170,9 @@ sets_agree graph a b [] n long within e = e
 sets_agree graph a b (s ∷ sets) n long within e =
     let k = number_of graph s.0 in
     sets_agree graph (slice_set a k s.1) (slice_set b k s.1) sets n
-      (length-set a k s.1 ∙ long ∙ sym (length-set b k s.1))
-      (omega (arith, length-set a k s.1))
-      (set_agrees a b k n s.1 long within e)
+    (length-set a k s.1 ∙ long ∙ sym (length-set b k s.1))
+    (omega (arith, length-set a k s.1))
+    (set_agrees a b k n s.1 long within e)
 
 -- the nodes of a graph from a number on
 abbrev There : Graph → ℕ → List Node → Type 0
@@ -194,18 +194,20 @@ folds_kept graph kept sets nodes_are named (Source start ∷ rest) n there long 
 folds_kept graph kept sets nodes_are named (Signal script inputs ∷ rest) n there long =
     folds_kept graph kept sets nodes_are named rest (n + 1) (there_rest graph n (Signal script inputs) rest there) (omega arith)
 folds_kept graph kept sets nodes_are named (Fold start script inputs ∷ rest) n there long =
-    let here = there_first graph n (Fold start script inputs) rest there in
-    (sets_keep graph kept sets n named (ap is_source here) ∙ sym (kept_at graph kept n (Fold start script inputs) nodes_are (omega arith) here),
-     folds_kept graph kept sets nodes_are named rest (n + 1) (there_rest graph n (Fold start script inputs) rest there) (omega arith))
+    let here = there_first graph n (Fold start script inputs) rest there in (
+      sets_keep graph kept sets n named (ap is_source here) ∙ sym (kept_at graph kept n (Fold start script inputs) nodes_are (omega arith) here),
+      folds_kept graph kept sets nodes_are named rest (n + 1) (there_rest graph n (Fold start script inputs) rest there) (omega arith),
+    )
 folds_kept graph kept sets nodes_are named (Choose selectors body inputs ∷ rest) n there long =
     folds_kept graph kept sets nodes_are named rest (n + 1) (there_rest graph n (Choose selectors body inputs) rest there) (omega arith)
 
 sources_same : (graph : Graph) (kept : Values) (sets : List (List ℕ × Value)) → AreNodes graph.names 0 graph.nodes → length kept ≡ length graph.nodes → (rest : List Node) (n : ℕ) → There graph n rest → n + length rest ≤ length graph.nodes → SameSources n rest (with_sets graph kept sets) (with_sets graph (values graph kept) sets)
 sources_same graph kept sets nodes_are fits [] n there long = tt
 sources_same graph kept sets nodes_are fits (Source start ∷ rest) n there long =
-    let here = there_first graph n (Source start) rest there in
-    (sets_agree graph kept (values graph kept) sets n (fits ∙ sym (length-values graph kept)) (omega arith) (sym (kept_at graph kept n (Source start) nodes_are (omega arith) here)),
-     sources_same graph kept sets nodes_are fits rest (n + 1) (there_rest graph n (Source start) rest there) (omega arith))
+    let here = there_first graph n (Source start) rest there in (
+      sets_agree graph kept (values graph kept) sets n (fits ∙ sym (length-values graph kept)) (omega arith) (sym (kept_at graph kept n (Source start) nodes_are (omega arith) here)),
+      sources_same graph kept sets nodes_are fits rest (n + 1) (there_rest graph n (Source start) rest there) (omega arith),
+    )
 sources_same graph kept sets nodes_are fits (Signal script inputs ∷ rest) n there long =
     sources_same graph kept sets nodes_are fits rest (n + 1) (there_rest graph n (Signal script inputs) rest there) (omega arith)
 sources_same graph kept sets nodes_are fits (Fold start script inputs ∷ rest) n there long =
@@ -230,7 +232,7 @@ literal graph is_graph kept fits (Fire sets looks) named =
     let right = sets_named graph 1 sets (map (names_node graph) looks) named in
     let there = λ (k : ℕ) (h : k < length graph.nodes). ap (node_at graph) (let e : 0 + k ≡ k = omega arith in e) in
     folds_literal graph (with_sets graph kept sets) (values graph kept) (omega (arith, length-with_sets graph kept sets)) is_graph.nodes
-      (folds_kept graph kept sets is_graph.nodes right graph.nodes 0 there (omega arith))
+    (folds_kept graph kept sets is_graph.nodes right graph.nodes 0 there (omega arith))
     ∙ new_same graph.nodes (values graph kept) (with_sets graph kept sets) (with_sets graph (values graph kept) sets) [] (sources_same graph kept sets is_graph.nodes fits graph.nodes 0 there (omega arith))
 literal graph is_graph kept fits (Read looks) named = refl
 

@@ -114,8 +114,8 @@ skips_node names n (Signal script inputs) u v a b is_node not_source not_fold h 
 skips_node names n (Fold start script inputs) u v a b is_node not_source not_fold h = absurd (not_fold refl)
 skips_node names n (Choose selectors body inputs) u v a b is_node not_source not_fold h =
     choose_same a b selectors body
-      (all_of_different _ [] (inputs_of_all selectors) tt (subst (AllByRecursion (λ m. at a m ≡ at b m)) is_node.4 (front _ inputs _ h)))
-      (back _ inputs _ h)
+    (all_of_different _ [] (inputs_of_all selectors) tt (subst (AllByRecursion (λ m. at a m ≡ at b m)) is_node.4 (front _ inputs _ h)))
+    (back _ inputs _ h)
 
 -- what the node with a number keeps
 pub node_is : (names : List (List ℕ)) (nodes : List Node) (from k : ℕ) → AreNodes names from nodes → k < length nodes → IsNode names (from + k) (slice_index_or nodes k (Source (Faulty Kind)))

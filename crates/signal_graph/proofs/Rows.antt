@@ -85,11 +85,11 @@ abbrev two_faults : Graph
 two_faults = record {
   names = codes "m" ∷ codes "p" ∷ codes "q" ∷ codes "r" ∷ codes "t" ∷ [];
   nodes =
-    Source (Int (negsuc 9223372036854775807))
-    ∷ Signal (script (codes "m" ∷ []) (Join Divide (Input 0) (Apply Negate (literal 1)))) (0 ∷ [])
-    ∷ Signal (script (codes "m" ∷ []) (Join Divide (Input 0) (literal 0))) (0 ∷ [])
-    ∷ Signal (sum (codes "p") (codes "q")) (1 ∷ 2 ∷ [])
-    ∷ Signal (sum (codes "q") (codes "p")) (2 ∷ 1 ∷ []) ∷ [];
+      Source (Int (negsuc 9223372036854775807))
+      ∷ Signal (script (codes "m" ∷ []) (Join Divide (Input 0) (Apply Negate (literal 1)))) (0 ∷ [])
+      ∷ Signal (script (codes "m" ∷ []) (Join Divide (Input 0) (literal 0))) (0 ∷ [])
+      ∷ Signal (sum (codes "p") (codes "q")) (1 ∷ 2 ∷ [])
+      ∷ Signal (sum (codes "q") (codes "p")) (2 ∷ 1 ∷ []) ∷ [];
 }
 
 two_faults_finals : finals two_faults [] ≡ Int (negsuc 9223372036854775807) ∷ Faulty Overflow ∷ Faulty ZeroDivisor ∷ Faulty Overflow ∷ Faulty ZeroDivisor ∷ []
@@ -119,9 +119,9 @@ abbrev choosing : Graph
 choosing = record {
   names = codes "i" ∷ codes "x" ∷ codes "y" ∷ codes "d" ∷ codes "e" ∷ [];
   nodes =
-    Source (num 2) ∷ Source (num 10) ∷ Source (num 20)
-    ∷ Choose (among (script (codes "i" ∷ []) (Input 0)) (0 ∷ []) (1 ∷ 2 ∷ []) ∷ []) None (0 ∷ [])
-    ∷ Choose (among (script (codes "i" ∷ []) (Join Divide (Input 0) (literal 0))) (0 ∷ []) (1 ∷ 2 ∷ []) ∷ []) None (0 ∷ []) ∷ [];
+      Source (num 2) ∷ Source (num 10) ∷ Source (num 20)
+      ∷ Choose (among (script (codes "i" ∷ []) (Input 0)) (0 ∷ []) (1 ∷ 2 ∷ []) ∷ []) None (0 ∷ [])
+      ∷ Choose (among (script (codes "i" ∷ []) (Join Divide (Input 0) (literal 0))) (0 ∷ []) (1 ∷ 2 ∷ []) ∷ []) None (0 ∷ []) ∷ [];
 }
 
 abbrev set_i : Value → List (List ℕ) → Call
@@ -167,8 +167,8 @@ abbrev two_picks : Graph
 two_picks = record {
   names = codes "s" ∷ codes "t" ∷ codes "x" ∷ codes "y" ∷ codes "d" ∷ [];
   nodes =
-    Source (num 0) ∷ Source (num 1) ∷ Source (num 10) ∷ Source (num 20)
-    ∷ Choose
+      Source (num 0) ∷ Source (num 1) ∷ Source (num 10) ∷ Source (num 20)
+      ∷ Choose
       (among (script (codes "s" ∷ []) (Input 0)) (0 ∷ []) (2 ∷ 3 ∷ []) ∷ among (script (codes "t" ∷ []) (Input 0)) (1 ∷ []) (2 ∷ 3 ∷ []) ∷ [])
       (Some (script [] (Join Subtract (Join OrElse (Pick 0) (literal 7)) (Pick 1)))) (0 ∷ 1 ∷ []) ∷ [];
 }

@@ -15,31 +15,26 @@ ghost use Rattle.signal_graph.specs.OnePass.{new_from, after_call};
 pub fn values_are()
     ensures each { (graph : Graph) → IsGraph graph → (kept : Values) (n : ℕ) → n < length graph.nodes → val graph kept n ≡ node_value (node_at graph n) (at kept n) (values graph kept) }
     ensures all { (graph : Graph) (kept : Values) → length (values graph kept) ≡ length graph.nodes }
-{
-}
+{}
 
 /// In two states, a signal or choose has the same value where all nodes have that its value rests on.
 pub fn skips()
     ensures { (graph : Graph) → IsGraph graph → (kept next : Values) (n : ℕ) → n < length graph.nodes → kind_of (node_at graph n) ≢ kind.Source → kind_of (node_at graph n) ≢ kind.Fold → AllByRecursion (λ m. val graph kept m ≡ val graph next m) (deps graph kept n) → val graph kept n ≡ val graph next n }
-{
-}
+{}
 
 /// The values after a call follow from those before it in one pass over the nodes, and the state has as many members as
 /// before.
 pub fn literal()
     ensures pass { (graph : Graph) → IsGraph graph → (kept : Values) → length kept ≡ length graph.nodes → (call : Call) → misnamed graph call ≡ None → values graph (after graph kept call) ≡ after_call graph (values graph kept) call }
     ensures size { (graph : Graph) (kept : Values) (call : Call) → length (after graph kept call) ≡ length kept }
-{
-}
+{}
 
 /// What one pass gives is a state, and its values are what it keeps.
 pub fn new_values_from()
     ensures { (graph : Graph) (before : Values) → values graph before ≡ before → (call : Call) → values graph (after_call graph before call) ≡ after_call graph before call }
-{
-}
+{}
 
 /// The value of each node of a graph can be found: its scripts run over what they name, and its body over its picks.
 pub fn can_evaluate()
     ensures { (graph : Graph) → IsGraph graph → (n : ℕ) → n < length graph.nodes → CanEvaluate (node_at graph n) }
-{
-}
+{}
