@@ -1,7 +1,7 @@
 -- Where a text is cut.
-use Rattle.std.proofs.Common.{◌≡◌, ℕ, ◌≤◌, Bool, List, length, take, refl, arith}
+use Rattle.std.proofs.Common.{◌≡◌, ℕ, Bool, List, length, arith}
 use Rattle.std.specs.Prelude.{not, take_while, reverse}
-use Rattle.std.specs.List.{position_or_len, prefix_len, suffix_len}
+use Rattle.std.specs.List.{position_or_len, suffix_len}
 use Rattle.std.proofs.lemmas.Grind.{common_steps}
 
 -- what stands before the first byte that passes is as long as its place says

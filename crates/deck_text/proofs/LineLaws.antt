@@ -1,6 +1,5 @@
 -- The first line of a text.
 use Rattle.std.proofs.Common.{◌≡◌, ℕ, suc, ◌+◌, ◌<◌, Bool, true, false, List, [], ◌∷◌, length, take, drop, refl, sym, ap, ◌∙◌, arith}
-use Rattle.std.specs.Prelude.{if◌then◌else◌}
 use Rattle.std.specs.List.{onto_first, before_first, after_first, position_or_len}
 use Rattle.deck_text.specs.Lines.{is_line_feed, lines}
 
@@ -18,9 +17,9 @@ lines_from b (c ∷ text) false e =
     let first = take_next n b (c ∷ text) in
     let rest = drop_next n b (c ∷ text) in
     rw e (
-        ap (onto_first b) (lines_from c text (is_line_feed c) refl)
-        ∙ ap (λ line. line ∷ lines (drop (n + 1) (c ∷ text))) (sym first)
-        ∙ ap (λ after. take (1 + n) (b ∷ c ∷ text) ∷ lines after) (sym rest))
+    ap (onto_first b) (lines_from c text (is_line_feed c) refl)
+    ∙ ap (λ line. line ∷ lines (drop (n + 1) (c ∷ text))) (sym first)
+    ∙ ap (λ after. take (1 + n) (b ∷ c ∷ text) ∷ lines after) (sym rest))
 
 -- a text with bytes has a first line, which ends before the first line feed or with the text
 pub lines_first : (text : List ℕ) → 0 < length text → lines text ≡ before_first is_line_feed text ∷ lines (after_first is_line_feed text)

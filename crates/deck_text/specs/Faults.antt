@@ -4,7 +4,6 @@ use Rattle.expr_script.specs.declared.faults.ScriptFault.{ScriptFault}
 use Rattle.expr_script.specs.declared.faults.ScriptFault.TheVariants as script
 use Rattle.signal_graph.specs.declared.builder.GraphFault.{GraphFault}
 use Rattle.signal_graph.specs.declared.builder.GraphFault.TheVariants as graph
-use Rattle.deck_text.specs.declared.fault.What.{What}
 use Rattle.deck_text.specs.declared.fault.What.TheVariants.{Nodes, Levels, Inputs}
 use Rattle.deck_text.specs.declared.fault.DeckFault.{DeckFault}
 use Rattle.deck_text.specs.declared.fault.DeckFault.TheVariants as fault

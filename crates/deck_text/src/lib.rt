@@ -14,9 +14,9 @@ mod names;
 mod printer;
 mod reader;
 mod reason;
-mod value;
 #[cfg(test)]
 mod tests;
+mod value;
 
 pub use crate::deck::Deck;
 pub use crate::fault::{DeckFault, What};

@@ -18,7 +18,10 @@ pub fn name(text: &[u8]) -> Result<Name, Reason> {
 
 /// How many texts a byte separates.
 pub fn separated(text: &[u8], byte: u8) -> usize {
-    text.iter().filter(|other| **other == byte).count().saturating_add(1)
+    text.iter()
+        .filter(|other| **other == byte)
+        .count()
+        .saturating_add(1)
 }
 
 /// The names that a text spells, separated by commas.

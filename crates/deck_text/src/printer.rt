@@ -11,8 +11,8 @@ use expr_script::print_script_to;
 use script_tree::items::Text;
 use script_tree::memory::OutOfMemory;
 use script_tree::name::Name;
-use script_tree::script::Script;
 use script_tree::print::print_value;
+use script_tree::script::Script;
 use script_tree::value::Value;
 use signal_graph::call::{Call, CallList};
 use signal_graph::graph::Graph;
@@ -241,11 +241,7 @@ fn push_selectors(
     push_more_selectors(alloc, text, graph, rest)
 }
 
-fn push_body(
-    alloc: Global,
-    text: &mut Text,
-    body: &Option<Script>,
-) -> Result<(), OutOfMemory>
+fn push_body(alloc: Global, text: &mut Text, body: &Option<Script>) -> Result<(), OutOfMemory>
     ensures { OnOk result (text.new ≡ with_body text.old body.now) }
 {
     match body {

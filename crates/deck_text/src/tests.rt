@@ -18,7 +18,13 @@ fn judged(alloc: Global, deck: &[u8]) -> Option<DeckFault> {
 }
 
 // A text so many times between two others.
-fn repeated(alloc: Global, before: &str, text: &str, count: u32, after: &str) -> Result<String, AllocError> {
+fn repeated(
+    alloc: Global,
+    before: &str,
+    text: &str,
+    count: u32,
+    after: &str,
+) -> Result<String, AllocError> {
     let mut deck = String::from_str(alloc, before)?;
     for _ in 0..count {
         deck.push_str(text)?;
@@ -28,7 +34,14 @@ fn repeated(alloc: Global, before: &str, text: &str, count: u32, after: &str) ->
 }
 
 // Texts with numbers from 0 on, separated by another one, between two others.
-fn numbered(alloc: Global, before: &str, text: &str, count: u32, between: &str, after: &str) -> Result<String, AllocError> {
+fn numbered(
+    alloc: Global,
+    before: &str,
+    text: &str,
+    count: u32,
+    between: &str,
+    after: &str,
+) -> Result<String, AllocError> {
     let mut deck = String::from_str(alloc, before)?;
     for number in 0..count {
         if number > 0 {
@@ -69,31 +82,98 @@ fn lines_of_every_form_are_read(rt: HostRuntime) {
 #[test]
 fn other_lines_are_refused(rt: HostRuntime) {
     for line in [
-        "threads", "thread x", "Thread", "-", "source", "source a", "source a =", "source a = b",
-        "source a == 1", "source = 1", "source a = 9223372036854775808", "source a = -9223372036854775809",
-        "source a = --1", "source a = -true", "source a = 1 2", "source a = 1,", "source a 1",
-        "source 1a = 1", "source acc = 1", "source a-b = 1", "sourcea = 1", "source a = 1 \r x",
-        "source abcdefghijklmnopqrstuvwxyzabcdefg = 1", "signal b", "signal b =", "signal b = acc",
-        "signal b = pick1", "signal b = (1", "signal b = 1 : 2", "signal b = = 1", "fold n = 0", "fold n = 0 :",
-        "fold n = x : acc", "fold n = 0 : acc : acc", "fold n : acc", "choose c = 1", "choose c = 1 among",
-        "choose c = 1 among c,", "choose c = among c", "choose c = 1 among c among c", "choose c = acc among c",
-        "choose c = 1 among c : 1 among c", "choose c = 1 : pick1", "choose c = 1 among c :",
-        "choose c = 1 among c : pick2", "choose c = 1 among c : 1 among c : pick3", "choose c = 1 among c : c",
-        "choose c = 1 among c : acc", "choose c = : 1 among c : pick1", "fire x=1", "read x",
+        "threads",
+        "thread x",
+        "Thread",
+        "-",
+        "source",
+        "source a",
+        "source a =",
+        "source a = b",
+        "source a == 1",
+        "source = 1",
+        "source a = 9223372036854775808",
+        "source a = -9223372036854775809",
+        "source a = --1",
+        "source a = -true",
+        "source a = 1 2",
+        "source a = 1,",
+        "source a 1",
+        "source 1a = 1",
+        "source acc = 1",
+        "source a-b = 1",
+        "sourcea = 1",
+        "source a = 1 \r x",
+        "source abcdefghijklmnopqrstuvwxyzabcdefg = 1",
+        "signal b",
+        "signal b =",
+        "signal b = acc",
+        "signal b = pick1",
+        "signal b = (1",
+        "signal b = 1 : 2",
+        "signal b = = 1",
+        "fold n = 0",
+        "fold n = 0 :",
+        "fold n = x : acc",
+        "fold n = 0 : acc : acc",
+        "fold n : acc",
+        "choose c = 1",
+        "choose c = 1 among",
+        "choose c = 1 among c,",
+        "choose c = among c",
+        "choose c = 1 among c among c",
+        "choose c = acc among c",
+        "choose c = 1 among c : 1 among c",
+        "choose c = 1 : pick1",
+        "choose c = 1 among c :",
+        "choose c = 1 among c : pick2",
+        "choose c = 1 among c : 1 among c : pick3",
+        "choose c = 1 among c : c",
+        "choose c = 1 among c : acc",
+        "choose c = : 1 among c : pick1",
+        "fire x=1",
+        "read x",
     ] {
-        assert_eq!(rt; judged(rt.alloc(), line.as_bytes()), Some(DeckFault::Syntax(1)), "{line}");
+        assert_eq!(rt;
+            judged(rt.alloc(), line.as_bytes()),
+            Some(DeckFault::Syntax(1)),
+            "{line}"
+        );
     }
 }
 
 #[test]
 fn other_calls_are_refused(rt: HostRuntime) -> Result<(), Fail> {
     for line in [
-        "fire", "fire x", "fire x=", "fire x=y", "fire x=1,", "fire ,x=1", "fire x=1 y=2", "fire x=1 look",
-        "fire x=1 look y,", "fire look y", "fire x=1 look y look z", "fire x=1look y", "read", "read ,", "read x y",
-        "read x,", "read 1", "read look", "source a = 1", "signal b = 1", "fold n = 0 : acc", "choose c = 1 among c",
+        "fire",
+        "fire x",
+        "fire x=",
+        "fire x=y",
+        "fire x=1,",
+        "fire ,x=1",
+        "fire x=1 y=2",
+        "fire x=1 look",
+        "fire x=1 look y,",
+        "fire look y",
+        "fire x=1 look y look z",
+        "fire x=1look y",
+        "read",
+        "read ,",
+        "read x y",
+        "read x,",
+        "read 1",
+        "read look",
+        "source a = 1",
+        "signal b = 1",
+        "fold n = 0 : acc",
+        "choose c = 1 among c",
     ] {
         let deck = repeated(rt.alloc(), "thread\n", line, 1, "\n")?;
-        assert_eq!(rt; judged(rt.alloc(), deck.as_bytes()), Some(DeckFault::Syntax(2)), "{line}");
+        assert_eq!(rt;
+            judged(rt.alloc(), deck.as_bytes()),
+            Some(DeckFault::Syntax(2)),
+            "{line}"
+        );
     }
     Ok(())
 }
@@ -106,11 +186,23 @@ fn the_first_faulty_line_is_answered(rt: HostRuntime) {
         ("source a = 1\nthr", DeckFault::Syntax(2)),
         ("# source\nsource a = 1 # x\nx#\nx", DeckFault::Syntax(3)),
         ("source a = 1\nsource a = 2\nx", DeckFault::DoubleName(2)),
-        ("source a = 1\nsignal a = b\nthread", DeckFault::DoubleName(2)),
-        ("source a = 1\n\nsignal b = a + c\nthread", DeckFault::UnknownInput(3)),
+        (
+            "source a = 1\nsignal a = b\nthread",
+            DeckFault::DoubleName(2),
+        ),
+        (
+            "source a = 1\n\nsignal b = a + c\nthread",
+            DeckFault::UnknownInput(3),
+        ),
         ("signal b = b\nthread", DeckFault::UnknownInput(1)),
-        ("source a = 1\nchoose c = a among c\nthread", DeckFault::UnknownInput(2)),
-        ("source a = 1\nchoose a = b among c : pick1\nthread", DeckFault::DoubleName(2)),
+        (
+            "source a = 1\nchoose c = a among c\nthread",
+            DeckFault::UnknownInput(2),
+        ),
+        (
+            "source a = 1\nchoose a = b among c : pick1\nthread",
+            DeckFault::DoubleName(2),
+        ),
     ] {
         assert_eq!(rt; judged(rt.alloc(), deck.as_bytes()), Some(fault), "{deck}");
     }
@@ -121,16 +213,43 @@ fn decks_at_their_limits(rt: HostRuntime) -> Result<(), Fail> {
     let alloc = rt.alloc();
     let limits = [
         (repeated(alloc, "", "thread\n", 256, "")?, None),
-        (repeated(alloc, "source a = 1\n", "thread\n", 257, "")?, Some(DeckFault::TooMany(258, What::Threads))),
-        (repeated(alloc, "source a = 1", " ", 4084, "\nthread")?, None),
-        (repeated(alloc, "source a = 1", " ", 4085, "\nthread")?, Some(DeckFault::LineTooLong(1))),
-        (repeated(alloc, "#", "#", 4095, "\r\nthread")?, Some(DeckFault::LineTooLong(1))),
+        (
+            repeated(alloc, "source a = 1\n", "thread\n", 257, "")?,
+            Some(DeckFault::TooMany(258, What::Threads)),
+        ),
+        (
+            repeated(alloc, "source a = 1", " ", 4084, "\nthread")?,
+            None,
+        ),
+        (
+            repeated(alloc, "source a = 1", " ", 4085, "\nthread")?,
+            Some(DeckFault::LineTooLong(1)),
+        ),
+        (
+            repeated(alloc, "#", "#", 4095, "\r\nthread")?,
+            Some(DeckFault::LineTooLong(1)),
+        ),
         (numbered(alloc, "thread\nread ", "n", 64, ",", "")?, None),
-        (numbered(alloc, "thread\nread ", "n", 65, ",", "")?, Some(DeckFault::TooMany(2, What::Looks))),
-        (numbered(alloc, "thread\nfire a=1 look ", "n", 65, ",", "")?, Some(DeckFault::TooMany(2, What::Looks))),
-        (numbered(alloc, "thread\nfire ", "a=", 64, ",", " look a")?, None),
-        (numbered(alloc, "thread\nfire ", "a=", 65, ",", " look a")?, Some(DeckFault::TooMany(2, What::Sets))),
-        (numbered(alloc, "thread\nfire ", "a=", 65, ",", " look 1")?, Some(DeckFault::Syntax(2))),
+        (
+            numbered(alloc, "thread\nread ", "n", 65, ",", "")?,
+            Some(DeckFault::TooMany(2, What::Looks)),
+        ),
+        (
+            numbered(alloc, "thread\nfire a=1 look ", "n", 65, ",", "")?,
+            Some(DeckFault::TooMany(2, What::Looks)),
+        ),
+        (
+            numbered(alloc, "thread\nfire ", "a=", 64, ",", " look a")?,
+            None,
+        ),
+        (
+            numbered(alloc, "thread\nfire ", "a=", 65, ",", " look a")?,
+            Some(DeckFault::TooMany(2, What::Sets)),
+        ),
+        (
+            numbered(alloc, "thread\nfire ", "a=", 65, ",", " look 1")?,
+            Some(DeckFault::Syntax(2)),
+        ),
     ];
     for (deck, fault) in &limits {
         assert_eq!(rt; judged(alloc, deck.as_bytes()), *fault);
@@ -142,8 +261,14 @@ fn decks_at_their_limits(rt: HostRuntime) -> Result<(), Fail> {
 fn nodes_at_their_limit(rt: HostRuntime) -> Result<(), Fail> {
     let alloc = rt.alloc();
     let limits = [
-        (numbered(alloc, "", "source n", 16384, "=1\n", "=1\nthread")?, None),
-        (numbered(alloc, "", "source n", 16385, "=1\n", "=1\nthread")?, Some(DeckFault::TooMany(16385, What::Nodes))),
+        (
+            numbered(alloc, "", "source n", 16384, "=1\n", "=1\nthread")?,
+            None,
+        ),
+        (
+            numbered(alloc, "", "source n", 16385, "=1\n", "=1\nthread")?,
+            Some(DeckFault::TooMany(16385, What::Nodes)),
+        ),
     ];
     for (deck, fault) in &limits {
         assert_eq!(rt; judged(alloc, deck.as_bytes()), *fault);
@@ -157,7 +282,10 @@ fn bytes_at_their_limit(rt: HostRuntime) -> Result<(), Fail> {
     let deck = repeated(alloc, "source a = 1\nthread\n", "#\n", 8_388_598, "")?;
     assert_eq!(rt; judged(alloc, deck.as_bytes()), None);
     let deck = repeated(alloc, "source a = 1\nthread\n", "#\n", 8_388_598, "#")?;
-    assert_eq!(rt; judged(alloc, deck.as_bytes()), Some(DeckFault::TooMany(8_388_601, What::Bytes)));
+    assert_eq!(rt;
+        judged(alloc, deck.as_bytes()),
+        Some(DeckFault::TooMany(8_388_601, What::Bytes))
+    );
     Ok(())
 }
 
@@ -165,19 +293,79 @@ fn bytes_at_their_limit(rt: HostRuntime) -> Result<(), Fail> {
 fn scripts_at_their_limits(rt: HostRuntime) -> Result<(), Fail> {
     let alloc = rt.alloc();
     let limits = [
-        (repeated(alloc, "signal b = ", "!", 64, "true\nthread")?, None),
-        (repeated(alloc, "signal b = ", "!", 65, "true\nthread")?, Some(DeckFault::TooMany(1, What::Levels))),
-        (numbered(alloc, "signal b = ", "n", 64, "+", "")?, Some(DeckFault::UnknownInput(1))),
-        (numbered(alloc, "signal b = ", "n", 65, "+", "")?, Some(DeckFault::TooMany(1, What::Inputs))),
-        (numbered(alloc, "choose b = 1 among ", "n", 64, ",", "")?, Some(DeckFault::UnknownInput(1))),
-        (numbered(alloc, "choose b = 1 among ", "n", 65, ",", "")?, Some(DeckFault::TooMany(1, What::Candidates))),
-        (numbered(alloc, "choose b = x among y : ", "n", 63, "+", " among y : pick1")?, Some(DeckFault::UnknownInput(1))),
-        (numbered(alloc, "choose b = x among y : ", "n", 64, "+", " among y : pick1")?, Some(DeckFault::TooMany(1, What::Inputs))),
-        (numbered(alloc, "choose b = 1 among y : x among ", "n", 65, ",", " : pick1 +")?, Some(DeckFault::Syntax(1))),
-        (repeated(alloc, "choose b = ", "1 among y : ", 4, "pick4")?, Some(DeckFault::UnknownInput(1))),
-        (repeated(alloc, "choose b = ", "1 among y : ", 5, "pick4")?, Some(DeckFault::TooMany(1, What::Selectors))),
-        (repeated(alloc, "choose b = ", "1 among y : ", 5, "pick5")?, Some(DeckFault::Syntax(1))),
-        (repeated(alloc, "choose b = 1 among y : ", "-", 65, "pick1")?, Some(DeckFault::TooMany(1, What::Levels))),
+        (
+            repeated(alloc, "signal b = ", "!", 64, "true\nthread")?,
+            None,
+        ),
+        (
+            repeated(alloc, "signal b = ", "!", 65, "true\nthread")?,
+            Some(DeckFault::TooMany(1, What::Levels)),
+        ),
+        (
+            numbered(alloc, "signal b = ", "n", 64, "+", "")?,
+            Some(DeckFault::UnknownInput(1)),
+        ),
+        (
+            numbered(alloc, "signal b = ", "n", 65, "+", "")?,
+            Some(DeckFault::TooMany(1, What::Inputs)),
+        ),
+        (
+            numbered(alloc, "choose b = 1 among ", "n", 64, ",", "")?,
+            Some(DeckFault::UnknownInput(1)),
+        ),
+        (
+            numbered(alloc, "choose b = 1 among ", "n", 65, ",", "")?,
+            Some(DeckFault::TooMany(1, What::Candidates)),
+        ),
+        (
+            numbered(
+                alloc,
+                "choose b = x among y : ",
+                "n",
+                63,
+                "+",
+                " among y : pick1",
+            )?,
+            Some(DeckFault::UnknownInput(1)),
+        ),
+        (
+            numbered(
+                alloc,
+                "choose b = x among y : ",
+                "n",
+                64,
+                "+",
+                " among y : pick1",
+            )?,
+            Some(DeckFault::TooMany(1, What::Inputs)),
+        ),
+        (
+            numbered(
+                alloc,
+                "choose b = 1 among y : x among ",
+                "n",
+                65,
+                ",",
+                " : pick1 +",
+            )?,
+            Some(DeckFault::Syntax(1)),
+        ),
+        (
+            repeated(alloc, "choose b = ", "1 among y : ", 4, "pick4")?,
+            Some(DeckFault::UnknownInput(1)),
+        ),
+        (
+            repeated(alloc, "choose b = ", "1 among y : ", 5, "pick4")?,
+            Some(DeckFault::TooMany(1, What::Selectors)),
+        ),
+        (
+            repeated(alloc, "choose b = ", "1 among y : ", 5, "pick5")?,
+            Some(DeckFault::Syntax(1)),
+        ),
+        (
+            repeated(alloc, "choose b = 1 among y : ", "-", 65, "pick1")?,
+            Some(DeckFault::TooMany(1, What::Levels)),
+        ),
     ];
     for (deck, fault) in &limits {
         assert_eq!(rt; judged(alloc, deck.as_bytes()), *fault, "{deck}");

@@ -1,4 +1,4 @@
-use Rattle.std.proofs.Common.{◌≡◌, [], ◌∷◌, ◌++◌, sym, ap, ◌∙◌, subst}
+use Rattle.std.proofs.Common.{◌≡◌, [], ◌∷◌, ◌++◌, sym, subst}
 use Rattle.deck_text.specs.Calls.{AreThreads}
 use Rattle.deck_text.proofs.ThreadLaws.{threads_kept}
 use Rattle.deck_text.proofs.reader.Reader.deck.Goals as goal
