@@ -1,2 +1,4 @@
 pub mod Inputs
 pub mod Answered
+pub mod Making
+pub mod Stopping

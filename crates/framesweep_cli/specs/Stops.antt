@@ -1,5 +1,5 @@
 -- Why there is no output.
-use Rattle.std.specs.Prelude.{◌≢◌, ℕ, ⊤, ⊥, List, Option, Err}
+use Rattle.std.specs.Prelude.{◌≢◌, ℕ, ⊤, List, Option, Err}
 use Rattle.fs_io.specs.Count.{Rose}
 use Rattle.deck_text.specs.declared.fault.DeckFault.TheVariants as fault
 use Rattle.framesweep_cli.specs.declared.stop.Stop.{Stop}

@@ -12,7 +12,7 @@ use serial_machine::serial;
 use std::alloc::Global;
 
 // The report of the run of a deck, thread after thread.
-#[tactic(auto, using(crate::proofs::Answered::legal_answered))]
+#[tactic(auto, using(crate::proofs::Answered::report_laws))]
 fn run(alloc: Global, deck: &Deck, versions: u32) -> Result<Text, OutOfMemory>
     ensures { IfOk result (IsReport deck.now versions) }
 {

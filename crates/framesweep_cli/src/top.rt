@@ -19,6 +19,7 @@ use script_tree::items::Text;
 use std::alloc::Global;
 
 // What the command makes of the input.
+#[tactic(auto, using(crate::proofs::Making::makes, crate::proofs::Making::refused_stops, crate::proofs::Making::unread_stops))]
 fn make<S: Source>(alloc: Global, command: &Command, source: &mut S) -> Result<Text, Stop>
     ensures ok { IfOk result (Makes command.now (S.left source.old)) }
     ensures err { IfErr result (IsStopped (S.left source.old) (S.faults source.old) (S.faults source.new)) }
@@ -71,6 +72,7 @@ fn stopped<E: Sink>(alloc: Global, stop: Stop, err: &mut E) -> Ending
 }
 
 // Does what a command asks for, and answers how that ended.
+#[tactic(auto, using(crate::proofs::Stopping::untouched, crate::proofs::Stopping::stop_happened))]
 fn carry_out<S: Source, O: Sink, E: Sink>(
     alloc: Global,
     command: &Command,

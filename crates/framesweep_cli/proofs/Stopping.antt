@@ -1,0 +1,29 @@
+-- From what was done to how it ended.
+use Rattle.std.proofs.Common.{◌≡◌, ℕ, List, Option, Some, None, refl, sym, subst, inl, inr}
+use Rattle.fs_io.specs.Bytes.{Adds, AddsFirst, Stays}
+use Rattle.fs_io.specs.Count.{Rose}
+use Rattle.framesweep_cli.specs.declared.command.Command.{Command}
+use Rattle.framesweep_cli.specs.declared.ending.Ending.{Ending}
+use Rattle.framesweep_cli.specs.declared.ending.Ending.TheVariants.{Done, Refused, ReadFailed, WriteFailed, OutOfMemory}
+use Rattle.framesweep_cli.specs.declared.stop.Stop.{Stop}
+use Rattle.framesweep_cli.specs.declared.stop.Stop.TheVariants.{Read, Deck, Memory}
+use Rattle.framesweep_cli.specs.Endings.{Says}
+use Rattle.framesweep_cli.specs.Statuses.{Devices, Happened, StopsSaying}
+use Rattle.framesweep_cli.specs.Stops.{IsStopped}
+
+-- what no call touched has stayed
+pub untouched : (held : Option (List ℕ)) → Stays held held
+untouched None = tt
+untouched (Some bytes) = refl
+
+-- an ending without output
+pub stop_happened : (command : Command) (before after : Devices) (stop : Stop) (ending : Ending) → Stays before.held after.held → IsStopped before.left before.source_faults after.source_faults stop → StopsSaying stop before.said after.said before.err_faults after.err_faults ending → Happened command before after ending
+stop_happened command before after Read ending held stopped told =
+    subst (Happened command before after) (sym told.0) (stopped, held, told.1)
+stop_happened command before after (Deck fault) ending held stopped told =
+    elim told [
+      | inl refused ↦ subst (Happened command before after) (sym refused.0) (stopped, held, refused.1)
+      | inr memory ↦ subst (Happened command before after) (sym memory.0) (held, memory.1)
+    ]
+stop_happened command before after Memory ending held stopped told =
+    subst (Happened command before after) (sym told.0) (held, told.1)
