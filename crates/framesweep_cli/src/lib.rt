@@ -7,6 +7,8 @@ mod input;
 mod lines;
 mod output;
 mod stop;
+#[cfg(test)]
+mod tests;
 mod top;
 mod words;
 
