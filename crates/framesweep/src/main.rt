@@ -6,10 +6,9 @@ use fs_io::adapters::{ReadSource, WriteSink};
 use fs_io::whole::write_all;
 use script_tree::items::Text;
 use script_tree::memory::OutOfMemory;
-use std::env;
-use std::io;
 use std::process::ExitCode;
 use std::rt::Env;
+use std::{env, io};
 
 /// The status where there is no memory.
 const NO_MEMORY: u8 = 5;

@@ -10,8 +10,11 @@ use script_tree::print::print_number;
 use std::alloc::Global;
 
 pub const WORDS_LINE: &[u8] = b"framesweep: words refused\n";
+
 pub const READ_LINE: &[u8] = b"framesweep: read fault\n";
+
 pub const WRITE_LINE: &[u8] = b"framesweep: write fault\n";
+
 pub const MEMORY_LINE: &[u8] = b"framesweep: want of memory\n";
 
 fn what_text(what: What) -> &'static [u8]

@@ -47,7 +47,11 @@ const TWO: &str = "source a = 1\nsignal b = a + 1\nthread\nfire a=5 look b\nread
 #[test]
 fn reports(rt: HostRuntime) -> Result<(), Fail> {
     let rows = [
-        ("run", "source a = 1\nthread\n", "final a=1\ndone 0 accepted 0 refused\n"),
+        (
+            "run",
+            "source a = 1\nthread\n",
+            "final a=1\ndone 0 accepted 0 refused\n",
+        ),
         (
             "run",
             TWO,
@@ -120,15 +124,45 @@ fn refusals(rt: HostRuntime) -> Result<(), Fail> {
         ("run --version 1", TWO, 1, "framesweep: words refused\n"),
         ("run --versions", TWO, 1, "framesweep: words refused\n"),
         ("run --versions +5", TWO, 1, "framesweep: words refused\n"),
-        ("run --versions 4000001", TWO, 1, "framesweep: words refused\n"),
-        ("run --versions 00000001", TWO, 1, "framesweep: words refused\n"),
-        ("run --versions 1 --versions=1", TWO, 1, "framesweep: words refused\n"),
+        (
+            "run --versions 4000001",
+            TWO,
+            1,
+            "framesweep: words refused\n",
+        ),
+        (
+            "run --versions 00000001",
+            TWO,
+            1,
+            "framesweep: words refused\n",
+        ),
+        (
+            "run --versions 1 --versions=1",
+            TWO,
+            1,
+            "framesweep: words refused\n",
+        ),
         ("print --versions 1", TWO, 1, "framesweep: words refused\n"),
         ("run --json", TWO, 1, "framesweep: words refused\n"),
         ("run", "", 2, "framesweep: no thread\n"),
-        ("run", "source a = 1\nthr", 2, "framesweep: line 2: syntax\n"),
-        ("run", "source a = 1\nsource a = 1\n", 2, "framesweep: line 2: double name\n"),
-        ("run", "signal b = a + 1\nthread\n", 2, "framesweep: line 1: unknown input\n"),
+        (
+            "run",
+            "source a = 1\nthr",
+            2,
+            "framesweep: line 2: syntax\n",
+        ),
+        (
+            "run",
+            "source a = 1\nsource a = 1\n",
+            2,
+            "framesweep: line 2: double name\n",
+        ),
+        (
+            "run",
+            "signal b = a + 1\nthread\n",
+            2,
+            "framesweep: line 1: unknown input\n",
+        ),
     ];
     for (words, deck, status, err) in rows {
         compare(&rt, rt.alloc(), words, deck, status, "", err)?;
@@ -145,7 +179,9 @@ fn device_faults(rt: HostRuntime) -> Result<(), Fail> {
     let mut err = SureSink::new(alloc, ROOM, 7)?;
     let status = framesweep(alloc, &words, &mut source, &mut out, &mut err);
     assert_eq!(rt; status, 4);
-    assert!(rt; out.held() == b"call".as_slice() && err.kept() == b"framesweep: write fault\n".as_slice());
+    assert!(rt;
+        out.held() == b"call".as_slice() && err.kept() == b"framesweep: write fault\n".as_slice()
+    );
     let mut source = MemSource::new(alloc, TWO.as_bytes(), 10, &[3])?;
     let mut out = SureSink::new(alloc, ROOM, 4)?;
     let mut err = SureSink::new(alloc, ROOM, 7)?;

@@ -58,6 +58,10 @@ pub fn report(alloc: Global, graph: &Graph, finished: &Finished) -> Result<Text,
     print_calls(&mut out, finished.log.as_slice())?;
     print_all_refused(&mut out, finished.refused.as_slice())?;
     print_finals(&mut out, graph, finished.finals.as_slice())?;
-    print_done(&mut out, finished.log.as_slice().len(), finished.refused.len())?;
+    print_done(
+        &mut out,
+        finished.log.as_slice().len(),
+        finished.refused.len(),
+    )?;
     Ok(out)
 }

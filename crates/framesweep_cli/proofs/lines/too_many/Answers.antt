@@ -11,6 +11,6 @@ joined head digits reason what end a b z first second third =
 pub returns : goal.returns
 returns c =
     joined (codes "framesweep: line ") (decimal c.args.line) (codes ": too many ") (what_text c.args.what) (10 ∷ []) _ _ _
-      c.in_ok-text.ensures
-      (c.in_ok-extend_from_slice.ensures.ok ∙ ap (λ w. c.in_ok-text.text ++ w) c.what_text.ensures)
-      c.in_ok-extend_from_slice-2.ensures.ok
+    c.in_ok-text.ensures
+    (c.in_ok-extend_from_slice.ensures.ok ∙ ap (λ w. c.in_ok-text.text ++ w) c.what_text.ensures)
+    c.in_ok-extend_from_slice-2.ensures.ok

@@ -10,4 +10,4 @@ joined o l1 d1 l2 d2 f a b z first second third =
 pub returns : goal.returns
 returns c =
     joined c.args.out.now (codes " fire changed ") (decimal c.args.changed) (codes " evaluated ") (decimal c.args.evaluated) _ _ _ _
-      c.in_ok-print_count.ensures c.in_ok-print_count-2.ensures c.in_ok-print_fire_looks.ensures
+    c.in_ok-print_count.ensures c.in_ok-print_count-2.ensures c.in_ok-print_fire_looks.ensures
