@@ -2,3 +2,4 @@ pub mod ReplyLaws
 pub mod Counting
 pub mod Runs
 pub mod Merging
+pub mod ThreadByThread

@@ -1,6 +1,6 @@
 -- A run of scripts one after the other is a merge of them.
 use Rattle.std.proofs.Common.{◌≡◌, ℕ, zero, suc, ◌+◌, ◌-◌, ◌<◌, ◌≤◌, min, Bool, true, false, cond, List, [], ◌∷◌, ◌++◌, length, take, Option, Some, None, refl, sym, ap, ◌∙◌, subst, arith, length-append, append_assoc}
-use Rattle.std.specs.Prelude.{◌==◌, is_none, slice_index, count_by, All}
+use Rattle.std.specs.Prelude.{◌==◌, is_none, slice_index, slice_index_or, count_by, All}
 use Rattle.std.specs.List.Sorted.{IsStrictlyIncreasing}
 use Rattle.std.proofs.lemmas.Bool.Decides.{eqb_tells}
 use Rattle.std.proofs.lemmas.List.{length-take, map-append, take_min}
@@ -16,6 +16,7 @@ use Rattle.signal_graph.specs.Machine.{misnamed}
 use Rattle.call_log.specs.Made.{entries_of, calls_in, versions_in, well_named, count_well_named, script_of, IsPrefix}
 use Rattle.call_log.specs.LeftOut.{why_not, left_behind, refusal, left_out_from, left_out_of}
 use Rattle.call_log.specs.Merge.{IsOfCaller, AreVersions, Merge}
+use Rattle.serial_machine.specs.SerialOrder.{CountsVersions}
 use Rattle.serial_machine.specs.Progress.{Progress, entry_of, with_entry, all_called, all_run, nothing_yet}
 
 -- so many numbers from one on
@@ -302,6 +303,20 @@ are_versions log h = record {
 
 none_yet : versions_in nothing_yet.log ≡ upto 1 (length nothing_yet.log)
 none_yet = refl
+
+version_at : (from : ℕ) (log : List Logged) → versions_in log ≡ upto from (length log) → (k : ℕ) (d : Logged) → k < length log → (slice_index_or log k d).version ≡ from + k
+version_at from [] h k d within = absurd (omega arith)
+version_at from (entry ∷ log) h zero d within = let first = first_version from entry log h in omega (arith, first)
+version_at from (entry ∷ log) h (suc k) d within =
+    let later = version_at (from + 1) log (other_versions from entry log h) k d (omega arith) in
+    omega (arith, later)
+
+-- the versions of a run count from 1
+pub run_counts_versions : (graph : Graph) (limit : ℕ) (scripts : List (List Call)) → CountsVersions (all_run graph limit 1 scripts nothing_yet).log
+run_counts_versions graph limit scripts k d within =
+    let log = (all_run graph limit 1 scripts nothing_yet).log in
+    let here = version_at 1 log (run_versions graph limit 1 scripts nothing_yet none_yet) k d within in
+    omega (arith, here)
 
 -- a run of scripts one after the other is a merge of them
 pub run_is_merge : (graph : Graph) (limit : ℕ) (scripts : List (List Call)) → Merge graph scripts limit (all_run graph limit 1 scripts nothing_yet).log (all_run graph limit 1 scripts nothing_yet).refused

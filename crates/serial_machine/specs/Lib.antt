@@ -2,3 +2,4 @@ pub mod State
 pub mod Between
 pub mod Progress
 pub mod Running
+pub mod SerialOrder

@@ -8,6 +8,7 @@ ghost use Rattle.call_log.specs.LeftOut.{why_not, refusal};
 ghost use Rattle.call_log.specs.Merge.{Merge};
 ghost use Rattle.serial_machine.specs.Progress.{why_not_next, entry_of, called, all_called, all_run, nothing_yet};
 ghost use Rattle.serial_machine.specs.Running.{IsWithinLimits};
+ghost use Rattle.serial_machine.specs.SerialOrder.{IsThreadAfterThread, CountsVersions};
 
 use crate::machine::Machine;
 use call_log::{Finished, Log, Logged, Refused, RefusedList, Why};
@@ -150,8 +151,8 @@ impl<'g> Run<'g> {
     }
 }
 
-/// Runs all calls of thread 1, then all of thread 2, and so on, with versions in that order. A misnamed call is not
-/// made, and neither is a well-named one that finds `versions` calls made. Takes memory.
+/// Runs all calls of thread 1, then all of thread 2, and so on. The log has them in that order, with versions that count
+/// from 1. A misnamed call is not made, and neither is a well-named one that finds `versions` calls made. Takes memory.
 #[tactic(auto, using(crate::proofs::Runs::next_caller))]
 pub fn serial(
     alloc: Global,
@@ -164,6 +165,8 @@ pub fn serial(
     requires within { All (All IsWithinLimits) scripts.now }
     ensures legal { IfOk result (λ run. Legal graph.now run.log.entries) }
     ensures merge { IfOk result (λ run. Merge graph.now scripts.now versions run.log.entries run.refused) }
+    ensures order { IfOk result (λ run. IsThreadAfterThread run.log.entries) }
+    ensures versions { IfOk result (λ run. CountsVersions run.log.entries) }
     ensures finals { IfOk result (λ run. run.finals ≡ finals graph.now run.log.entries) }
 {
     let mut run = Run::new(alloc, graph, versions)?;

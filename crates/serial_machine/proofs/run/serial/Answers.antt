@@ -7,8 +7,10 @@ use Rattle.signal_graph.specs.Graph.{Graph}
 use Rattle.signal_graph.specs.Legal.{Legal}
 use Rattle.call_log.specs.Merge.{Merge}
 use Rattle.serial_machine.specs.Progress.{Progress, all_run, nothing_yet}
+use Rattle.serial_machine.specs.SerialOrder.{IsThreadAfterThread, CountsVersions}
 use Rattle.serial_machine.proofs.Runs.{run_is_legal, run_ends}
-use Rattle.serial_machine.proofs.Merging.{run_is_merge}
+use Rattle.serial_machine.proofs.Merging.{run_is_merge, run_counts_versions}
+use Rattle.serial_machine.proofs.ThreadByThread.{run_is_thread_by_thread}
 use Rattle.serial_machine.proofs.run.serial.Goals as goal
 
 -- where the loop has gone over all scripts, the run is that of all of them
@@ -24,6 +26,12 @@ merge graph limit scripts log refused progress e f h =
     (subst (λ r. Merge graph scripts limit (all_run graph limit 1 scripts nothing_yet).log r) (sym (f ∙ ap (λ (p : Progress). p.refused) h))
     (run_is_merge graph limit scripts))
 
+in_order : (graph : Graph) (limit : ℕ) (scripts : List (List Call)) (log : List Logged) (progress : Progress) → log ≡ progress.log → progress ≡ all_run graph limit 1 scripts nothing_yet → IsThreadAfterThread log
+in_order graph limit scripts log progress e h = subst IsThreadAfterThread (sym (e ∙ ap (λ (p : Progress). p.log) h)) (run_is_thread_by_thread graph limit scripts)
+
+counting : (graph : Graph) (limit : ℕ) (scripts : List (List Call)) (log : List Logged) (progress : Progress) → log ≡ progress.log → progress ≡ all_run graph limit 1 scripts nothing_yet → CountsVersions log
+counting graph limit scripts log progress e h = subst (λ l. CountsVersions l) (sym (e ∙ ap (λ (p : Progress). p.log) h)) (run_counts_versions graph limit scripts)
+
 pub returns-clause-legal : goal.returns-clause-legal
 returns-clause-legal c =
     let scripts = c.args.scripts.now in
@@ -38,4 +46,20 @@ returns-clause-merge c =
     let same : length c.as_slice-calls-items.result.now ≡ length scripts = ap length c.as_slice-calls-items.ensures in
     let done : length scripts ≤ c.loop-index.index = first_of (omega arith, first_of (search rules, grind (arith, common_steps))) in
     merge c.args.graph.now c.args.versions scripts c.finish.result.log.entries c.finish.result.refused c.loop-index.run.progress c.finish.ensures.log c.finish.ensures.refused
+    (whole c.args.graph.now c.args.versions scripts c.loop-index.index c.loop-index.run.progress done c.loop-index.invariant.2)
+
+pub returns-clause-order : goal.returns-clause-order
+returns-clause-order c =
+    let scripts = c.args.scripts.now in
+    let same : length c.as_slice-calls-items.result.now ≡ length scripts = ap length c.as_slice-calls-items.ensures in
+    let done : length scripts ≤ c.loop-index.index = first_of (omega arith, first_of (search rules, grind (arith, common_steps))) in
+    in_order c.args.graph.now c.args.versions scripts c.finish.result.log.entries c.loop-index.run.progress c.finish.ensures.log
+    (whole c.args.graph.now c.args.versions scripts c.loop-index.index c.loop-index.run.progress done c.loop-index.invariant.2)
+
+pub returns-clause-versions : goal.returns-clause-versions
+returns-clause-versions c =
+    let scripts = c.args.scripts.now in
+    let same : length c.as_slice-calls-items.result.now ≡ length scripts = ap length c.as_slice-calls-items.ensures in
+    let done : length scripts ≤ c.loop-index.index = first_of (omega arith, first_of (search rules, grind (arith, common_steps))) in
+    counting c.args.graph.now c.args.versions scripts c.finish.result.log.entries c.loop-index.run.progress c.finish.ensures.log
     (whole c.args.graph.now c.args.versions scripts c.loop-index.index c.loop-index.run.progress done c.loop-index.invariant.2)
