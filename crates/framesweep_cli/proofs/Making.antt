@@ -5,7 +5,7 @@ use Rattle.fs_io.specs.Count.{Rose}
 use Rattle.framesweep_cli.specs.declared.command.Command.{Command}
 use Rattle.framesweep_cli.specs.declared.stop.Stop.{Stop}
 use Rattle.framesweep_cli.specs.declared.stop.Stop.TheVariants.{Read, Deck, Memory}
-use Rattle.framesweep_cli.specs.Endings.{IsInput, ReadsDeck, IsOutput, Makes}
+use Rattle.framesweep_cli.specs.Endings.{IsInput, ReadsDeck, IsReport, IsSerial, IsAnyOrder, IsOutput, Makes}
 use Rattle.framesweep_cli.specs.Stops.{IsRefused, IsUnread, IsStopped}
 
 pub makes : (command : Command) (left : Option (List ℕ)) (bytes : List ℕ) (deck : Decked) (text : List ℕ) → IsInput left bytes → ReadsDeck bytes (Ok deck) → IsOutput command deck text → Makes command left text
@@ -22,3 +22,7 @@ pub unread_stops : (left : Option (List ℕ)) (before after : ℕ) (stop : Stop)
 unread_stops left before after Read unread = unread
 unread_stops left before after (Deck fault) unread = absurd unread
 unread_stops left before after Memory unread = unread
+
+-- a report in thread order is one in some order
+pub in_any_order : (deck : Decked) (versions : ℕ) (text : List ℕ) → IsReport deck versions IsSerial text → IsReport deck versions IsAnyOrder text
+in_any_order deck versions text r = record { log = r.log; refused = r.refused; ordered = tt; legal = r.legal; merge = r.merge; bytes = r.bytes }

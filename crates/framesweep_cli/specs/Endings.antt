@@ -7,6 +7,7 @@ use Rattle.signal_graph.specs.declared.log.Logged.{Logged}
 use Rattle.signal_graph.specs.declared.log.Refused.{Refused}
 use Rattle.signal_graph.specs.Legal.{Legal, finals}
 use Rattle.call_log.specs.Merge.{Merge}
+use Rattle.serial_machine.specs.SerialOrder.{IsThreadAfterThread, CountsVersions}
 use Rattle.deck_text.specs.declared.fault.DeckFault.{DeckFault}
 use Rattle.deck_text.specs.declared.fault.DeckFault.TheVariants.{Memory}
 use Rattle.deck_text.specs.Calls.{AreThreads}
@@ -29,18 +30,27 @@ ReadsDeck bytes (Ok deck) = AreThreads deck.scripts
 ReadsDeck bytes (Err fault) = NamesLine (length (lines bytes)) fault
 
 -- the report of a run of a deck: every reply is the one-thread machine's in the order of the log, the log and what was
--- refused are one merge of all threads' calls, and the final values are those behind the log
-pub record IsReport (deck : Decked) (versions : ℕ) (text : List ℕ) : Type 0 where
+-- refused are one merge of all threads' calls, the final values are those behind the log, and the log is ordered so
+pub record IsReport (deck : Decked) (versions : ℕ) (Ordered : List Logged → Type 0) (text : List ℕ) : Type 0 where
   pub log : List Logged
   pub refused : List Refused
+  pub ordered : Ordered log
   pub legal : Legal deck.graph log
   pub merge : Merge deck.graph deck.scripts versions log refused
   pub bytes : text ≡ report_of log refused deck.graph.names (finals deck.graph log)
 
+-- all calls of a thread come before those of a later one, with versions that count from 1
+abbrev pub IsSerial : List Logged → Type 0
+IsSerial log = IsThreadAfterThread log × CountsVersions log
+
+-- any order will do
+abbrev pub IsAnyOrder : List Logged → Type 0
+IsAnyOrder log = ⊤
+
 -- what a command writes for a deck
 abbrev pub IsOutput : Command → Decked → List ℕ → Type 0
-IsOutput (Run versions) deck text = IsReport deck versions text
-IsOutput (Serial versions) deck text = IsReport deck versions text
+IsOutput (Run versions) deck text = IsReport deck versions IsAnyOrder text
+IsOutput (Serial versions) deck text = IsReport deck versions IsSerial text
 IsOutput Print deck text = text ≡ canonical deck
 
 -- the input is read as a deck, and the text is what the command writes for it

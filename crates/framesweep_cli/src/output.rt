@@ -1,7 +1,7 @@
 // What a command writes for a deck.
 
 ghost use Rattle.std.specs.Prelude.{◌≡◌, ◌≤◌, IfOk};
-ghost use Rattle.framesweep_cli.specs.Endings.{IsOutput, IsReport};
+ghost use Rattle.framesweep_cli.specs.Endings.{IsOutput, IsReport, IsSerial};
 
 use crate::command::Command;
 use deck_text::{Deck, print_deck};
@@ -14,7 +14,7 @@ use std::alloc::Global;
 // The report of the run of a deck, thread after thread.
 #[tactic(auto, using(crate::proofs::Answered::report_laws))]
 fn run(alloc: Global, deck: &Deck, versions: u32) -> Result<Text, OutOfMemory>
-    ensures { IfOk result (IsReport deck.now versions) }
+    ensures { IfOk result (IsReport deck.now versions IsSerial) }
 {
     let graph = deck.graph();
     let finished = serial(alloc, graph, deck.scripts(), versions)?;
@@ -22,6 +22,7 @@ fn run(alloc: Global, deck: &Deck, versions: u32) -> Result<Text, OutOfMemory>
 }
 
 /// What a command writes for a deck. Takes memory.
+#[tactic(auto, using(crate::proofs::Making::in_any_order))]
 pub fn output(alloc: Global, command: &Command, deck: &Deck) -> Result<Text, OutOfMemory>
     ensures { IfOk result (IsOutput command.now deck.now) }
 {
