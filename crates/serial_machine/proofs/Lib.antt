@@ -1,5 +1,6 @@
 pub mod ReplyLaws
 pub mod Counting
+pub mod OnePass
 pub mod Runs
 pub mod Merging
 pub mod ThreadByThread

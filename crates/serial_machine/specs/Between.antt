@@ -1,5 +1,5 @@
 -- A reply from the values of all nodes before a call and after it.
-use Rattle.std.specs.Prelude.{ℕ, Bool, not, ◌&&◌, List, ◌++◌, length, map, filter}
+use Rattle.std.specs.Prelude.{ℕ, Bool, cond, not, ◌&&◌, List, ◌++◌, length, map, filter}
 use Rattle.std.specs.List.{list_any}
 use Rattle.script_tree.specs.declared.value.Value.{Value}
 use Rattle.signal_graph.specs.declared.node.Node.{Node}
@@ -14,6 +14,10 @@ use Rattle.signal_graph.specs.Machine.{differs}
 -- a node is no source, and a node that its value rested on before has another value now
 abbrev pub is_evaluated : Values → Values → Node → Bool
 is_evaluated before now node = not (is_source node) && list_any (differs before now) (inputs_of node ++ nodes_in (picks_of node before))
+
+-- 1 for a test that holds
+abbrev pub one_if : Bool → ℕ
+one_if test = cond test 1 0
 
 abbrev pub count_changed : Graph → Values → Values → ℕ
 count_changed graph before now = length (filter (differs before now) (numbers graph))

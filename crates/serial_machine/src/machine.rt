@@ -9,7 +9,6 @@ ghost use Rattle.signal_graph.specs.OnePass.{after_call};
 ghost use Rattle.serial_machine.specs.State.{IsAt};
 ghost use Rattle.serial_machine.specs.Between.{count_changed, count_evaluated, looked_in, reply_between};
 
-use crate::compare::{count_changed, count_evaluated};
 use crate::pass::new_values;
 use script_tree::items::Items;
 use script_tree::memory::OutOfMemory;
@@ -75,26 +74,6 @@ fn look(
         seen.push(value_at(values, number_of(graph, name)))?;
     }
     Ok(seen)
-}
-
-/// The reply to a fire, from the values of all nodes before it and after it.
-fn fire_reply(
-    alloc: Global,
-    graph: &Graph,
-    before: &[Value],
-    now: &[Value],
-    looks: &NameList,
-) -> Result<Reply, OutOfMemory>
-    ensures { IfOk result (λ answer. answer ≡ Reply.Fire (count_changed graph.now before.now now.now) (count_evaluated graph.now before.now now.now) (looked_in graph.now now.now looks.now)) }
-{
-    let looks = look(alloc, graph, now, looks)?;
-    let changed = count_changed(graph, before, now);
-    let evaluated = count_evaluated(alloc, graph, before, now)?;
-    Ok(Reply::Fire {
-        changed,
-        evaluated,
-        looks,
-    })
 }
 
 /// Puts what is set in the place of what the sources have, one set after the other.
@@ -180,22 +159,20 @@ impl<'g> Machine<'g> {
         self.set.clear();
         self.set.extend_from_slice(self.values.as_slice())?;
         apply(self.graph, sets, &mut self.set);
-        new_values(
+        let counts = new_values(
             self.alloc,
             self.graph,
             self.values.as_slice(),
             self.set.as_slice(),
             &mut self.next,
         )?;
-        let reply = fire_reply(
-            self.alloc,
-            self.graph,
-            self.values.as_slice(),
-            self.next.as_slice(),
-            looks,
-        )?;
+        let looks = look(self.alloc, self.graph, self.next.as_slice(), looks)?;
         mem::swap(&mut self.values, &mut self.next);
-        Ok(reply)
+        Ok(Reply::Fire {
+            changed: counts.changed,
+            evaluated: counts.evaluated,
+            looks,
+        })
     }
 
     /// The graph. Takes no memory.
