@@ -9,7 +9,7 @@ mod steps;
 mod view;
 mod writer;
 
-pub use entry::{Entry, Names};
+pub use entry::{Entry, Named, Names};
 pub use note::Note;
 pub use writer::Writer;
 

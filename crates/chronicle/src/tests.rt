@@ -6,26 +6,11 @@ use std::snapshot::Snapshot;
 use std::test::*;
 use std::thread::{Threads, join_mut};
 
-/// A number that was sent by a caller to a node.
-#[derive(Drop)]
-struct Sent {
-    number: Snapshot<u64>,
-    caller: Snapshot<u64>,
-    node: Snapshot<u64>,
-}
-
-impl Names<u64> for Sent {
-    ghost entry_of = { λ s. record { event = s.number.value; first_key = s.caller.value; second_key = s.node.value } };
-}
-
-fn name_sent(number: u64, caller: u64, node: u64) -> Sent
-    ensures { (result.number.value ≡ number) × (result.caller.value ≡ caller) × (result.node.value ≡ node) }
+// Names a number that a caller sent to a node.
+fn sent(number: u64, caller: u64, node: u64) -> Named<u64>
+    ensures { result ≡ record { event = number; first_key = caller; second_key = node } }
 {
-    Sent {
-        number: Snapshot::of(&number),
-        caller: Snapshot::of(&caller),
-        node: Snapshot::of(&node),
-    }
+    Named::new(&number, caller, node)
 }
 
 #[test]
@@ -33,9 +18,9 @@ fn notes_of_three_keys_in_one_thread(rt: HostRuntime) -> Result<(), Fail> {
     let mut writer = Writer::new(rt.alloc())?;
     let first = writer.note(0);
     let caller = writer.note(1);
-    writer.append(name_sent(7, 2, 0));
+    writer.append(sent(7, 2, 0));
     let node = writer.note(2);
-    writer.append(name_sent(8, 0, 0));
+    writer.append(sent(8, 0, 0));
     assert_eq!(rt;
         [first.len(), caller.len(), node.len(), writer.len()],
         [0, 0, 1, 2]
@@ -43,7 +28,7 @@ fn notes_of_three_keys_in_one_thread(rt: HostRuntime) -> Result<(), Fail> {
 
     let caller = writer.meet(caller);
     writer.retire(node);
-    writer.append(name_sent(9, 3, 2));
+    writer.append(sent(9, 3, 2));
     let second = writer.note(0);
     assert_eq!(rt;
         [first.len(), caller.len(), second.len(), writer.len()],
@@ -51,7 +36,7 @@ fn notes_of_three_keys_in_one_thread(rt: HostRuntime) -> Result<(), Fail> {
     );
 
     writer.retire(caller);
-    writer.append(name_sent(10, 1, 2));
+    writer.append(sent(10, 1, 2));
     let first = writer.meet(first);
     assert_eq!(rt; [first.len(), second.len(), writer.len()], [4, 3, 4]);
     writer.retire(second);
@@ -95,7 +80,7 @@ fn taken(place: Place) -> (Note<u64>, u64)
 fn a_note_is_handed_to_a_second_thread_and_back(rt: HostRuntime) -> Result<(), Fail> {
     let mut writer = Writer::new(rt.alloc())?;
     let one = writer.note(1);
-    writer.append(name_sent(7, 3, 0));
+    writer.append(sent(7, 3, 0));
     let two = writer.note(2);
     let mut front = Place {
         note: Some(one),
@@ -109,7 +94,7 @@ fn a_note_is_handed_to_a_second_thread_and_back(rt: HostRuntime) -> Result<(), F
     let (one, first) = taken(front);
     let (two, second) = taken(back);
     writer.retire(one);
-    writer.append(name_sent(8, 1, 0));
+    writer.append(sent(8, 1, 0));
     let two = writer.meet(two);
     assert_eq!(rt; [first, second, two.len()], [0, 1, 2]);
     writer.retire(two);
