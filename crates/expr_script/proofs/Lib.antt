@@ -6,3 +6,5 @@ pub mod Leaves
 pub mod Made
 pub mod Written
 pub mod OneAnswer
+pub mod OneCut
+pub mod FoundCut

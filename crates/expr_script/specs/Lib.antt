@@ -1,4 +1,5 @@
 pub mod Pieces
+pub mod Cut
 pub mod Words
 pub mod Tokens
 pub mod Spelled

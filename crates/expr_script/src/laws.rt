@@ -4,7 +4,16 @@ ghost use Rattle.std.specs.Prelude.{◌≡◌, ◌≢◌, ℕ, Bool, List, Resul
 ghost use Rattle.script_tree.specs.Scripts.{Scripted};
 ghost use Rattle.expr_script.specs.declared.faults.ScriptFault.{ScriptFault};
 ghost use Rattle.expr_script.specs.declared.faults.ScriptFault.TheVariants.{Memory};
+ghost use Rattle.expr_script.specs.declared.pieces.Piece.{Piece};
+ghost use Rattle.expr_script.specs.Cut.{IsCut};
+ghost use Rattle.expr_script.specs.Pieces.{pieces};
 ghost use Rattle.expr_script.specs.Spelled.{IsScriptAnswer, IsBodyAnswer};
+
+/// A text has one cut into words and signs, and its pieces are it.
+pub fn one_cut()
+    ensures cut { (text : List ℕ) → IsCut text (pieces text) }
+    ensures one { (text : List ℕ) (found other : List Piece) → IsCut text found → IsCut text other → found ≡ other }
+{}
 
 /// Words have one answer, want of memory aside. So each answer comes exactly where what it says holds: a script where the
 /// words spell it, and each fault where its cause is there, at its place.

@@ -2,6 +2,7 @@
 
 ghost use Rattle.std.specs.Prelude.{◌≡◌, ◌+◌, ◌<◌, ◌≤◌, ◌++◌, drop, length, take_while, All, IfOk};
 ghost use Rattle.script_tree.specs.Names.{is_word};
+ghost use Rattle.expr_script.specs.Cut.{IsCut};
 ghost use Rattle.expr_script.specs.Pieces.{is_blank, is_pair, piece_len, pieces_from, pieces, bytes_of};
 
 use script_tree::memory::OutOfMemory;
@@ -96,6 +97,7 @@ fn one_byte(
 /// the longest is taken, blanks are space and tab, and any other byte is a piece by itself. The bytes need not be
 /// UTF-8. Takes memory; want of it is the one error.
 pub fn pieces(alloc: Global, text: &[u8]) -> Result<Vec<Piece>, OutOfMemory>
+    ensures cut { IfOk result (λ found. IsCut text.now found.items) }
     ensures found { IfOk result (λ found. found.items ≡ pieces text.now) }
     ensures within { IfOk result (λ found. All (λ piece. piece.from + piece.len ≤ length text.now) found.items) }
     ensures some { IfOk result (λ found. All (λ piece. 0 < piece.len) found.items) }
