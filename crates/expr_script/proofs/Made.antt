@@ -86,11 +86,11 @@ pub fold_named : (words known : List (List ℕ)) → list_all is_name known ≡ 
 fold_named [] known h = h
 fold_named (v ∷ words) known h = fold_named words (with_name known v) (with_named known v h)
 
-everywhere : (P : List ℕ → Type 0) (words : List (List ℕ)) → ((w : List ℕ) → P w) → AllByRecursion P words
+pub everywhere : (P : List ℕ → Type 0) (words : List (List ℕ)) → ((w : List ℕ) → P w) → AllByRecursion P words
 everywhere P [] h = tt
 everywhere P (w ∷ words) h = (h w, everywhere P words h)
 
-tokens_pass : (test : Tree → Bool) (atoms : Atoms) (known words : List (List ℕ)) → PassesAtoms test atoms → AllByRecursion (λ w. is_name w ≡ true → Passes test (name_token atoms known w)) words → all_words (λ w. test (word_tree w)) (tokens_among atoms known words) ≡ true
+pub tokens_pass : (test : Tree → Bool) (atoms : Atoms) (known words : List (List ℕ)) → PassesAtoms test atoms → AllByRecursion (λ w. is_name w ≡ true → Passes test (name_token atoms known w)) words → all_words (λ w. test (word_tree w)) (tokens_among atoms known words) ≡ true
 tokens_pass test atoms known [] h named = refl
 tokens_pass test atoms known (w ∷ words) h named =
     words_cons test (token atoms known w) (tokens_among atoms known words) (token_passes test atoms known w h named.0).passed (tokens_pass test atoms known words h named.1)
@@ -125,7 +125,7 @@ body_acc_atoms picks = record { truths = record { yes = refl; no = refl }; numbe
 body_pick_atoms : (picks : ℕ) → PassesAtoms (pick_below picks) (Body picks)
 body_pick_atoms picks = record { truths = record { yes = refl; no = refl }; numbers = λ m h. refl; others = λ w. body_passes (pick_below picks) picks w (record { yes = refl; no = refl }) (λ i h. h) }
 
-below_true : (m n : ℕ) → m < n → nat_lt m n ≡ true
+pub below_true : (m n : ℕ) → m < n → nat_lt m n ≡ true
 below_true m n h = grind (arith, nat_tests)
 
 length_take : (n : ℕ) (xs : List (List ℕ)) → length (take n xs) ≤ n

@@ -1,5 +1,5 @@
 -- Words have one answer, want of memory aside.
-use Rattle.std.proofs.Common.{◌≡◌, ℕ, List, refl, sym, ap, ◌∙◌, arith}
+use Rattle.std.proofs.Common.{◌≡◌, ℕ, Bool, true, false, List, refl, sym, ap, ◌∙◌, arith}
 use Rattle.std.specs.Prelude.{Result, Ok, Err, ◌≢◌}
 use Rattle.script_tree.specs.declared.limits.TheConstants.{LEVELS}
 use Rattle.script_tree.specs.Tree.{Tree}
@@ -48,3 +48,11 @@ one_answer g atoms words places (Err TooManyInputs) (Ok t) p q m n = absurd (ome
 one_answer g atoms words places (Err TooManyInputs) (Err (Syntax to)) p q m n = absurd (q.first.fault.none p.spelled p.tree)
 one_answer g atoms words places (Err TooManyInputs) (Err (TooDeep to)) p q m n = absurd (g.shallow LEVELS (tokens atoms words) q.number p.shallow q.first)
 one_answer g atoms words places (Err TooManyInputs) (Err TooManyInputs) p q m n = refl
+
+is_script : Result Scripted ScriptFault → Bool
+is_script (Ok s) = true
+is_script (Err e) = false
+
+pub script_is_no_fault : (s : Scripted) (e : ScriptFault) → Ok s ≢ Err e
+unfolding is_script
+script_is_no_fault s e h = let f : true ≡ false = ap is_script h in cc

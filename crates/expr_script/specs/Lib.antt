@@ -1,5 +1,6 @@
 pub mod Pieces
 pub mod Cut
+pub mod Joined
 pub mod Words
 pub mod Tokens
 pub mod Spelled
