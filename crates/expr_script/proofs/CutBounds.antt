@@ -18,7 +18,7 @@ pub record Lies (bound : ℕ) (piece : Piece) : Type 0 where
 length-take_while-le : (xs : List ℕ) → length (take_while is_word xs) ≤ length xs
 length-take_while-le xs = grind (arith, common_steps)
 
-word_some : (b : ℕ) (bs : List ℕ) → is_word b ≡ true → 0 < length (take_while is_word (b ∷ bs))
+pub word_some : (b : ℕ) (bs : List ℕ) → is_word b ≡ true → 0 < length (take_while is_word (b ∷ bs))
 word_some b bs e = grind (arith, ap length (take_while-cons is_word b bs), e)
 
 sign_within : (b : ℕ) (bs : List ℕ) → (0 < sign_len b bs) × (sign_len b bs ≤ length (b ∷ bs))
@@ -33,8 +33,8 @@ by_word : (t : Bool) (l s n : ℕ) → (t ≡ true → 0 < l) → l ≤ n → 0 
 by_word true l s n p q r u = (p refl, q)
 by_word false l s n p q r u = (r, u)
 
-piece_within : (b : ℕ) (bs : List ℕ) → (0 < piece_len (b ∷ bs)) × (piece_len (b ∷ bs) ≤ length (b ∷ bs))
-piece_within b bs =
+pub piece_some : (b : ℕ) (bs : List ℕ) → (0 < piece_len (b ∷ bs)) × (piece_len (b ∷ bs) ≤ length (b ∷ bs))
+piece_some b bs =
     let sign = sign_within b bs in
     by_word (is_word b) (length (take_while is_word (b ∷ bs))) (sign_len b bs) (length (b ∷ bs)) (word_some b bs) (length-take_while-le (b ∷ bs)) sign.0 sign.1
 
@@ -46,7 +46,7 @@ all_lie : (skip at : ℕ) (text : List ℕ) (bound : ℕ) → at + length text �
 all_lie skip at [] bound e = tt
 all_lie (suc skip) at (b ∷ bs) bound e = all_lie skip (at + 1) bs bound (omega arith)
 all_lie zero at (b ∷ bs) bound e =
-    let lens = piece_within b bs in
+    let lens = piece_some b bs in
     let len = piece_len (b ∷ bs) in
     either (Lies bound) (is_blank b) _ _
     (all_lie zero (at + 1) bs bound (omega arith))

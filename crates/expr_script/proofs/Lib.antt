@@ -5,3 +5,16 @@ pub mod Kept
 pub mod Leaves
 pub mod Made
 pub mod Written
+pub mod OneAnswer
+pub mod OneCut
+pub mod FoundCut
+pub mod CutBack
+pub mod Numerals
+pub mod WrittenWords
+pub mod Spread
+pub mod Lean
+pub mod TokenBack
+pub mod SameNames
+pub mod Apart
+pub mod PrintedBack
+pub mod Starts

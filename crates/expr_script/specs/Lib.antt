@@ -1,5 +1,9 @@
 pub mod Pieces
+pub mod Cut
+pub mod Joined
 pub mod Words
 pub mod Tokens
+pub mod Spelled
+pub mod Refused
 pub mod Inputs
 pub mod Printed

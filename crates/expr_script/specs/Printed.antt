@@ -1,5 +1,5 @@
 -- The canonical text of a script.
-use Rattle.std.specs.Prelude.{ℕ, ◌+◌, Bool, true, false, ◌&&◌, if◌then◌else◌, List, [], ◌∷◌, ◌++◌, codes, decimal, slice_get, unwrap_or}
+use Rattle.std.specs.Prelude.{ℕ, ◌+◌, List, [], ◌++◌, map, codes, decimal, slice_get, unwrap_or}
 use Rattle.std.specs.Fmt.{signed_decimal}
 use Rattle.script_tree.specs.declared.expr.Binary.{Binary}
 use Rattle.script_tree.specs.declared.expr.Binary.TheVariants.{OrElse, Or, And, Equal, Unequal, Less, AtMost, Greater, AtLeast, Add, Subtract, Multiply, Divide, Remainder}
@@ -10,6 +10,7 @@ use Rattle.script_grammar.specs.declared.token.Token.{Token}
 use Rattle.script_grammar.specs.declared.token.Token.TheVariants.{Plain, Sign, Minus, Bang, Opens, Closes, IfWord, ThenWord, ElseWord, Stray}
 use Rattle.script_grammar.specs.Grammar.{tokens}
 use Rattle.script_grammar.specs.Canonical.{canonical}
+use Rattle.expr_script.specs.Joined.{joined}
 
 -- how an operator is written
 abbrev pub sign_text : Binary → List ℕ
@@ -50,23 +51,10 @@ token_text names ThenWord = codes "then"
 token_text names ElseWord = codes "else"
 token_text names Stray = []
 
--- whether a token is a word
-abbrev pub is_word_token : Token → Bool
-is_word_token (Plain word) = true
-is_word_token IfWord = true
-is_word_token ThenWord = true
-is_word_token ElseWord = true
-is_word_token t = false
+-- the words and signs of the canonical text
+abbrev pub printed_words : Scripted → List (List ℕ)
+printed_words script = map (token_text script.names) (tokens (canonical script.tree))
 
--- a space between two words
-abbrev pub gap : Bool → Token → List ℕ
-gap behind_word t = if behind_word && is_word_token t then codes " " else []
-
--- tokens as they are written behind a word, or behind none
-abbrev pub written : List (List ℕ) → Bool → List Token → List ℕ
-written names behind_word [] = []
-written names behind_word (t ∷ ts) = gap behind_word t ++ (token_text names t ++ written names (is_word_token t) ts)
-
--- the canonical text: the canonical tokens, with one space between two words that follow each other
+-- the canonical text
 abbrev pub printed : Scripted → List ℕ
-printed script = written script.names false (tokens (canonical script.tree))
+printed script = joined (printed_words script)

@@ -2,6 +2,7 @@
 
 ghost use Rattle.std.specs.Prelude.{◌≡◌, ◌+◌, ◌<◌, ◌≤◌, ◌++◌, drop, length, take_while, All, IfOk};
 ghost use Rattle.script_tree.specs.Names.{is_word};
+ghost use Rattle.expr_script.specs.Cut.{begins_word, IsCut};
 ghost use Rattle.expr_script.specs.Pieces.{is_blank, is_pair, piece_len, pieces_from, pieces, bytes_of};
 
 use script_tree::memory::OutOfMemory;
@@ -34,6 +35,16 @@ fn is_word(byte: u8) -> bool
     ensures { result ≡ is_word byte }
 {
     byte.is_ascii_alphanumeric() || byte == b'_'
+}
+
+// Whether a text begins with a byte of a word.
+pub(crate) fn begins_word(text: &[u8]) -> bool
+    ensures { result ≡ begins_word text.now }
+{
+    match text {
+        [] => false,
+        [first, ..] => is_word(*first),
+    }
 }
 
 fn is_pair(first: u8, second: u8) -> bool
@@ -96,6 +107,7 @@ fn one_byte(
 /// the longest is taken, blanks are space and tab, and any other byte is a piece by itself. The bytes need not be
 /// UTF-8. Takes memory; want of it is the one error.
 pub fn pieces(alloc: Global, text: &[u8]) -> Result<Vec<Piece>, OutOfMemory>
+    ensures cut { IfOk result (λ found. IsCut text.now found.items) }
     ensures found { IfOk result (λ found. found.items ≡ pieces text.now) }
     ensures within { IfOk result (λ found. All (λ piece. piece.from + piece.len ≤ length text.now) found.items) }
     ensures some { IfOk result (λ found. All (λ piece. 0 < piece.len) found.items) }

@@ -1,8 +1,11 @@
 // The canonical text of a script.
 
 ghost use Rattle.std.specs.Prelude.{◌≡◌, ◌++◌, IfOk, OnOk, OnErr};
-ghost use Rattle.expr_script.specs.Printed.{sign_text, word_text, token_text, is_word_token, gap, printed};
+ghost use Rattle.expr_script.specs.Cut.{begins_word};
+ghost use Rattle.expr_script.specs.Joined.{gap};
+ghost use Rattle.expr_script.specs.Printed.{sign_text, word_text, token_text, printed};
 
+use crate::pieces::begins_word;
 use itoa::Buffer;
 use script_grammar::token::{Token, Word};
 use script_grammar::writer::write_script;
@@ -70,13 +73,31 @@ fn push_token(out: &mut Text, names: &NameList, token: Token) -> Result<(), OutO
     }
 }
 
-fn is_word_token(token: Token) -> bool
-    ensures { result ≡ is_word_token token }
+// Whether a word is written with a byte of a word first: all but a number below 0.
+#[tactic(auto, using(crate::proofs::Starts::starts))]
+fn word_begins(names: &NameList, word: Word) -> bool
+    ensures { result ≡ begins_word (word_text names.now word) }
 {
-    matches!(
-        token,
-        Token::Plain(_) | Token::IfWord | Token::ThenWord | Token::ElseWord
-    )
+    match word {
+        Word::Digits(number) => number >= 0,
+        Word::Called(place) => match names.as_slice().get(place as usize) {
+            Some(name) => begins_word(name.as_slice()),
+            None => false,
+        },
+        Word::Yes | Word::No | Word::Pick(_) | Word::Acc => true,
+    }
+}
+
+#[tactic(auto, using(crate::proofs::Starts::starts))]
+fn token_begins(names: &NameList, token: Token) -> bool
+    ensures { result ≡ begins_word (token_text names.now token) }
+{
+    match token {
+        Token::Plain(word) => word_begins(names, word),
+        Token::IfWord | Token::ThenWord | Token::ElseWord => true,
+        Token::Sign(_) | Token::Minus | Token::Bang | Token::Opens | Token::Closes | Token::Stray =>
+            false,
+    }
 }
 
 fn push_spaced(
@@ -85,9 +106,9 @@ fn push_spaced(
     behind_word: bool,
     token: Token,
 ) -> Result<(), OutOfMemory>
-    ensures { OnOk result (out.new ≡ out.old ++ (gap behind_word token ++ token_text names.now token)) }
+    ensures { OnOk result (out.new ≡ out.old ++ (gap behind_word (token_text names.now token) ++ token_text names.now token)) }
 {
-    if behind_word && is_word_token(token) {
+    if behind_word && token_begins(names, token) {
         out.extend_from_slice(b" ")?;
     }
     push_token(out, names, token)
@@ -105,7 +126,7 @@ pub fn print_script(alloc: Global, script: &Script) -> Result<Text, OutOfMemory>
     let mut behind_word = false;
     for token in &tokens {
         push_spaced(&mut text, names, behind_word, *token)?;
-        behind_word = is_word_token(*token);
+        behind_word = token_begins(names, *token);
     }
     Ok(text)
 }

@@ -1,7 +1,10 @@
-use Rattle.std.proofs.Common.{◌≡◌, length}
+use Rattle.std.proofs.Common.{◌≡◌, List, length, sym, subst}
 use Rattle.std.proofs.lemmas.List.Elements.{All-same}
 use Rattle.expr_script.specs.Pieces.{pieces}
 use Rattle.expr_script.proofs.CutBounds.{Lies, pieces_lie, all_found}
+use Rattle.expr_script.specs.declared.pieces.Piece.{Piece}
+use Rattle.expr_script.specs.Cut.{IsCut}
+use Rattle.expr_script.proofs.FoundCut.{pieces_are_cut}
 use Rattle.expr_script.proofs.pieces.pieces.Goals as goal
 
 found_all : (c : goal.After-loop-at) → c.loop-at.found.items ≡ pieces c.args.text.now
@@ -12,3 +15,6 @@ returns-clause-within c = λ k d h. (All-same (Lies (length c.args.text.now)) c.
 
 pub returns-clause-some : goal.returns-clause-some
 returns-clause-some c = λ k d h. (All-same (Lies (length c.args.text.now)) c.loop-at.found.items (pieces c.args.text.now) (found_all c) (pieces_lie c.args.text.now) k d h).some
+
+pub returns-clause-cut : goal.returns-clause-cut
+returns-clause-cut c = subst (λ (found : List Piece). IsCut c.args.text.now found) (sym (found_all c)) (pieces_are_cut c.args.text.now)

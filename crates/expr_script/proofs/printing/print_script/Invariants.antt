@@ -1,5 +1,5 @@
 use Rattle.std.proofs.Common.{◌≡◌, ◌++◌, drop, false}
-use Rattle.expr_script.specs.Printed.{written}
+use Rattle.expr_script.proofs.Written.{written}
 use Rattle.expr_script.proofs.printing.print_script.Given as goal
 
 abbrev pub invariant-loop-token : goal.invariant-loop-token
