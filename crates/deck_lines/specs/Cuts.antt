@@ -1,6 +1,6 @@
 -- Words, cut at one of them.
-use Rattle.std.specs.Prelude.{ℕ, Bool, if◌then◌else◌, List, [], ◌∷◌, ◌++◌, map}
-use Rattle.std.specs.List.{list_any}
+use Rattle.std.specs.Prelude.{ℕ, ◌+◌, ◌≤◌, Bool, if◌then◌else◌, List, [], ◌∷◌, ◌++◌, length, map}
+use Rattle.std.specs.List.{All, list_any}
 use Rattle.std.specs.Str.{bytes_eq}
 use Rattle.expr_script.specs.declared.pieces.Piece.{Piece}
 use Rattle.expr_script.specs.Pieces.{bytes_of}
@@ -32,3 +32,7 @@ each_behind sign (part ∷ parts) = sign ∷ (part ++ each_behind sign parts)
 abbrev pub separated : List ℕ → List (List (List ℕ)) → List (List ℕ)
 separated sign [] = []
 separated sign (part ∷ parts) = part ++ each_behind sign parts
+
+-- pieces lie in their text
+abbrev pub Within : List ℕ → List Piece → Type 0
+Within text found = All (λ piece. piece.from + piece.len ≤ length text) found

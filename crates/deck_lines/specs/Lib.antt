@@ -2,3 +2,4 @@ pub mod Cuts
 pub mod Values
 pub mod Forms
 pub mod Reading
+pub mod Answers

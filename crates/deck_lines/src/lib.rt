@@ -1,7 +1,10 @@
 //! What one line of a deck says.
 #![tactic(auto)]
 
+mod cut;
 mod fault;
 mod keyword;
+mod names;
+mod value;
 
 pub use crate::fault::{Limit, LineFault};
