@@ -5,3 +5,4 @@ pub mod Kept
 pub mod Leaves
 pub mod Made
 pub mod Written
+pub mod OneAnswer

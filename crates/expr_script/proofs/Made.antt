@@ -7,20 +7,19 @@ use Rattle.std.proofs.lemmas.Bool.{cases_lt}
 use Rattle.std.proofs.lemmas.Bool.Decides.{nat_tests}
 use Rattle.std.proofs.lemmas.Slice.Eq.{bytes_eq-Decides}
 use Rattle.std.proofs.lemmas.Grind.{common_steps}
-use Rattle.script_tree.specs.declared.limits.TheConstants.{INPUTS}
+use Rattle.script_tree.specs.declared.limits.TheConstants.{INPUTS, LEVELS}
 use Rattle.script_tree.specs.Names.{is_name}
 use Rattle.script_tree.specs.Tree.{Tree, Input}
 use Rattle.script_tree.specs.Scripts.{Scripted, WellFormed, all_leaves, input_below, pick_below, is_not_acc, is_literal}
 use Rattle.script_grammar.specs.declared.token.Token.{Token}
-use Rattle.script_grammar.specs.Grammar.{word_tree}
+use Rattle.script_grammar.specs.Grammar.{word_tree, Spells, BeginsWithin}
 use Rattle.script_grammar.specs.Words.{all_words}
 use Rattle.expr_script.specs.declared.atoms.Atoms.{Atoms}
 use Rattle.expr_script.specs.declared.atoms.Atoms.TheVariants.{Script, Body}
-use Rattle.expr_script.specs.declared.pieces.Piece.{Piece}
 use Rattle.expr_script.specs.Inputs.{KeepsFirst}
-use Rattle.expr_script.specs.Pieces.{pieces, bytes_of}
 use Rattle.expr_script.specs.Words.{place_of, name_token, token}
-use Rattle.expr_script.specs.Tokens.{with_name, names_among, names, inputs, tokens_among, tokens, HasAtoms}
+use Rattle.expr_script.specs.Tokens.{with_name, script_names, names, inputs, tokens_among, tokens}
+use Rattle.expr_script.specs.Spelled.{HasAtoms, SpellsWith, SpellsTooMany}
 use Rattle.expr_script.proofs.Kept.{with_known, with_new, place_of-le, take_whole}
 use Rattle.expr_script.proofs.Leaves.{Passes, PassesAtoms, and_both, and_left, script_passes, body_passes, token_passes, words_cons, HasLeaves}
 
@@ -59,20 +58,14 @@ with_there known w n = by_case (cases_lt (place_of known w) (length known))
     by_case (inl there) = subst (λ (l : List (List ℕ)). place_of l w < length l) (sym (with_known known w there)) there
     by_case (inr end) = subst (λ (l : List (List ℕ)). place_of l w < length l) (sym (with_new known w n (omega (arith, end, place_of-le known w)))) (push_there known w)
 
-step : List ℕ → List (List ℕ) → Piece → List (List ℕ)
-step text known piece = with_name known (bytes_of text piece)
+fold_keeps : (words known : List (List ℕ)) (w : List ℕ) → place_of known w < length known → place_of (fold with_name known words) w < length (fold with_name known words)
+fold_keeps [] known w h = h
+fold_keeps (v ∷ words) known w h = fold_keeps words (with_name known v) w (with_keeps known v w h)
 
-fold_keeps : (text : List ℕ) (found : List Piece) (known : List (List ℕ)) (w : List ℕ) → place_of known w < length known → place_of (fold (step text) known found) w < length (fold (step text) known found)
-unfolding step
-fold_keeps text [] known w h = h
-fold_keeps text (p ∷ found) known w h = fold_keeps text found (with_name known (bytes_of text p)) w (with_keeps known (bytes_of text p) w h)
-
--- each name among the pieces is there behind them
-fold_there : (text : List ℕ) (found : List Piece) (known : List (List ℕ)) → AllByRecursion (λ p. is_name (bytes_of text p) ≡ true → place_of (fold (step text) known found) (bytes_of text p) < length (fold (step text) known found)) found
-unfolding step
-fold_there text [] known = tt
-fold_there text (p ∷ found) known =
-    (λ n. fold_keeps text found (with_name known (bytes_of text p)) (bytes_of text p) (with_there known (bytes_of text p) n), fold_there text found (with_name known (bytes_of text p)))
+-- each name among words is there behind them
+pub fold_there : (words known : List (List ℕ)) → AllByRecursion (λ w. is_name w ≡ true → place_of (fold with_name known words) w < length (fold with_name known words)) words
+fold_there [] known = tt
+fold_there (v ∷ words) known = (λ n. fold_keeps words (with_name known v) v (with_there known v n), fold_there words (with_name known v))
 
 all_push : (known : List (List ℕ)) (v : List ℕ) → list_all is_name known ≡ true → is_name v ≡ true → list_all is_name (known ++ v ∷ []) ≡ true
 all_push [] v h n = and_both n refl
@@ -89,29 +82,28 @@ with_named known v h = by_test (is_name v && place_of known v == length known) (
     by_test true n = all_push known v h (n refl)
     by_test false n = h
 
-fold_named : (text : List ℕ) (found : List Piece) (known : List (List ℕ)) → list_all is_name known ≡ true → list_all is_name (fold (step text) known found) ≡ true
-unfolding step
-fold_named text [] known h = h
-fold_named text (p ∷ found) known h = fold_named text found (with_name known (bytes_of text p)) (with_named known (bytes_of text p) h)
+pub fold_named : (words known : List (List ℕ)) → list_all is_name known ≡ true → list_all is_name (fold with_name known words) ≡ true
+fold_named [] known h = h
+fold_named (v ∷ words) known h = fold_named words (with_name known v) (with_named known v h)
 
-everywhere : (P : Piece → Type 0) (found : List Piece) → ((p : Piece) → P p) → AllByRecursion P found
+everywhere : (P : List ℕ → Type 0) (words : List (List ℕ)) → ((w : List ℕ) → P w) → AllByRecursion P words
 everywhere P [] h = tt
-everywhere P (p ∷ found) h = (h p, everywhere P found h)
+everywhere P (w ∷ words) h = (h w, everywhere P words h)
 
-tokens_pass : (test : Tree → Bool) (atoms : Atoms) (known : List (List ℕ)) (text : List ℕ) (found : List Piece) → PassesAtoms test atoms → AllByRecursion (λ p. is_name (bytes_of text p) ≡ true → Passes test (name_token atoms known (bytes_of text p))) found → all_words (λ w. test (word_tree w)) (tokens_among atoms known text found) ≡ true
-tokens_pass test atoms known text [] h named = refl
-tokens_pass test atoms known text (p ∷ found) h named =
-    words_cons test (token atoms known (bytes_of text p)) (tokens_among atoms known text found) (token_passes test atoms known (bytes_of text p) h named.0).passed (tokens_pass test atoms known text found h named.1)
+tokens_pass : (test : Tree → Bool) (atoms : Atoms) (known words : List (List ℕ)) → PassesAtoms test atoms → AllByRecursion (λ w. is_name w ≡ true → Passes test (name_token atoms known w)) words → all_words (λ w. test (word_tree w)) (tokens_among atoms known words) ≡ true
+tokens_pass test atoms known [] h named = refl
+tokens_pass test atoms known (w ∷ words) h named =
+    words_cons test (token atoms known w) (tokens_among atoms known words) (token_passes test atoms known w h named.0).passed (tokens_pass test atoms known words h named.1)
 
 any_name : (test : Tree → Bool) (atoms : Atoms) (known : List (List ℕ)) (w : List ℕ) → ((i : ℕ) → test (Input i) ≡ true) → Passes test (name_token atoms known w)
 any_name test (Script acc) known w h = record { passed = h (place_of known w) }
 any_name test (Body picks) known w h = record { passed = refl }
 
 -- a test that every input passes holds for every leaf
-leaves_of : (test : Tree → Bool) (atoms : Atoms) (known : List (List ℕ)) (text : List ℕ) (found : List Piece) (tree : Tree) → PassesAtoms test atoms → ((i : ℕ) → test (Input i) ≡ true) → HasLeaves (tokens_among atoms known text found) tree → all_leaves test tree ≡ true
-leaves_of test atoms known text found tree h i s =
+leaves_of : (test : Tree → Bool) (atoms : Atoms) (known words : List (List ℕ)) (tree : Tree) → PassesAtoms test atoms → ((i : ℕ) → test (Input i) ≡ true) → HasLeaves (tokens_among atoms known words) tree → all_leaves test tree ≡ true
+leaves_of test atoms known words tree h i s =
     s test ∙
-    (tokens_pass test atoms known text found h (everywhere (λ p. is_name (bytes_of text p) ≡ true → Passes test (name_token atoms known (bytes_of text p))) found (λ p _. any_name test atoms known (bytes_of text p) i)))
+    (tokens_pass test atoms known words h (everywhere (λ w. is_name w ≡ true → Passes test (name_token atoms known w)) words (λ w _. any_name test atoms known w i)))
 
 literal_atoms : (atoms : Atoms) → PassesAtoms is_literal atoms
 literal_atoms (Script acc) = record { truths = record { yes = refl; no = refl }; numbers = λ n h. h; others = λ w. script_passes is_literal acc w (record { yes = refl; no = refl }) (λ _. refl) }
@@ -143,64 +135,93 @@ not_more : (most n : ℕ) (more : Bool) → more ≡ nat_lt most n → more ≡ 
 not_more most n more e f = grind (arith, nat_tests, e, f)
 
 -- the names that the inputs of a script's tokens are
-names_there : (atoms : Atoms) (text : List ℕ) → AllByRecursion (λ p. is_name (bytes_of text p) ≡ true → Passes (input_below (length (names atoms text))) (name_token atoms (names atoms text) (bytes_of text p))) (pieces text)
-unfolding step
-names_there (Body picks) text = everywhere (λ p. is_name (bytes_of text p) ≡ true → Passes (input_below 0) (name_token (Body picks) [] (bytes_of text p))) (pieces text) (λ p _. record { passed = refl })
-names_there (Script acc) text = passed_all (pieces text) (fold_there text (pieces text) [])
+names_there : (atoms : Atoms) (words : List (List ℕ)) → AllByRecursion (λ w. is_name w ≡ true → Passes (input_below (length (names atoms words))) (name_token atoms (names atoms words) w)) words
+names_there (Body picks) words = everywhere (λ w. is_name w ≡ true → Passes (input_below 0) (name_token (Body picks) [] w)) words (λ w _. record { passed = refl })
+names_there (Script acc) words = passed_all words (fold_there words [])
   where
-    passed_all : (found : List Piece) → AllByRecursion (λ p. is_name (bytes_of text p) ≡ true → place_of (names_among text (pieces text)) (bytes_of text p) < length (names_among text (pieces text))) found → AllByRecursion (λ p. is_name (bytes_of text p) ≡ true → Passes (input_below (length (names_among text (pieces text)))) (name_token (Script acc) (names_among text (pieces text)) (bytes_of text p))) found
+    passed_all : (some : List (List ℕ)) → AllByRecursion (λ w. is_name w ≡ true → place_of (script_names words) w < length (script_names words)) some → AllByRecursion (λ w. is_name w ≡ true → Passes (input_below (length (script_names words))) (name_token (Script acc) (script_names words) w)) some
     passed_all [] h = tt
-    passed_all (p ∷ found) h = (λ n. record { passed = below_true _ _ (h.0 n) }, passed_all found h.1)
+    passed_all (w ∷ some) h = (λ n. record { passed = below_true _ _ (h.0 n) }, passed_all some h.1)
 
-all_named : (atoms : Atoms) (text : List ℕ) → list_all is_name (names atoms text) ≡ true
-unfolding step
-all_named (Script acc) text = fold_named text (pieces text) [] refl
-all_named (Body picks) text = refl
+pub all_named : (atoms : Atoms) (words : List (List ℕ)) → list_all is_name (names atoms words) ≡ true
+all_named (Script acc) words = fold_named words [] refl
+all_named (Body picks) words = refl
 
-input_leaves : (atoms : Atoms) (text : List ℕ) (tree : Tree) → HasLeaves (tokens_among atoms (names atoms text) text (pieces text)) tree → all_leaves (input_below (length (names atoms text))) tree ≡ true
-input_leaves atoms text tree s =
-    s (input_below (length (names atoms text))) ∙
-    (tokens_pass (input_below (length (names atoms text))) atoms (names atoms text) text (pieces text) (input_atoms (length (names atoms text)) atoms) (names_there atoms text))
+input_leaves : (atoms : Atoms) (words : List (List ℕ)) (tree : Tree) → HasLeaves (tokens_among atoms (names atoms words) words) tree → all_leaves (input_below (length (names atoms words))) tree ≡ true
+input_leaves atoms words tree s =
+    s (input_below (length (names atoms words))) ∙
+    (tokens_pass (input_below (length (names atoms words))) atoms (names atoms words) words (input_atoms (length (names atoms words)) atoms) (names_there atoms words))
 
 -- where all names are kept, the names and the tree make a script
-pub well_formed : (atoms : Atoms) (text : List ℕ) (kept : List (List ℕ)) (more : Bool) (tree : Tree) → KeepsFirst INPUTS kept more (names atoms text) → more ≡ false → HasLeaves (tokens_among atoms kept text (pieces text)) tree → (kept ≡ names atoms text) × WellFormed kept tree
-well_formed atoms text kept more tree k m s =
-    let all : kept ≡ names atoms text = k.first ∙ take_whole INPUTS (names atoms text) (not_more INPUTS (length (names atoms text)) more k.rest m) in
-    let spelled : HasLeaves (tokens_among atoms (names atoms text) text (pieces text)) tree = subst (λ (l : List (List ℕ)). HasLeaves (tokens_among atoms l text (pieces text)) tree) all s in (
+pub well_formed : (atoms : Atoms) (words kept : List (List ℕ)) (more : Bool) (tree : Tree) → KeepsFirst INPUTS kept more (names atoms words) → more ≡ false → HasLeaves (tokens_among atoms kept words) tree → (kept ≡ names atoms words) × WellFormed kept tree
+well_formed atoms words kept more tree k m s =
+    let all : kept ≡ names atoms words = k.first ∙ take_whole INPUTS (names atoms words) (not_more INPUTS (length (names atoms words)) more k.rest m) in
+    let spelled : HasLeaves (tokens_among atoms (names atoms words) words) tree = subst (λ (l : List (List ℕ)). HasLeaves (tokens_among atoms l words) tree) all s in (
       all,
       subst (λ (l : List (List ℕ)). WellFormed l tree) (sym all) (record {
-        few = subst (λ (l : List (List ℕ)). length l ≤ INPUTS) (sym k.first ∙ all) (length_take INPUTS (names atoms text));
-        named = all_named atoms text;
-        inputs = input_leaves atoms text tree spelled;
-        numbers = leaves_of is_literal atoms (names atoms text) text (pieces text) tree (literal_atoms atoms) (λ i. refl) spelled;
+        few = subst (λ (l : List (List ℕ)). length l ≤ INPUTS) (sym k.first ∙ all) (length_take INPUTS (names atoms words));
+        named = all_named atoms words;
+        inputs = input_leaves atoms words tree spelled;
+        numbers = leaves_of is_literal atoms (names atoms words) words tree (literal_atoms atoms) (λ i. refl) spelled;
       }),
     )
 
 -- the atoms of a script are those of its kind
-pub has_atoms : (atoms : Atoms) (text : List ℕ) (script : Scripted) → script.names ≡ names atoms text → HasLeaves (tokens atoms text) script.tree → HasAtoms atoms script
-has_atoms (Script acc) text script n s = (
-  leaves_of (pick_below 0) (Script acc) (inputs (Script acc) text) text (pieces text) script.tree (no_pick_atoms acc) (λ i. refl) s,
-  λ e. let without : HasLeaves (tokens (Script false) text) script.tree = subst (λ (b : Bool). HasLeaves (tokens (Script b) text) script.tree) e s in
-      leaves_of is_not_acc (Script false) (inputs (Script false) text) text (pieces text) script.tree no_acc_atoms (λ i. refl) without,
+pub has_atoms : (atoms : Atoms) (words : List (List ℕ)) (script : Scripted) → script.names ≡ names atoms words → HasLeaves (tokens atoms words) script.tree → HasAtoms atoms script
+has_atoms (Script acc) words script n s = (
+  leaves_of (pick_below 0) (Script acc) (inputs (Script acc) words) words script.tree (no_pick_atoms acc) (λ i. refl) s,
+  λ e. let without : HasLeaves (tokens (Script false) words) script.tree = subst (λ (b : Bool). HasLeaves (tokens (Script b) words) script.tree) e s in
+      leaves_of is_not_acc (Script false) (inputs (Script false) words) words script.tree no_acc_atoms (λ i. refl) without,
 )
-has_atoms (Body picks) text script n s = record {
+has_atoms (Body picks) words script n s = record {
   no_names = n;
-  no_acc = leaves_of is_not_acc (Body picks) (inputs (Body picks) text) text (pieces text) script.tree (body_acc_atoms picks) (λ i. refl) s;
-  picks_below = leaves_of (pick_below picks) (Body picks) (inputs (Body picks) text) text (pieces text) script.tree (body_pick_atoms picks) (λ i. refl) s;
+  no_acc = leaves_of is_not_acc (Body picks) (inputs (Body picks) words) words script.tree (body_acc_atoms picks) (λ i. refl) s;
+  picks_below = leaves_of (pick_below picks) (Body picks) (inputs (Body picks) words) words script.tree (body_pick_atoms picks) (λ i. refl) s;
 }
 
-same_tokens : (atoms : Atoms) (text : List ℕ) (kept : List (List ℕ)) (more : Bool) (found : List Piece) → KeepsFirst INPUTS kept more (names atoms text) → found ≡ pieces text → tokens_among atoms kept text found ≡ tokens atoms text
-same_tokens atoms text kept more found k e = ap (λ l. tokens_among atoms l text found) k.first ∙ ap (tokens_among atoms (inputs atoms text) text) e
-
--- the tokens that were read are those of the text
-pub read_text : (atoms : Atoms) (text : List ℕ) (kept : List (List ℕ)) (more : Bool) (found : List Piece) (read : List Token) → KeepsFirst INPUTS kept more (names atoms text) → found ≡ pieces text → read ≡ tokens_among atoms kept text found → read ≡ tokens atoms text
-read_text atoms text kept more found read k e r = r ∙ same_tokens atoms text kept more found k e
-
-pub read_kept : (atoms : Atoms) (text : List ℕ) (kept : List (List ℕ)) (found : List Piece) (read : List Token) → found ≡ pieces text → read ≡ tokens_among atoms kept text found → read ≡ tokens_among atoms kept text (pieces text)
-read_kept atoms text kept found read e r = r ∙ ap (tokens_among atoms kept text) e
+-- the tokens that were read are those of the words
+pub same_tokens : (atoms : Atoms) (words kept : List (List ℕ)) (more : Bool) (read : List Token) → KeepsFirst INPUTS kept more (names atoms words) → read ≡ tokens_among atoms kept words → read ≡ tokens atoms words
+same_tokens atoms words kept more read k r = r ∙ ap (λ l. tokens_among atoms l words) k.first
 
 pub few_kept : (all kept : List (List ℕ)) (more : Bool) → KeepsFirst INPUTS kept more all → length kept ≤ INPUTS
 few_kept all kept more k = omega (arith, ap length k.first, length_take INPUTS all)
 
 pub many_names : (all kept : List (List ℕ)) (more : Bool) → KeepsFirst INPUTS kept more all → more ≡ true → INPUTS < length all
 many_names all kept more k m = grind (arith, nat_tests, k.rest, m)
+
+pub few_names : (all kept : List (List ℕ)) (more : Bool) → KeepsFirst INPUTS kept more all → more ≡ false → length all ≤ INPUTS
+few_names all kept more k m = not_more INPUTS (length all) more k.rest m
+
+-- what is known where the tokens of words were read as a tree
+pub record WasRead (atoms : Atoms) (words kept : List (List ℕ)) (more : Bool) (read : List Token) (tree : Tree) : Type 0 where
+  pub keeps : KeepsFirst INPUTS kept more (names atoms words)
+  pub tokens_are : read ≡ tokens_among atoms kept words
+  pub spells : Spells read tree
+  pub shallow : BeginsWithin LEVELS read
+  pub leaves : HasLeaves read tree
+
+pub spells_many : (atoms : Atoms) (words kept : List (List ℕ)) (more : Bool) (read : List Token) (tree : Tree) → WasRead atoms words kept more read tree → more ≡ true → SpellsTooMany atoms words
+spells_many atoms words kept more read tree r m =
+    let same = same_tokens atoms words kept more read r.keeps r.tokens_are in record {
+      spelled = tree;
+      tree = subst (λ (l : List Token). Spells l tree) same r.spells;
+      shallow = subst (λ (l : List Token). BeginsWithin LEVELS l) same r.shallow;
+      many = many_names (names atoms words) kept more r.keeps m;
+    }
+
+pub new_script : (atoms : Atoms) (words kept : List (List ℕ)) (more : Bool) (read : List Token) (tree : Tree) → WasRead atoms words kept more read tree → more ≡ false → (kept ≡ names atoms words) × WellFormed kept tree
+new_script atoms words kept more read tree r m =
+    well_formed atoms words kept more tree r.keeps m (subst (λ (l : List Token). HasLeaves l tree) r.tokens_are r.leaves)
+
+pub spells_script : (atoms : Atoms) (words kept : List (List ℕ)) (more : Bool) (read : List Token) (tree : Tree) (script : Scripted) → WasRead atoms words kept more read tree → more ≡ false → script.names ≡ kept → script.tree ≡ tree → SpellsWith atoms words script × HasAtoms atoms script
+spells_script atoms words kept more read tree script r m n t =
+    let same = same_tokens atoms words kept more read r.keeps r.tokens_are in
+    let named : script.names ≡ names atoms words = n ∙ (new_script atoms words kept more read tree r m).0 in (
+      record {
+        tree = subst (λ (u : Tree). Spells (tokens atoms words) u) (sym t) (subst (λ (l : List Token). Spells l tree) same r.spells);
+        shallow = subst (λ (l : List Token). BeginsWithin LEVELS l) same r.shallow;
+        named = named;
+        few = few_names (names atoms words) kept more r.keeps m;
+      },
+      has_atoms atoms words script named (subst (λ (u : Tree). HasLeaves (tokens atoms words) u) (sym t) (subst (λ (l : List Token). HasLeaves l tree) same r.leaves)),
+    )

@@ -1,5 +1,6 @@
 -- The words and signs of a text: a word is the longest run of its bytes, and a sign the longest one.
-use Rattle.std.specs.Prelude.{ℕ, zero, suc, ◌+◌, ◌-◌, Bool, ◌&&◌, ◌||◌, ◌==◌, if◌then◌else◌, List, [], ◌∷◌, length, take, drop, take_while}
+use Rattle.std.specs.Prelude.{ℕ, zero, suc, ◌+◌, ◌-◌, Bool, ◌&&◌, ◌||◌, ◌==◌, if◌then◌else◌, List, [], ◌∷◌, length, take, drop, take_while, map, slice_get, unwrap_or}
+use Rattle.std.specs.Option.{option_map}
 use Rattle.script_tree.specs.Names.{is_word}
 use Rattle.expr_script.specs.declared.pieces.Piece.{Piece}
 
@@ -38,3 +39,19 @@ pieces text = pieces_from 0 0 text
 -- the bytes of a piece
 abbrev pub bytes_of : List ℕ → Piece → List ℕ
 bytes_of text piece = take piece.len (drop piece.from text)
+
+-- the bytes of some pieces of a text, in their order
+abbrev pub words_among : List ℕ → List Piece → List (List ℕ)
+words_among text found = map (bytes_of text) found
+
+-- the words and signs of a text, as bytes
+abbrev pub words : List ℕ → List (List ℕ)
+words text = words_among text (pieces text)
+
+-- the place of a piece by its number, and behind all pieces the end
+abbrev pub place_at : List Piece → ℕ → ℕ → ℕ
+place_at found end k = unwrap_or (option_map (λ piece. piece.from) (slice_get found k)) end
+
+-- the place of a word or sign of a text, and behind all of them the length of the text
+abbrev pub place : List ℕ → ℕ → ℕ
+place text = place_at (pieces text) (length text)

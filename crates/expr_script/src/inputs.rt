@@ -2,7 +2,8 @@
 
 ghost use Rattle.std.specs.Prelude.{◌+◌, ◌≤◌, List, ℕ, [], length, All, IfOk};
 ghost use Rattle.expr_script.specs.Inputs.{KeepsFirst};
-ghost use Rattle.expr_script.specs.Tokens.{with_name, names_among};
+ghost use Rattle.expr_script.specs.Pieces.{words_among};
+ghost use Rattle.expr_script.specs.Tokens.{with_name, script_names};
 
 use crate::pieces::Piece;
 use crate::words::place_of;
@@ -47,10 +48,10 @@ impl Inputs {
         Ok(())
     }
 
-    /// The names among the words of a text. Takes memory.
-    pub fn of_text(alloc: Global, text: &[u8], pieces: &[Piece]) -> Result<Inputs, OutOfMemory>
+    /// The names among pieces of a text. Takes memory.
+    pub fn of_pieces(alloc: Global, text: &[u8], pieces: &[Piece]) -> Result<Inputs, OutOfMemory>
         requires { All (λ piece. piece.from + piece.len ≤ length text.now) pieces.now }
-        ensures { IfOk result (λ inputs. KeepsFirst INPUTS inputs.names inputs.more (names_among text.now pieces.now)) }
+        ensures { IfOk result (λ inputs. KeepsFirst INPUTS inputs.names inputs.more (script_names (words_among text.now pieces.now))) }
     {
         let mut inputs = Inputs::new(alloc);
         for piece in pieces {

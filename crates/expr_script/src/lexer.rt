@@ -1,7 +1,8 @@
 // The tokens of a text.
 
 ghost use Rattle.std.specs.Prelude.{◌≡◌, ◌+◌, ◌≤◌, length, All, IfOk};
-ghost use Rattle.expr_script.specs.Tokens.{tokens_among, place_at};
+ghost use Rattle.expr_script.specs.Pieces.{place_at, words_among};
+ghost use Rattle.expr_script.specs.Tokens.{tokens_among};
 
 use crate::atoms::Atoms;
 use crate::pieces::Piece;
@@ -22,7 +23,7 @@ pub fn tokens_of(
 ) -> Result<Vec<Token>, OutOfMemory>
     requires within { All (λ piece. piece.from + piece.len ≤ length text.now) pieces.now }
     requires few { length names.now ≤ INPUTS }
-    ensures { IfOk result (λ tokens. tokens.items ≡ tokens_among atoms names.now text.now pieces.now) }
+    ensures { IfOk result (λ tokens. tokens.items ≡ tokens_among atoms names.now (words_among text.now pieces.now)) }
 {
     let mut tokens = Vec::with_capacity(alloc, pieces.len())?;
     for piece in pieces {

@@ -5,6 +5,7 @@
 mod atoms;
 mod faults;
 mod inputs;
+pub mod laws;
 mod lexer;
 mod parse;
 pub mod pieces;
@@ -14,7 +15,10 @@ mod words;
 
 pub use crate::faults::ScriptFault;
 pub use crate::printing::{print_script, print_script_to};
-pub use crate::reading::{parse_body, parse_body_bytes, parse_script, parse_script_bytes};
+pub use crate::reading::{
+    parse_body, parse_body_bytes, parse_body_pieces, parse_script, parse_script_bytes,
+    parse_script_pieces,
+};
 pub use script_tree::items::Text;
 pub use script_tree::limits;
 pub use script_tree::memory::OutOfMemory;

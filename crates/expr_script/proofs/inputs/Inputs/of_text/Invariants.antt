@@ -1,8 +1,0 @@
-use Rattle.std.proofs.Common.{take}
-use Rattle.script_tree.specs.declared.limits.TheConstants.{INPUTS}
-use Rattle.expr_script.specs.Inputs.{KeepsFirst}
-use Rattle.expr_script.specs.Tokens.{names_among}
-use Rattle.expr_script.proofs.inputs.Inputs.of_text.Given as goal
-
-abbrev pub invariant-loop-piece : goal.invariant-loop-piece
-invariant-loop-piece l = KeepsFirst INPUTS l.inputs.names l.inputs.more (names_among l.text (take l.piece-index l.pieces))
