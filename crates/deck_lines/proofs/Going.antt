@@ -6,9 +6,9 @@ use Rattle.std.specs.Str.{bytes_eq}
 use Rattle.script_tree.specs.Names.{is_name}
 use Rattle.script_tree.specs.declared.value.Value.{Value}
 use Rattle.expr_script.specs.declared.pieces.Piece.{Piece}
-use Rattle.expr_script.specs.Pieces.{bytes_of}
+use Rattle.expr_script.specs.Pieces.{words_among, bytes_of}
 use Rattle.deck_lines.specs.Forms.{Words}
-use Rattle.deck_lines.specs.Cuts.{words_of, has, before, behind}
+use Rattle.deck_lines.specs.Cuts.{has, before, behind}
 use Rattle.deck_lines.specs.Values.{one_word, below_zero, value_of}
 use Rattle.deck_lines.specs.Reading.{cut, each, name_of, head_of}
 use Rattle.deck_lines.proofs.Cutting.{two_sides, cut_sign, cut_none}
@@ -60,10 +60,10 @@ ends_wrong sign f words done rest g h e =
 pub ruleset going_laws = (going_starts, goes_on, goes_wrong, goes_to_end, ends_wrong)
 
 -- the words of a few pieces
-pub no_pieces : (text : List ℕ) (pieces : List Piece) → pieces ≡ [] → words_of text pieces ≡ []
-no_pieces text pieces e = ap (words_of text) e
+pub no_pieces : (text : List ℕ) (pieces : List Piece) → pieces ≡ [] → words_among text pieces ≡ []
+no_pieces text pieces e = ap (words_among text) e
 
-pub some_pieces : (text : List ℕ) (pieces : List Piece) (first : Piece) (rest : List Piece) → pieces ≡ first ∷ rest → words_of text pieces ≡ bytes_of text first ∷ words_of text rest
-some_pieces text pieces first rest e = ap (words_of text) e
+pub some_pieces : (text : List ℕ) (pieces : List Piece) (first : Piece) (rest : List Piece) → pieces ≡ first ∷ rest → words_among text pieces ≡ bytes_of text first ∷ words_among text rest
+some_pieces text pieces first rest e = ap (words_among text) e
 
 pub ruleset piece_laws = (no_pieces, some_pieces)

@@ -1,13 +1,8 @@
 -- Words, cut at one of them.
-use Rattle.std.specs.Prelude.{ℕ, ◌+◌, ◌≤◌, Bool, if◌then◌else◌, List, [], ◌∷◌, ◌++◌, length, map}
+use Rattle.std.specs.Prelude.{ℕ, ◌+◌, ◌≤◌, Bool, if◌then◌else◌, List, [], ◌∷◌, ◌++◌, length}
 use Rattle.std.specs.List.{All, list_any}
 use Rattle.std.specs.Str.{bytes_eq}
 use Rattle.expr_script.specs.declared.pieces.Piece.{Piece}
-use Rattle.expr_script.specs.Pieces.{bytes_of}
-
--- the words of pieces of a text
-abbrev pub words_of : List ℕ → List Piece → List (List ℕ)
-words_of text found = map (bytes_of text) found
 
 -- whether a word stands among others
 abbrev pub has : List ℕ → List (List ℕ) → Bool

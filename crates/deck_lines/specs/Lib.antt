@@ -3,3 +3,5 @@ pub mod Values
 pub mod Forms
 pub mod Reading
 pub mod Answers
+pub mod Limits
+pub mod Lines

@@ -2,9 +2,8 @@
 
 ghost use Rattle.std.specs.Prelude.{◌≡◌, ◌+◌, ◌≤◌, [], ◌∷◌, true, false, length, IfNone, IfSome};
 ghost use Rattle.std.specs.Str.{bytes_eq};
-ghost use Rattle.expr_script.specs.Pieces.{bytes_of};
-ghost use Rattle.deck_lines.specs.Cuts.{words_of, has, before, behind, Within};
-
+ghost use Rattle.expr_script.specs.Pieces.{words_among, bytes_of};
+ghost use Rattle.deck_lines.specs.Cuts.{has, before, behind, Within};
 use expr_script::pieces::Piece;
 
 /// Whether a piece is this word or sign.
@@ -23,12 +22,12 @@ pub fn cut<'a>(
     word: &[u8],
 ) -> Option<(&'a [Piece], &'a [Piece])>
     requires { Within text.now pieces.now }
-    ensures some { IfSome result (λ _. has word.now (words_of text.now pieces.now) ≡ true) }
-    ensures before { IfSome result (λ p. words_of text.now p.0.now ≡ before word.now (words_of text.now pieces.now)) }
-    ensures behind { IfSome result (λ p. words_of text.now p.1.now ≡ behind word.now (words_of text.now pieces.now)) }
+    ensures some { IfSome result (λ _. has word.now (words_among text.now pieces.now) ≡ true) }
+    ensures before { IfSome result (λ p. words_among text.now p.0.now ≡ before word.now (words_among text.now pieces.now)) }
+    ensures behind { IfSome result (λ p. words_among text.now p.1.now ≡ behind word.now (words_among text.now pieces.now)) }
     ensures within { IfSome result (λ p. Within text.now p.0.now × Within text.now p.1.now) }
     ensures shorter { IfSome result (λ p. length p.0.now + length p.1.now + 1 ≡ length pieces.now) }
-    ensures none { IfNone result (has word.now (words_of text.now pieces.now) ≡ false) }
+    ensures none { IfNone result (has word.now (words_among text.now pieces.now) ≡ false) }
 {
     for (at, piece) in pieces.iter().enumerate() {
         if is_word(text, *piece, word) {
@@ -44,10 +43,10 @@ pub fn cut<'a>(
 #[tactic(auto, using(crate::proofs::Going::piece_laws))]
 pub fn first<'a>(text: &[u8], pieces: &'a [Piece]) -> Option<(Piece, &'a [Piece])>
     requires { Within text.now pieces.now }
-    ensures words { IfSome result (λ p. words_of text.now pieces.now ≡ bytes_of text.now p.0 ∷ words_of text.now p.1.now) }
+    ensures words { IfSome result (λ p. words_among text.now pieces.now ≡ bytes_of text.now p.0 ∷ words_among text.now p.1.now) }
     ensures lies { IfSome result (λ p. p.0.from + p.0.len ≤ length text.now) }
     ensures within { IfSome result (λ p. Within text.now p.1.now) }
-    ensures none { IfNone result (words_of text.now pieces.now ≡ []) }
+    ensures none { IfNone result (words_among text.now pieces.now ≡ []) }
 {
     match pieces.split_first() {
         Some((first, rest)) => Some((*first, rest)),

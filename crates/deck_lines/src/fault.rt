@@ -1,5 +1,4 @@
 // Why a line is refused.
-
 use script_tree::memory::OutOfMemory;
 use std::alloc::{AllocError, AllocFailed};
 

@@ -4,7 +4,9 @@
 mod cut;
 mod fault;
 mod keyword;
+mod line;
 mod names;
 mod value;
 
 pub use crate::fault::{Limit, LineFault};
+pub use crate::line::Line;

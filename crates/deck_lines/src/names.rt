@@ -1,10 +1,10 @@
 // Names, alone and in lists.
 
 ghost use Rattle.std.specs.Prelude.{◌≡◌, Some, None, IfNone, IfSome};
-ghost use Rattle.deck_lines.specs.Cuts.{words_of, Within};
+ghost use Rattle.expr_script.specs.Pieces.{words_among};
+ghost use Rattle.deck_lines.specs.Cuts.{Within};
 ghost use Rattle.deck_lines.specs.Answers.{Reads};
 ghost use Rattle.deck_lines.specs.Reading.{name_of, names_of, head_of};
-
 use crate::cut::{cut, first, is_word};
 use crate::fault::LineFault;
 use expr_script::pieces::Piece;
@@ -16,8 +16,8 @@ use std::alloc::Global;
 #[tactic(auto, using(crate::proofs::Going::piece_laws))]
 pub fn name(text: &[u8], pieces: &[Piece]) -> Option<Name>
     requires { Within text.now pieces.now }
-    ensures some { IfSome result (λ name. name_of (words_of text.now pieces.now) ≡ Some name) }
-    ensures none { IfNone result (name_of (words_of text.now pieces.now) ≡ None) }
+    ensures some { IfSome result (λ name. name_of (words_among text.now pieces.now) ≡ Some name) }
+    ensures none { IfNone result (name_of (words_among text.now pieces.now) ≡ None) }
 {
     let (word, rest) = first(text, pieces)?;
     if !rest.is_empty() {
@@ -30,7 +30,7 @@ pub fn name(text: &[u8], pieces: &[Piece]) -> Option<Name>
 #[tactic(auto, using(crate::proofs::Going::going_laws))]
 pub fn names(alloc: Global, text: &[u8], pieces: &[Piece]) -> Result<NameList, LineFault>
     requires { Within text.now pieces.now }
-    ensures { Reads (names_of (words_of text.now pieces.now)) result }
+    ensures { Reads (names_of (words_among text.now pieces.now)) result }
 {
     let mut names = Vec::new(alloc);
     let mut rest = pieces;
@@ -52,9 +52,9 @@ pub fn names(alloc: Global, text: &[u8], pieces: &[Piece]) -> Result<NameList, L
 #[tactic(auto, using(crate::proofs::Going::piece_laws))]
 pub fn head<'a>(text: &[u8], pieces: &'a [Piece]) -> Option<(Name, &'a [Piece])>
     requires { Within text.now pieces.now }
-    ensures some { IfSome result (λ p. head_of (words_of text.now pieces.now) ≡ Some (p.0, words_of text.now p.1.now)) }
+    ensures some { IfSome result (λ p. head_of (words_among text.now pieces.now) ≡ Some (p.0, words_among text.now p.1.now)) }
     ensures within { IfSome result (λ p. Within text.now p.1.now) }
-    ensures none { IfNone result (head_of (words_of text.now pieces.now) ≡ None) }
+    ensures none { IfNone result (head_of (words_among text.now pieces.now) ≡ None) }
 {
     let (word, behind) = first(text, pieces)?;
     let (sign, rest) = first(text, behind)?;

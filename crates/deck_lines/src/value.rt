@@ -5,9 +5,9 @@ ghost use Rattle.std.specs.Char.{is_ascii_digit};
 ghost use Rattle.std.specs.List.{list_all};
 ghost use Rattle.std.specs.Str.{bytes_eq};
 ghost use Rattle.expr_script.specs.Words.{value};
-ghost use Rattle.deck_lines.specs.Cuts.{words_of, Within};
+ghost use Rattle.expr_script.specs.Pieces.{words_among};
+ghost use Rattle.deck_lines.specs.Cuts.{Within};
 ghost use Rattle.deck_lines.specs.Values as values;
-
 use crate::cut::{first, is_word};
 use expr_script::pieces::Piece;
 use script_tree::value::Value;
@@ -98,7 +98,7 @@ fn one_word(word: &[u8]) -> Option<Value>
 #[tactic(auto, using(crate::proofs::Going::piece_laws))]
 pub fn value(text: &[u8], pieces: &[Piece]) -> Option<Value>
     requires { Within text.now pieces.now }
-    ensures { result ≡ values.value_of (words_of text.now pieces.now) }
+    ensures { result ≡ values.value_of (words_among text.now pieces.now) }
 {
     let (word, rest) = first(text, pieces)?;
     let Some((next, more)) = first(text, rest) else {
