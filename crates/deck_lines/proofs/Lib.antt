@@ -4,3 +4,8 @@ pub mod Fitting
 pub mod Scanning
 pub mod Going
 pub mod Numbers
+pub mod Scripting
+pub mod Calling
+pub mod Declaring
+pub mod InputLaws
+pub mod Gathering

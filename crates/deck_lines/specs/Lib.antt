@@ -5,3 +5,7 @@ pub mod Reading
 pub mod Answers
 pub mod Limits
 pub mod Lines
+pub mod Scripts
+pub mod Kept
+pub mod Inputs
+pub mod Selectors

@@ -4,6 +4,7 @@ use Rattle.std.specs.Option.{option_map, option_and_then, is_some}
 use Rattle.std.specs.List.{onto_first}
 use Rattle.std.specs.Str.{bytes_eq}
 use Rattle.script_tree.specs.Names.{is_name}
+use Rattle.script_tree.specs.declared.value.Value.{Value}
 use Rattle.deck_lines.specs.declared.keyword.Keyword.{Keyword}
 use Rattle.deck_lines.specs.declared.keyword.Keyword.TheVariants as keyword
 use Rattle.deck_lines.specs.Cuts.{has, before, behind}
@@ -118,3 +119,13 @@ form_by keyword.Read words = read_of words
 abbrev pub form_of : Words → Option Form
 form_of [] = Some Nothing
 form_of (word ∷ words) = option_and_then (λ k. form_by k words) (keyword_of word)
+
+-- a name and the value that it is set to
+abbrev pub said_by : List ℕ × Words → Option (List ℕ × Value)
+said_by head = option_map (λ value. (head.0, value)) (value_of head.1)
+
+abbrev pub set_said : Words → Option (List ℕ × Value)
+set_said words = option_and_then said_by (head_of words)
+
+abbrev pub sets_said : Words → Option (List (List ℕ × Value))
+sets_said words = each set_said (cut (codes ",") words)

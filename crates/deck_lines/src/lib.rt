@@ -1,11 +1,16 @@
 //! What one line of a deck says.
 #![tactic(auto)]
 
+mod calls;
 mod cut;
+mod declarations;
 mod fault;
+mod inputs;
 mod keyword;
 mod line;
 mod names;
+mod scripts;
+mod selectors;
 mod value;
 
 pub use crate::fault::{Limit, LineFault};

@@ -1,6 +1,6 @@
 // Names, alone and in lists.
 
-ghost use Rattle.std.specs.Prelude.{◌≡◌, Some, None, IfNone, IfSome};
+ghost use Rattle.std.specs.Prelude.{◌≡◌, ◌≤◌, length, Some, None, IfOk, IfNone, IfSome};
 ghost use Rattle.expr_script.specs.Pieces.{words_among};
 ghost use Rattle.deck_lines.specs.Cuts.{Within};
 ghost use Rattle.deck_lines.specs.Answers.{Reads};
@@ -30,7 +30,8 @@ pub fn name(text: &[u8], pieces: &[Piece]) -> Option<Name>
 #[tactic(auto, using(crate::proofs::Going::going_laws))]
 pub fn names(alloc: Global, text: &[u8], pieces: &[Piece]) -> Result<NameList, LineFault>
     requires { Within text.now pieces.now }
-    ensures { Reads (names_of (words_among text.now pieces.now)) result }
+    ensures read { Reads (names_of (words_among text.now pieces.now)) result }
+    ensures some { IfOk result (λ names. 1 ≤ length names) }
 {
     let mut names = Vec::new(alloc);
     let mut rest = pieces;

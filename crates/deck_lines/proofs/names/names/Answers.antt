@@ -5,8 +5,8 @@ use Rattle.deck_lines.specs.Reading.{name_of}
 use Rattle.deck_lines.proofs.Going.{Going, goes_on, goes_wrong}
 use Rattle.deck_lines.proofs.names.names.Goals as goal
 
-pub returns-in_default-name : goal.returns-in_default-name
-returns-in_default-name c =
+pub returns-in_default-name-clause-read : goal.returns-in_default-name-clause-read
+returns-in_default-name-clause-read c =
     goes_wrong (codes ",") name_of (words_among c.args.text.now c.args.pieces.now) c.loop-before.names.items (words_among c.args.text.now c.loop-before.rest.now) (words_among c.args.text.now c.in-Some.before.now)
     c.loop-before.invariant.going c.in-Some.ensures.some c.in-Some.ensures.before c.in_default-name.ensures.none
 
