@@ -1,6 +1,7 @@
 -- One more selector.
 use Rattle.std.proofs.Common.{◌≡◌, ℕ, ◌+◌, ◌<◌, ◌≤◌, Bool, true, false, List, [], ◌∷◌, ◌++◌, length, refl, sym, ap, ◌∙◌, arith, subst, inl, inr, ◌⊎◌, length-append}
-use Rattle.std.specs.Prelude.{min, map, ◌||◌, nat_lt, if◌then◌else◌}
+use Rattle.std.specs.Prelude.{min, map, ◌||◌, nat_lt, if◌then◌else◌, codes, Option, Some, None, Err}
+use Rattle.std.specs.Option.{option_map}
 use Rattle.std.specs.List.{AllByRecursion, AllZip}
 use Rattle.std.proofs.lemmas.Bool.Decides.{nat_tests}
 use Rattle.script_tree.specs.declared.limits.TheConstants.{INPUTS, CANDIDATES, SELECTORS}
@@ -8,7 +9,13 @@ use Rattle.script_tree.specs.Scripts.{Scripted, HasNoPicks, HasNoAcc}
 use Rattle.expr_script.specs.declared.atoms.Atoms.TheVariants as atoms
 use Rattle.expr_script.specs.Spelled.{SpellsScript, SpellsTooMany}
 use Rattle.signal_graph.specs.Declarations.{Part}
+use Rattle.deck_lines.specs.declared.fault.Limit.{Limit}
+use Rattle.deck_lines.specs.declared.fault.Limit.TheVariants.{Levels, Inputs, Candidates, Selectors as Selecting, Sets, Looks}
+use Rattle.deck_lines.specs.declared.fault.LineFault.TheVariants.{TooMany}
 use Rattle.deck_lines.specs.declared.selectors.Selectors.{Selectors}
+use Rattle.deck_lines.specs.Cuts.{has, before, behind}
+use Rattle.deck_lines.specs.Reading.{names_of, part_of}
+use Rattle.deck_lines.specs.Scripts.{IsScriptOf}
 use Rattle.deck_lines.specs.Forms.{Words, PartForm}
 use Rattle.deck_lines.specs.Limits.{Job, selector_script, IsTooDeep, IsShallow, One}
 use Rattle.deck_lines.specs.Lines.{SaysPart}
@@ -147,4 +154,19 @@ gathers_many forms form candidates old new g c d m w s same = record {
     sound = subst (AllByRecursion IsSound) (sym w) g.sound;
   }
 
-pub ruleset gather_laws = (gathers_script, gathers_deep, gathers_many)
+-- a script that goes beyond a limit other than that of depth has too many names
+pub many_unless_deep : (job : Job) (limit : Limit) → (limit ≡ Levels → ⊥) → IsScriptOf job.0 job.1 (Err (TooMany limit)) → SpellsTooMany job.0 job.1
+many_unless_deep job Levels n h = absurd (n refl)
+many_unless_deep job Inputs n h = h
+many_unless_deep job Candidates n h = absurd h
+many_unless_deep job Selecting n h = absurd h
+many_unless_deep job Sets n h = absurd h
+many_unless_deep job Looks n h = absurd h
+
+-- the words of a selector
+pub part_found : (words first last : Words) (names : List (List ℕ)) → has (codes "among") words ≡ true → first ≡ before (codes "among") words → last ≡ behind (codes "among") words → names_of last ≡ Some names → part_of words ≡ Some (first, names)
+part_found words first last names h b e n =
+    ap (λ t. if t then option_map (λ found. (before (codes "among") words, found)) (names_of (behind (codes "among") words)) else None) h
+    ∙ ap (λ ws. option_map (λ found. (ws, found)) (names_of (behind (codes "among") words))) (sym b)
+    ∙ ap (λ ws. option_map (λ found. (first, found)) (names_of ws)) (sym e)
+    ∙ ap (option_map (λ found. (first, found))) n

@@ -9,3 +9,4 @@ pub mod Calling
 pub mod Declaring
 pub mod InputLaws
 pub mod Gathering
+pub mod Judging

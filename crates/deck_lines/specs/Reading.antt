@@ -129,3 +129,7 @@ set_said words = option_and_then said_by (head_of words)
 
 abbrev pub sets_said : Words → Option (List (List ℕ × Value))
 sets_said words = each set_said (cut (codes ",") words)
+
+-- what is found, behind further selectors
+abbrev pub prepended : List PartForm → List PartForm × Option Words → List PartForm × Option Words
+prepended parts found = (parts ++ found.0, found.1)

@@ -2,6 +2,7 @@
 #![tactic(auto)]
 
 mod calls;
+mod choose;
 mod cut;
 mod declarations;
 mod fault;

@@ -5,6 +5,7 @@ ghost use Rattle.expr_script.specs.Pieces.{words_among};
 ghost use Rattle.expr_script.specs.Spelled.{SpellsScript, SpellsTooMany};
 ghost use Rattle.expr_script.specs.declared.atoms.Atoms.TheVariants as atoms;
 ghost use Rattle.deck_lines.specs.Scripts.{IsScriptRead};
+ghost use Rattle.deck_lines.specs.declared.fault.LineFault.TheVariants.{TooMany};
 ghost use Rattle.script_tree.specs.Scripts.{HasNoPicks, HasNoAcc};
 ghost use Rattle.deck_lines.specs.Cuts.{Within};
 ghost use Rattle.deck_lines.specs.Forms.{PartForm};
@@ -62,7 +63,6 @@ impl Selectors {
     }
 
     // Adds one whose script is there.
-    #[tactic(auto, using(crate::proofs::Gathering::gather_laws))]
     fn add_script(&mut self, script: Script, candidates: NameList) -> Result<(), OutOfMemory>
         requires some { 1 ≤ length candidates }
         requires picks { HasNoPicks script }
@@ -75,7 +75,6 @@ impl Selectors {
     }
 
     // Adds one whose script is too deep.
-    #[tactic(auto, using(crate::proofs::Gathering::gather_laws))]
     fn add_deep(&mut self, candidates: &NameList)
         ensures { (form : PartForm) (forms : List PartForm) → IsTooDeep (selector_script form) → form.1 ≡ candidates.now → Gathers forms self.old → Gathers (forms ++ form ∷ []) self.new }
     {
@@ -84,12 +83,34 @@ impl Selectors {
     }
 
     // Adds one whose script has too many names.
-    #[tactic(auto, using(crate::proofs::Gathering::gather_laws))]
     fn add_many(&mut self, candidates: &NameList)
         ensures { (form : PartForm) (forms : List PartForm) → SpellsTooMany (atoms.Script false) form.0 → form.1 ≡ candidates.now → Gathers forms self.old → Gathers (forms ++ form ∷ []) self.new }
     {
         self.count_one(candidates);
         self.many = true;
+    }
+
+    // Adds one whose script goes beyond a limit.
+    fn add_beyond(&mut self, limit: Limit, candidates: &NameList)
+        ensures { (form : PartForm) (forms : List PartForm) → IsScriptRead false form.0 (Err (TooMany limit)) → form.1 ≡ candidates.now → Gathers forms self.old → Gathers (forms ++ form ∷ []) self.new }
+    {
+        match limit {
+            Limit::Levels => self.add_deep(candidates),
+            _ => self.add_many(candidates),
+        }
+    }
+
+    // Adds one whose script is at fault, if it is a script.
+    fn add_fault(&mut self, fault: LineFault, candidates: &NameList) -> Result<(), LineFault>
+        ensures { (form : PartForm) → IsScriptRead false form.0 (Err fault) → form.1 ≡ candidates.now → Adds (Some form) self.old self.new result }
+    {
+        match fault {
+            LineFault::TooMany(limit) => {
+                self.add_beyond(limit, candidates);
+                Ok(())
+            }
+            fault => Err(fault),
+        }
     }
 
     // Adds one by what its script is read as.
@@ -108,15 +129,7 @@ impl Selectors {
                 self.add_script(script, candidates)?;
                 Ok(())
             }
-            Err(LineFault::TooMany(Limit::Levels)) => {
-                self.add_deep(&candidates);
-                Ok(())
-            }
-            Err(LineFault::TooMany(_)) => {
-                self.add_many(&candidates);
-                Ok(())
-            }
-            Err(fault) => Err(fault),
+            Err(fault) => self.add_fault(fault, &candidates),
         }
     }
 
