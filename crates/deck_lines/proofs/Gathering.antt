@@ -70,7 +70,7 @@ pub scripts_are : (jobs : List Job) → AllByRecursion IsShallow jobs → AllByR
 scripts_are [] all = tt
 scripts_are (job ∷ jobs) all = (inl all.0, scripts_are jobs all.1)
 
-all_scripts : (forms : List PartForm) (deep many : Bool) (parts : List Part) → Scripting forms deep many parts → AllByRecursion IsScript (map selector_script forms)
+pub all_scripts : (forms : List PartForm) (deep many : Bool) (parts : List Part) → Scripting forms deep many parts → AllByRecursion IsScript (map selector_script forms)
 all_scripts forms true many parts s = s.0
 all_scripts forms false true parts s = scripts_are (map selector_script forms) s.0
 all_scripts forms false false parts s = scripts_are (map selector_script forms) (all_shallow forms parts s)

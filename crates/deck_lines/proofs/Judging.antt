@@ -130,3 +130,16 @@ chosen_kept forms over parts n count z e h c s k l some fits =
     }
 
 pub ruleset judge_laws = (too_deep, too_many, many_together, too_crowded, too_long, chosen, chosen_kept)
+
+-- what is gathered, by what was told of it
+pub deep_ones : (forms : List PartForm) (deep many : Bool) (parts : List Part) → Scripting forms deep many parts → deep ≡ true → Scripting forms true many parts
+deep_ones forms deep many parts s e = subst (λ (b : Bool). Scripting forms b many parts) e s
+
+pub many_ones : (forms : List PartForm) (deep many : Bool) (parts : List Part) → Scripting forms deep many parts → deep ≡ false → many ≡ true → Scripting forms false true parts
+many_ones forms deep many parts s e f = subst (λ (b : Bool). Scripting forms false b parts) f (subst (λ (b : Bool). Scripting forms b many parts) e s)
+
+pub all_there : (forms : List PartForm) (deep many : Bool) (parts : List Part) → Scripting forms deep many parts → deep ≡ false → many ≡ false → AllZip SaysPart forms parts
+all_there forms deep many parts s e f = subst (λ (b : Bool). Scripting forms false b parts) f (subst (λ (b : Bool). Scripting forms b many parts) e s)
+
+pub crowd_is : (forms : List PartForm) (crowded b : Bool) → Crowding forms crowded → crowded ≡ b → Crowding forms b
+crowd_is forms crowded b c e = subst (Crowding forms) e c

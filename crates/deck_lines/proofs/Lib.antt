@@ -10,3 +10,4 @@ pub mod Declaring
 pub mod InputLaws
 pub mod Gathering
 pub mod Judging
+pub mod Choosing

@@ -63,3 +63,8 @@ Adds (Some form) old new (Ok u) = (forms : List PartForm) → Gathers forms old 
 Adds (Some form) old new (Err Syntax) = IsWrong (selector_script form)
 Adds (Some form) old new (Err (TooMany limit)) = ⊥
 Adds (Some form) old new (Err Memory) = Unit {0}
+
+-- some selectors were gathered
+pub record HasGathered (selectors : Selectors) : Type 0 where
+  pub forms : List PartForm
+  pub are : Gathers forms selectors
