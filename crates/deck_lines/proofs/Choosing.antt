@@ -183,3 +183,25 @@ only_told name (Some form) old new Memory a = tt
 
 pub only_wrong : (name : List ℕ) (words rest : Words) (old new : Selectors) (fault : LineFault) → choose_by (name, words) ≡ option_map (λ p. Choose name (p ∷ []) None) (part_of rest) → Adds (part_of rest) old new (Err fault) → IsRead (choose_by (name, words)) (Err fault)
 only_wrong name words rest old new fault e a = subst (λ f. IsRead f (Err fault)) (sym e) (only_told name (part_of rest) old new fault a)
+
+-- nothing is gathered where nothing is counted
+pub none_gathered : (done : List PartForm) (selectors : Selectors) → Gathers done selectors → selectors.count ≡ 0 → done ≡ []
+none_gathered [] selectors g e = refl
+none_gathered (part ∷ done) selectors g e = absurd (omega (arith, g.count, e))
+
+pub alone_before : (done : List PartForm) (selectors : Selectors) (words rest : Words) → Gathers done selectors → selectors.count ≡ 0 → parts_of (cut (codes ":") words) ≡ option_map (prepended done) (last_of rest) → parts_of (cut (codes ":") words) ≡ option_map (prepended []) (last_of rest)
+alone_before done selectors words rest g e p = p ∙ ap (λ ps. option_map (prepended ps) (last_of rest)) (none_gathered done selectors g e)
+
+syntax_read : (f : Option Form) → f ≡ None → IsRead f (Err Syntax)
+syntax_read f e = subst (λ x. IsRead x (Err Syntax)) (sym e) tt
+
+pub no_selector_read : (name : List ℕ) (words rest : Words) (done : List PartForm) (selectors : Selectors) → Gathers done selectors → selectors.count ≡ 0 → parts_of (cut (codes ":") words) ≡ option_map (prepended done) (last_of rest) → has (codes "among") rest ≡ false → IsRead (choose_by (name, words)) (Err Syntax)
+no_selector_read name words rest done selectors g e p h = syntax_read (choose_by (name, words)) (no_selector name words rest (alone_before done selectors words rest g e p) h)
+
+pub no_body_read : (name : List ℕ) (words rest : Words) (done : List PartForm) (selectors : Selectors) → Gathers done selectors → (selectors.count ≡ 0 → ⊥) → parts_of (cut (codes ":") words) ≡ option_map (prepended done) (last_of rest) → has (codes "among") rest ≡ true → IsRead (choose_by (name, words)) (Err Syntax)
+no_body_read name words rest [] selectors g e p h = absurd (e g.count)
+no_body_read name words rest (part ∷ done) selectors g e p h = syntax_read (choose_by (name, words)) (no_body name words rest part done p h)
+
+pub over_read : (name : List ℕ) (words rest : Words) (done : List PartForm) (selectors : Selectors) (result : Result Line LineFault) → Gathers done selectors → (selectors.count ≡ 0 → ⊥) → parts_of (cut (codes ":") words) ≡ option_map (prepended done) (last_of rest) → has (codes "among") rest ≡ false → IsReadAs (Choose name done (Some rest)) result → IsRead (choose_by (name, words)) result
+over_read name words rest [] selectors result g e p h made = absurd (e g.count)
+over_read name words rest (part ∷ done) selectors result g e p h made = subst (λ f. IsRead f result) (sym (with_body name words rest part done p h)) made

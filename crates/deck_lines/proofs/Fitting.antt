@@ -10,7 +10,7 @@ use Rattle.deck_lines.specs.declared.keyword.Keyword.TheVariants as keyword
 use Rattle.deck_lines.specs.Forms.{Words, SetForm, PartForm, Form, Nothing, Source, Signal, Fold, Choose, Thread, Fire, Read, IsName, IsSet, IsPart, IsOver, IsProper, Fits, with_commas, spelled, spelled_set, spelled_part, spelled_looks, pieces_of}
 use Rattle.deck_lines.specs.Cuts.{has, before, behind, each_behind, separated}
 use Rattle.deck_lines.specs.Values.{value_of}
-use Rattle.deck_lines.specs.Reading.{cut, name_of, names_of, head_of, sets_of, part_of, last_of, behind_part, parts_of, choose_of, source_by, fold_by, choose_by, thread_of, fire_of, read_of, keyword_of, form_by, form_of}
+use Rattle.deck_lines.specs.Reading.{cut, name_of, names_of, head_of, sets_of, part_of, last_of, behind_part, parts_of, choose_of, source_by, signal_by, fold_by, choose_by, thread_of, fire_of, read_of, keyword_of, form_by, form_of}
 use Rattle.deck_lines.proofs.Cutting.{same_word, or_no, no_or, has_none, has_append, before_sign, behind_sign, has_sign, two_sides, cut_some, cut_separated, cut_whole, separated_cut}
 use Rattle.deck_lines.proofs.Wording.{no_yes, both, and_yes, map_some, not_named, value_without, all_map, names_are, are_names, each_some, head_is, is_head, set_without, no_colon, no_look, sets_are, are_sets}
 
@@ -192,10 +192,9 @@ fits_by keyword.Source words form e = option_and_then_some source_by (head_of wo
     let c = cond_some (is_some (value_of head.1)) (Source head.0 head.1) form rest in
     let known = head_is words head first in
     subst (λ f. Fits (codes "source" ∷ words) f) c.1 (record { same = ap (λ ws. codes "source" ∷ ws) known.0; proper = (known.1, c.0) }))
-fits_by keyword.Signal words form e =
-    let m = map_some (λ (head : List ℕ × Words). Signal head.0 head.1) (head_of words) form e in
-    let known = head_is words m.0 m.1 in
-    subst (λ f. Fits (codes "signal" ∷ words) f) m.2 (record { same = ap (λ ws. codes "signal" ∷ ws) known.0; proper = known.1 })
+fits_by keyword.Signal words form e = option_and_then_some signal_by (head_of words) form e (λ head first rest.
+    let known = head_is words head first in
+    subst (λ f. Fits (codes "signal" ∷ words) f) (same_Some (Signal head.0 head.1) form rest) (record { same = ap (λ ws. codes "signal" ∷ ws) known.0; proper = known.1 }))
 fits_by keyword.Fold words form e = option_and_then_some fold_by (head_of words) form e (λ head first rest.
     let start = before (codes ":") head.1 in
     let script = behind (codes ":") head.1 in
@@ -251,7 +250,7 @@ form_found Nothing h = refl
 form_found (Source name start) h =
     ap (option_and_then source_by) (is_head name start h.0)
     ∙ ap (λ t. if t then Some (Source name start) else None) h.1
-form_found (Signal name script) h = ap (option_map (λ (head : List ℕ × Words). Signal head.0 head.1)) (is_head name script h)
+form_found (Signal name script) h = ap (option_and_then signal_by) (is_head name script h)
 form_found (Fold name start script) h =
     let words = start ++ codes ":" ∷ script in
     let whole = value_without (codes ":") start no_colon h.1 in

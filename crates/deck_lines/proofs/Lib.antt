@@ -11,3 +11,6 @@ pub mod InputLaws
 pub mod Gathering
 pub mod Judging
 pub mod Choosing
+pub mod CutLaws
+pub mod Texting
+pub mod Finding

@@ -9,3 +9,4 @@ pub mod Scripts
 pub mod Kept
 pub mod Inputs
 pub mod Selectors
+pub mod Texts

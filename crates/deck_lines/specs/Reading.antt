@@ -82,6 +82,17 @@ fold_by head =
 abbrev pub choose_by : List ℕ × Words → Option Form
 choose_by head = option_and_then (λ found. choose_of head.0 found.0 found.1) (parts_of (cut (codes ":") head.1))
 
+abbrev pub signal_by : List ℕ × Words → Option Form
+signal_by head = Some (Signal head.0 head.1)
+
+-- what a word that declares says of what stands behind it
+abbrev pub declared_by : Keyword → List ℕ × Words → Option Form
+declared_by keyword.Source head = source_by head
+declared_by keyword.Signal head = signal_by head
+declared_by keyword.Fold head = fold_by head
+declared_by keyword.Choose head = choose_by head
+declared_by k head = None
+
 abbrev pub thread_of : Words → Option Form
 thread_of [] = Some Thread
 thread_of (word ∷ words) = None
@@ -108,7 +119,7 @@ keyword_of word =
 
 abbrev pub form_by : Keyword → Words → Option Form
 form_by keyword.Source words = option_and_then source_by (head_of words)
-form_by keyword.Signal words = option_map (λ head. Signal head.0 head.1) (head_of words)
+form_by keyword.Signal words = option_and_then signal_by (head_of words)
 form_by keyword.Fold words = option_and_then fold_by (head_of words)
 form_by keyword.Choose words = option_and_then choose_by (head_of words)
 form_by keyword.Thread words = thread_of words

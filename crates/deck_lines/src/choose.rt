@@ -123,16 +123,16 @@ fn last(
     ensures kept { IfOk result IsKept }
 {
     let alone = selectors.count == 0;
-    if cut(text, pieces, b"among").is_some() {
+    let Some(_) = cut(text, pieces, b"among") else {
         if alone {
-            return only(alloc, text, name, selectors, pieces);
+            return Err(LineFault::Syntax);
         }
-        return Err(LineFault::Syntax);
-    }
+        return over(alloc, text, name, selectors, pieces);
+    };
     if alone {
-        return Err(LineFault::Syntax);
+        return only(alloc, text, name, selectors, pieces);
     }
-    over(alloc, text, name, selectors, pieces)
+    Err(LineFault::Syntax)
 }
 
 /// A choose with this name, from what stands behind its `=`.
