@@ -1,10 +1,9 @@
 -- The sets of a fire and what they say.
-use Rattle.std.proofs.Common.{◌≡◌, ℕ, Bool, true, false, List, [], ◌∷◌, ◌++◌, refl, sym, ap, ◌∙◌, arith, subst}
-use Rattle.std.specs.Prelude.{◌≤◌, length, codes, Option, Some, None, Result, Ok, Err, if◌then◌else◌}
+use Rattle.std.proofs.Common.{◌≡◌, ℕ, true, false, List, [], ◌∷◌, refl, sym, ap, ◌∙◌, arith, subst}
+use Rattle.std.specs.Prelude.{length, codes, Option, Some, None, Result, Err, if◌then◌else◌}
 use Rattle.std.specs.Option.{option_map, option_and_then, is_some}
-use Rattle.std.specs.List.{All, AllByRecursion, AllZip}
-use Rattle.std.proofs.lemmas.Option.{none-some, same_Some, option_and_then_some}
-use Rattle.std.proofs.lemmas.List.Elements.{All-push}
+use Rattle.std.specs.List.{AllZip}
+use Rattle.std.proofs.lemmas.Option.{none-some, same_Some}
 use Rattle.script_tree.specs.declared.value.Value.{Value}
 use Rattle.deck_lines.specs.declared.fault.LineFault.{LineFault}
 use Rattle.deck_lines.specs.declared.fault.LineFault.TheVariants.{Syntax, TooMany, Memory}
@@ -12,11 +11,9 @@ use Rattle.deck_lines.specs.declared.line.Line.{Line}
 use Rattle.deck_lines.specs.Answers.{Reads}
 use Rattle.deck_lines.specs.Cuts.{has, before, behind}
 use Rattle.deck_lines.specs.Forms.{Words, SetForm, Form, Fire, Read}
-use Rattle.deck_lines.specs.Kept.{SetsWell}
 use Rattle.deck_lines.specs.Lines.{IsRead, IsReadAs, SaysSet}
 use Rattle.deck_lines.specs.Reading.{cut, each, names_of, head_of, set_by, set_of, sets_of, said_by, set_said, sets_said, fire_of, read_of}
 use Rattle.deck_lines.specs.Values.{value_of}
-use Rattle.deck_lines.proofs.Wording.{map_some}
 
 pub set_is_said : (words rest : Words) (name : List ℕ) (value : Value) → head_of words ≡ Some (name, rest) → value_of rest ≡ Some value → set_said words ≡ Some (name, value)
 set_is_said words rest name value h v = ap (option_and_then said_by) h ∙ ap (option_map (λ x. (name, x))) v

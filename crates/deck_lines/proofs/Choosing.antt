@@ -1,11 +1,8 @@
 -- Which choose the parts between colons are.
-use Rattle.std.proofs.Common.{◌≡◌, ℕ, ◌+◌, ◌<◌, ◌≤◌, Bool, true, false, List, [], ◌∷◌, ◌++◌, length, refl, sym, ap, ◌∙◌, arith, subst, inl, inr, ◌⊎◌, append_assoc, append-nil}
+use Rattle.std.proofs.Common.{◌≡◌, ℕ, ◌≤◌, true, false, List, [], ◌∷◌, ◌++◌, length, refl, sym, ap, ◌∙◌, arith, subst, inl, inr, append_assoc, append-nil}
 use Rattle.std.specs.Prelude.{min, map, codes, Option, Some, None, Result, Ok, Err, if◌then◌else◌}
 use Rattle.std.specs.Option.{option_map, option_and_then}
-use Rattle.std.specs.List.{AllByRecursion, AllZip}
-use Rattle.script_tree.specs.declared.limits.TheConstants.{INPUTS, SELECTORS}
-use Rattle.expr_script.specs.declared.atoms.Atoms.TheVariants as atoms
-use Rattle.signal_graph.specs.Declarations.{Part}
+use Rattle.script_tree.specs.declared.limits.TheConstants.{SELECTORS}
 use Rattle.deck_lines.specs.declared.fault.Limit.{Limit}
 use Rattle.deck_lines.specs.declared.fault.Limit.TheVariants.{Levels, Inputs, Candidates, Selectors as Selecting, Sets, Looks}
 use Rattle.deck_lines.specs.declared.fault.LineFault.{LineFault}
@@ -14,11 +11,11 @@ use Rattle.deck_lines.specs.declared.line.Line.{Line}
 use Rattle.deck_lines.specs.declared.selectors.Selectors.{Selectors}
 use Rattle.deck_lines.specs.Cuts.{has, before, behind}
 use Rattle.deck_lines.specs.Forms.{Words, PartForm, Form, Choose}
-use Rattle.deck_lines.specs.Limits.{Job, selector_script, body_script, scripts_of, IsWrong, IsTooDeep, IsShallow, One, IsBeyond}
+use Rattle.deck_lines.specs.Limits.{selector_script, body_script, IsWrong, IsTooDeep, One}
 use Rattle.deck_lines.specs.Lines.{IsRead, IsReadAs}
 use Rattle.deck_lines.specs.Reading.{cut, part_of, last_of, behind_part, parts_of, choose_of, choose_by, prepended}
-use Rattle.deck_lines.specs.Scripts.{IsScriptOf, IsBodyRead}
-use Rattle.deck_lines.specs.Selectors.{IsScript, Scripting, Gathers, Adds}
+use Rattle.deck_lines.specs.Scripts.{IsBodyRead}
+use Rattle.deck_lines.specs.Selectors.{IsScript, Gathers, Adds}
 use Rattle.deck_lines.proofs.Cutting.{cut_none, cut_sign, cut_some, two_sides}
 use Rattle.deck_lines.proofs.Gathering.{all_scripts, one_before, one_behind}
 use Rattle.deck_lines.proofs.Judging.{all_both}
@@ -73,8 +70,8 @@ gathered_more words old new rest first last g h b e a =
       done = g.done ++ one.0 ∷ [];
       are = one.2 g.done g.are;
       so_far = g.so_far
-        ∙ ap (option_map (prepended g.done)) (rest_parts rest first last h b e ∙ ap (option_and_then (λ part. option_map (behind_part part) (parts_of (cut (codes ":") last)))) one.1)
-        ∙ onto g.done one.0 (parts_of (cut (codes ":") last));
+          ∙ ap (option_map (prepended g.done)) (rest_parts rest first last h b e ∙ ap (option_and_then (λ part. option_map (behind_part part) (parts_of (cut (codes ":") last)))) one.1)
+          ∙ onto g.done one.0 (parts_of (cut (codes ":") last));
     }
 
 -- a selector whose script is none makes the line none
@@ -156,10 +153,10 @@ with_body name words rest part done e h =
 pub body_fault : (name : List ℕ) (done : List PartForm) (rest : Words) (selectors : Selectors) (fault : LineFault) → Gathers done selectors → IsBodyRead (min (length done) SELECTORS) rest (Err fault) → IsReadAs (Choose name done (Some rest)) (Err fault)
 body_fault name done rest selectors Syntax g h = one_behind IsWrong (map selector_script done) (body_script (length done) (Some rest)) (inl h)
 body_fault name done rest selectors (TooMany Levels) g h = record {
-    scripts = all_both IsScript (map selector_script done) (body_script (length done) (Some rest)) (all_scripts done selectors.deep selectors.many selectors.within.items g.scripts) (inr h, tt);
-    beyond = one_behind IsTooDeep (map selector_script done) (body_script (length done) (Some rest)) (inl h);
-    before = tt;
-  }
+  scripts = all_both IsScript (map selector_script done) (body_script (length done) (Some rest)) (all_scripts done selectors.deep selectors.many selectors.within.items g.scripts) (inr h, tt);
+  beyond = one_behind IsTooDeep (map selector_script done) (body_script (length done) (Some rest)) (inl h);
+  before = tt;
+}
 body_fault name done rest selectors (TooMany Inputs) g h = absurd (omega (arith, h.many))
 body_fault name done rest selectors (TooMany Candidates) g h = absurd h
 body_fault name done rest selectors (TooMany Selecting) g h = absurd h

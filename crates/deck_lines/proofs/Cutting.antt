@@ -1,5 +1,5 @@
 -- Words that are cut at a sign.
-use Rattle.std.proofs.Common.{◌≡◌, ℕ, Bool, true, false, List, [], ◌∷◌, ◌++◌, refl, sym, ap, ◌∙◌, arith, append_assoc, append-nil}
+use Rattle.std.proofs.Common.{◌≡◌, ℕ, Bool, true, false, List, [], ◌∷◌, ◌++◌, refl, sym, ap, ◌∙◌, arith, append-nil}
 use Rattle.std.specs.Prelude.{◌||◌, ◌≤◌, length, if◌then◌else◌}
 use Rattle.std.specs.List.{AllByRecursion, onto_first}
 use Rattle.std.specs.Str.{bytes_eq}

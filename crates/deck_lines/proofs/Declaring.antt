@@ -1,6 +1,6 @@
 -- What a fold says.
-use Rattle.std.proofs.Common.{◌≡◌, ℕ, true, List, refl, sym, ap, ◌∙◌, arith, subst, inl, inr}
-use Rattle.std.specs.Prelude.{◌≤◌, ◌&&◌, length, codes, Option, Some, None, Result, Ok, Err, if◌then◌else◌}
+use Rattle.std.proofs.Common.{◌≡◌, ℕ, true, List, refl, sym, ap, ◌∙◌, arith, subst}
+use Rattle.std.specs.Prelude.{◌&&◌, codes, Option, Some, None, Result, Ok, if◌then◌else◌}
 use Rattle.std.specs.Option.{is_some}
 use Rattle.script_tree.specs.declared.value.Value.{Value}
 use Rattle.script_tree.specs.Scripts.{Scripted}
@@ -10,16 +10,19 @@ use Rattle.deck_lines.specs.declared.fault.LineFault.{LineFault}
 use Rattle.deck_lines.specs.declared.line.Line.{Line}
 use Rattle.deck_lines.specs.declared.line.Line.TheVariants.{Declares}
 use Rattle.deck_lines.specs.Cuts.{has, before, behind}
-use Rattle.deck_lines.specs.Forms.{Words, Form, Fold}
+use Rattle.deck_lines.specs.Forms.{Words, Fold}
 use Rattle.deck_lines.specs.Lines.{IsRead, IsReadAs}
 use Rattle.deck_lines.specs.Reading.{fold_by}
 use Rattle.deck_lines.specs.Values.{value_of}
 
 pub fold_says : (name : List ℕ) (start script : Words) (value : Value) (found : Scripted) → value_of start ≡ Some value → SpellsScript true script found → IsReadAs (Fold name start script) (Ok (Declares name (kind.Fold value found)))
-fold_says name start script value found e s =
-    ((value, found, e, s, refl),
-    ((record { tree = found.tree; spells = s.tree; shallow = s.shallow }, tt),
-    (((s.few, tt), omega arith), (tt, (omega arith, (omega arith, (omega arith, tt)))))))
+fold_says name start script value found e s = (
+  (value, found, e, s, refl),
+  (
+    (record { tree = found.tree; spells = s.tree; shallow = s.shallow }, tt),
+    (((s.few, tt), omega arith), (tt, (omega arith, (omega arith, (omega arith, tt))))),
+  ),
+)
 
 fold_test : (name : List ℕ) (words start script : Words) → has (codes ":") words ≡ true → start ≡ before (codes ":") words → script ≡ behind (codes ":") words → fold_by (name, words) ≡ (if is_some (value_of start) then Some (Fold name start script) else None)
 fold_test name words start script h b e =

@@ -1,6 +1,6 @@
 -- The form that is found by cutting is the one that fits.
 use Rattle.std.proofs.Common.{◌≡◌, ℕ, Bool, true, false, List, [], ◌∷◌, ◌++◌, refl, sym, ap, ◌∙◌, arith, subst, append-nil}
-use Rattle.std.specs.Prelude.{◌||◌, ◌&&◌, ◌≤◌, length, map, codes, Option, Some, None, if◌then◌else◌}
+use Rattle.std.specs.Prelude.{◌&&◌, ◌≤◌, length, map, codes, Option, Some, None, if◌then◌else◌}
 use Rattle.std.specs.Option.{option_map, option_and_then, is_some}
 use Rattle.std.specs.List.{AllByRecursion}
 use Rattle.std.specs.Str.{bytes_eq}
@@ -10,9 +10,9 @@ use Rattle.deck_lines.specs.declared.keyword.Keyword.TheVariants as keyword
 use Rattle.deck_lines.specs.Forms.{Words, SetForm, PartForm, Form, Nothing, Source, Signal, Fold, Choose, Thread, Fire, Read, IsName, IsSet, IsPart, IsOver, IsProper, Fits, with_commas, spelled, spelled_set, spelled_part, spelled_looks, pieces_of}
 use Rattle.deck_lines.specs.Cuts.{has, before, behind, each_behind, separated}
 use Rattle.deck_lines.specs.Values.{value_of}
-use Rattle.deck_lines.specs.Reading.{cut, name_of, names_of, head_of, sets_of, part_of, last_of, behind_part, parts_of, choose_of, source_by, signal_by, fold_by, choose_by, thread_of, fire_of, read_of, keyword_of, form_by, form_of}
+use Rattle.deck_lines.specs.Reading.{cut, name_of, names_of, head_of, sets_of, part_of, last_of, behind_part, parts_of, choose_of, source_by, signal_by, fold_by, choose_by, fire_of, keyword_of, form_by, form_of}
 use Rattle.deck_lines.proofs.Cutting.{same_word, or_no, no_or, has_none, has_append, before_sign, behind_sign, has_sign, two_sides, cut_some, cut_separated, cut_whole, separated_cut}
-use Rattle.deck_lines.proofs.Wording.{no_yes, both, and_yes, map_some, not_named, value_without, all_map, names_are, are_names, each_some, head_is, is_head, set_without, no_colon, no_look, sets_are, are_sets}
+use Rattle.deck_lines.proofs.Wording.{both, and_yes, map_some, not_named, value_without, all_map, names_are, are_names, each_some, head_is, is_head, set_without, no_colon, no_look, sets_are, are_sets}
 
 -- a selector
 pub part_is : (words : Words) (part : PartForm) → has (codes ":") words ≡ false → part_of words ≡ Some part → (words ≡ spelled_part part) × IsPart part
@@ -24,9 +24,11 @@ part_is words part h e = by_test (has (codes "among") words) refl e
         let m = map_some (λ names. (before (codes "among") words, names)) (names_of (behind (codes "among") words)) part g in
         let known = names_are (behind (codes "among") words) m.0 m.1 in
         let whole = or_no (has (codes ":") (before (codes "among") words)) _ (sym (has_append (codes ":") (before (codes "among") words) (codes "among" ∷ behind (codes "among") words)) ∙ ap (has (codes ":")) (sym sides.0) ∙ h) in
-        subst (λ (p : PartForm). (words ≡ spelled_part p) × IsPart p) m.2
-        (sides.0 ∙ ap (λ ws. before (codes "among") words ++ codes "among" ∷ ws) known.0,
-        record { whole = whole.0; script = sides.1; some = omega (arith, each_some name_of (cut (codes ",") (behind (codes "among") words)) m.0 m.1, cut_some (codes ",") (behind (codes "among") words)); named = known.1 })
+        subst (λ (p : PartForm). (words ≡ spelled_part p) × IsPart p) m.2 (
+          sides.0 ∙ ap (λ ws. before (codes "among") words ++ codes "among" ∷ ws) known.0,
+          record { whole = whole.0; script = sides.1; some = omega (arith, each_some name_of (cut (codes ",") (behind (codes "among") words)) m.0 m.1, cut_some (codes ",") (behind (codes "among") words)); named = known.1 },
+        )
+
     by_test : (t : Bool) → has (codes "among") words ≡ t → (if t then option_map (λ names. (before (codes "among") words, names)) (names_of (behind (codes "among") words)) else None) ≡ Some part → (words ≡ spelled_part part) × IsPart part
     by_test true t g = found t g
     by_test false t g = absurd (none-some part g)
@@ -82,11 +84,11 @@ parts_are [] found h e = absurd (none-some found e)
 parts_are (last ∷ []) found h e = last_is last found h.0 e
 parts_are (words ∷ next ∷ more) found h e =
     option_and_then_some (λ part. option_map (behind_part part) (parts_of (next ∷ more))) (part_of words) found e (λ part first rest.
-      let m = map_some (behind_part part) (parts_of (next ∷ more)) found rest in
-      let known = part_is words part h.0 first in
-      let others = parts_are (next ∷ more) m.0 h.1 m.1 in
-      subst (Found (words ∷ next ∷ more)) m.2
-      (ap (λ ws. words ∷ ws) others.0 ∙ ap (λ w. w ∷ pieces_of m.0.0 m.0.1) known.0 ∙ sym (join part m.0.0 m.0.1), (known.1, others.1), others.2))
+    let m = map_some (behind_part part) (parts_of (next ∷ more)) found rest in
+    let known = part_is words part h.0 first in
+    let others = parts_are (next ∷ more) m.0 h.1 m.1 in
+    subst (Found (words ∷ next ∷ more)) m.2
+    (ap (λ ws. words ∷ ws) others.0 ∙ ap (λ w. w ∷ pieces_of m.0.0 m.0.1) known.0 ∙ sym (join part m.0.0 m.0.1), (known.1, others.1), others.2))
 
 -- with a body all others are selectors
 parts_before : (part : PartForm) (parts : List PartForm) (script : Words) → AllByRecursion IsPart (part ∷ parts) → has (codes "among") script ≡ false → parts_of (pieces_of (part ∷ parts) (Some script)) ≡ Some (part ∷ parts, Some script)
@@ -168,17 +170,18 @@ fire_is words form e = by_test (has (codes "look") words) refl e
   where
     Fit : Form → Type 0
     Fit f = Fits (codes "fire" ∷ words) f
+
     by_test : (t : Bool) → has (codes "look") words ≡ t → (if t then option_and_then (λ sets. option_map (λ looks. Fire sets looks) (names_of (behind (codes "look") words))) (sets_of (before (codes "look") words)) else option_map (λ sets. Fire sets []) (sets_of words)) ≡ Some form → Fits (codes "fire" ∷ words) form
     by_test true t g =
         option_and_then_some (λ sets. option_map (λ looks. Fire sets looks) (names_of (behind (codes "look") words))) (sets_of (before (codes "look") words)) form g (λ sets first rest.
-          let m = map_some (λ looks. Fire sets looks) (names_of (behind (codes "look") words)) form rest in
-          let sides = two_sides (codes "look") words t in
-          let known = sets_are (before (codes "look") words) sets first in
-          let named = names_are (behind (codes "look") words) m.0 m.1 in
-          subst (λ f. Fits (codes "fire" ∷ words) f) m.2 (record {
-            same = ap (λ ws. codes "fire" ∷ ws) (sides.0 ∙ ap (λ ws. ws ++ codes "look" ∷ behind (codes "look") words) known.0 ∙ ap (λ ws. separated (codes ",") (map spelled_set sets) ++ codes "look" ∷ ws) named.0 ∙ ap (λ ws. separated (codes ",") (map spelled_set sets) ++ ws) (sym (looks_some m.0 (names_some (behind (codes "look") words) m.0 m.1))));
-            proper = (omega (arith, each_some _ (cut (codes ",") (before (codes "look") words)) sets first, cut_some (codes ",") (before (codes "look") words)), known.1, named.1);
-          }))
+        let m = map_some (λ looks. Fire sets looks) (names_of (behind (codes "look") words)) form rest in
+        let sides = two_sides (codes "look") words t in
+        let known = sets_are (before (codes "look") words) sets first in
+        let named = names_are (behind (codes "look") words) m.0 m.1 in
+        subst (λ f. Fits (codes "fire" ∷ words) f) m.2 (record {
+          same = ap (λ ws. codes "fire" ∷ ws) (sides.0 ∙ ap (λ ws. ws ++ codes "look" ∷ behind (codes "look") words) known.0 ∙ ap (λ ws. separated (codes ",") (map spelled_set sets) ++ codes "look" ∷ ws) named.0 ∙ ap (λ ws. separated (codes ",") (map spelled_set sets) ++ ws) (sym (looks_some m.0 (names_some (behind (codes "look") words) m.0 m.1))));
+          proper = (omega (arith, each_some _ (cut (codes ",") (before (codes "look") words)) sets first, cut_some (codes ",") (before (codes "look") words)), known.1, named.1);
+        }))
     by_test false t g =
         let m = map_some (λ sets. Fire sets []) (sets_of words) form g in
         let known = sets_are words m.0 m.1 in
@@ -205,13 +208,13 @@ fits_by keyword.Fold words form e = option_and_then_some fold_by (head_of words)
     subst (λ f. Fits (codes "fold" ∷ words) f) c.1 (record { same = ap (λ ws. codes "fold" ∷ ws) (known.0 ∙ ap (λ ws. head.0 ∷ codes "=" ∷ ws) sides.0); proper = (known.1, t.1) }))
 fits_by keyword.Choose words form e = option_and_then_some choose_by (head_of words) form e (λ head first rest.
     option_and_then_some (λ found. choose_of head.0 found.0 found.1) (parts_of (cut (codes ":") head.1)) form rest (λ found split made.
-      let known = head_is words head first in
-      let parts = parts_are (cut (codes ":") head.1) found (cut_whole (codes ":") head.1) split in
-      let chosen = choose_is head.0 found.0 found.1 form parts.2 made in
-      subst (λ f. Fits (codes "choose" ∷ words) f) chosen.0 (record {
-        same = ap (λ ws. codes "choose" ∷ ws) (known.0 ∙ ap (λ ws. head.0 ∷ codes "=" ∷ ws) (sym (separated_cut (codes ":") head.1) ∙ ap (separated (codes ":")) parts.0));
-        proper = (known.1, chosen.1, parts.1, chosen.2);
-      })))
+    let known = head_is words head first in
+    let parts = parts_are (cut (codes ":") head.1) found (cut_whole (codes ":") head.1) split in
+    let chosen = choose_is head.0 found.0 found.1 form parts.2 made in
+    subst (λ f. Fits (codes "choose" ∷ words) f) chosen.0 (record {
+      same = ap (λ ws. codes "choose" ∷ ws) (known.0 ∙ ap (λ ws. head.0 ∷ codes "=" ∷ ws) (sym (separated_cut (codes ":") head.1) ∙ ap (separated (codes ":")) parts.0));
+      proper = (known.1, chosen.1, parts.1, chosen.2);
+    })))
 fits_by keyword.Thread [] form e = subst (λ f. Fits (codes "thread" ∷ []) f) (same_Some Thread form e) (record { same = refl; proper = tt })
 fits_by keyword.Thread (word ∷ words) form e = absurd (none-some form e)
 fits_by keyword.Fire words form e = fire_is words form e

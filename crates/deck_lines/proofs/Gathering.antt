@@ -1,10 +1,10 @@
 -- One more selector.
-use Rattle.std.proofs.Common.{◌≡◌, ℕ, ◌+◌, ◌<◌, ◌≤◌, Bool, true, false, List, [], ◌∷◌, ◌++◌, length, refl, sym, ap, ◌∙◌, arith, subst, inl, inr, ◌⊎◌, length-append}
-use Rattle.std.specs.Prelude.{min, map, ◌||◌, nat_lt, if◌then◌else◌, codes, Option, Some, None, Err}
+use Rattle.std.proofs.Common.{◌≡◌, ℕ, ◌+◌, ◌<◌, ◌≤◌, Bool, true, false, List, [], ◌∷◌, ◌++◌, length, refl, sym, ap, ◌∙◌, arith, subst, inl, inr, length-append}
+use Rattle.std.specs.Prelude.{min, map, ◌||◌, nat_lt, if◌then◌else◌, codes, Some, None, Err}
 use Rattle.std.specs.Option.{option_map}
 use Rattle.std.specs.List.{AllByRecursion, AllZip}
 use Rattle.std.proofs.lemmas.Bool.Decides.{nat_tests}
-use Rattle.script_tree.specs.declared.limits.TheConstants.{INPUTS, CANDIDATES, SELECTORS}
+use Rattle.script_tree.specs.declared.limits.TheConstants.{CANDIDATES, SELECTORS}
 use Rattle.script_tree.specs.Scripts.{Scripted, HasNoPicks, HasNoAcc}
 use Rattle.expr_script.specs.declared.atoms.Atoms.TheVariants as atoms
 use Rattle.expr_script.specs.Spelled.{SpellsScript, SpellsTooMany}
@@ -121,38 +121,38 @@ pub record Counts (candidates : List (List ℕ)) (old new : Selectors) : Type 0 
 pub gathers_script : (forms : List PartForm) (form : PartForm) (candidates : List (List ℕ)) (script : Scripted) (old new : Selectors) → Gathers forms old → Counts candidates old new → new.deep ≡ old.deep → new.many ≡ old.many → new.within.items ≡ old.within.items ++ (script, candidates) ∷ []
     → SpellsScript false form.0 script → form.1 ≡ candidates → 1 ≤ length candidates → HasNoAcc script → HasNoPicks script → Gathers (forms ++ form ∷ []) new
 gathers_script forms form candidates script old new g c d m w s same some a p = record {
-    count = count_by forms form old.count new.count g.count c.count;
-    scripts = subst (λ (l : List Part). Scripting (forms ++ form ∷ []) new.deep new.many l) (sym w)
+  count = count_by forms form old.count new.count g.count c.count;
+  scripts = subst (λ (l : List Part). Scripting (forms ++ form ∷ []) new.deep new.many l) (sym w)
       (subst (λ (b : Bool). Scripting (forms ++ form ∷ []) b new.many (old.within.items ++ (script, candidates) ∷ [])) (sym d)
       (subst (λ (b : Bool). Scripting (forms ++ form ∷ []) old.deep b (old.within.items ++ (script, candidates) ∷ [])) (sym m)
       (with_script forms old.deep old.many old.within.items form (script, candidates) g.scripts (s, same))));
-    crowd = crowd_on forms form old.crowded new.crowded candidates same g.crowd c.crowded;
-    sound = subst (AllByRecursion IsSound) (sym w) (all_end IsSound old.within.items (script, candidates) g.sound (record { some = some; no_acc = a; no_picks = p }));
-  }
+  crowd = crowd_on forms form old.crowded new.crowded candidates same g.crowd c.crowded;
+  sound = subst (AllByRecursion IsSound) (sym w) (all_end IsSound old.within.items (script, candidates) g.sound (record { some = some; no_acc = a; no_picks = p }));
+}
 
 pub gathers_deep : (forms : List PartForm) (form : PartForm) (candidates : List (List ℕ)) (old new : Selectors) → Gathers forms old → Counts candidates old new → new.deep ≡ true → new.many ≡ old.many → new.within.items ≡ old.within.items
     → IsTooDeep (selector_script form) → form.1 ≡ candidates → Gathers (forms ++ form ∷ []) new
 gathers_deep forms form candidates old new g c d m w s same = record {
-    count = count_by forms form old.count new.count g.count c.count;
-    scripts = subst (λ (l : List Part). Scripting (forms ++ form ∷ []) new.deep new.many l) (sym w)
+  count = count_by forms form old.count new.count g.count c.count;
+  scripts = subst (λ (l : List Part). Scripting (forms ++ form ∷ []) new.deep new.many l) (sym w)
       (subst (λ (b : Bool). Scripting (forms ++ form ∷ []) b new.many old.within.items) (sym d)
       (subst (λ (b : Bool). Scripting (forms ++ form ∷ []) true b old.within.items) (sym m)
       (with_deep forms old.deep old.many old.within.items form g.scripts s)));
-    crowd = crowd_on forms form old.crowded new.crowded candidates same g.crowd c.crowded;
-    sound = subst (AllByRecursion IsSound) (sym w) g.sound;
-  }
+  crowd = crowd_on forms form old.crowded new.crowded candidates same g.crowd c.crowded;
+  sound = subst (AllByRecursion IsSound) (sym w) g.sound;
+}
 
 pub gathers_many : (forms : List PartForm) (form : PartForm) (candidates : List (List ℕ)) (old new : Selectors) → Gathers forms old → Counts candidates old new → new.deep ≡ old.deep → new.many ≡ true → new.within.items ≡ old.within.items
     → SpellsTooMany (atoms.Script false) form.0 → form.1 ≡ candidates → Gathers (forms ++ form ∷ []) new
 gathers_many forms form candidates old new g c d m w s same = record {
-    count = count_by forms form old.count new.count g.count c.count;
-    scripts = subst (λ (l : List Part). Scripting (forms ++ form ∷ []) new.deep new.many l) (sym w)
+  count = count_by forms form old.count new.count g.count c.count;
+  scripts = subst (λ (l : List Part). Scripting (forms ++ form ∷ []) new.deep new.many l) (sym w)
       (subst (λ (b : Bool). Scripting (forms ++ form ∷ []) b new.many old.within.items) (sym d)
       (subst (λ (b : Bool). Scripting (forms ++ form ∷ []) old.deep b old.within.items) (sym m)
       (with_many forms old.deep old.many old.within.items form g.scripts s)));
-    crowd = crowd_on forms form old.crowded new.crowded candidates same g.crowd c.crowded;
-    sound = subst (AllByRecursion IsSound) (sym w) g.sound;
-  }
+  crowd = crowd_on forms form old.crowded new.crowded candidates same g.crowd c.crowded;
+  sound = subst (AllByRecursion IsSound) (sym w) g.sound;
+}
 
 -- a script that goes beyond a limit other than that of depth has too many names
 pub many_unless_deep : (job : Job) (limit : Limit) → (limit ≡ Levels → ⊥) → IsScriptOf job.0 job.1 (Err (TooMany limit)) → SpellsTooMany job.0 job.1

@@ -1,16 +1,12 @@
 -- Reading the parts of a line one after the other.
-use Rattle.std.proofs.Common.{◌≡◌, ℕ, Bool, true, false, List, [], ◌∷◌, ◌++◌, refl, sym, ap, ◌∙◌, arith, append_assoc}
-use Rattle.std.specs.Prelude.{◌&&◌, map, codes, Option, Some, None, if◌then◌else◌}
+use Rattle.std.proofs.Common.{◌≡◌, ℕ, true, false, List, [], ◌∷◌, ◌++◌, refl, sym, ap, ◌∙◌, append_assoc}
+use Rattle.std.specs.Prelude.{Option, Some, None}
 use Rattle.std.specs.Option.{option_map, option_and_then}
-use Rattle.std.specs.Str.{bytes_eq}
-use Rattle.script_tree.specs.Names.{is_name}
-use Rattle.script_tree.specs.declared.value.Value.{Value}
 use Rattle.expr_script.specs.declared.pieces.Piece.{Piece}
 use Rattle.expr_script.specs.Pieces.{words_among, bytes_of}
 use Rattle.deck_lines.specs.Forms.{Words}
 use Rattle.deck_lines.specs.Cuts.{has, before, behind}
-use Rattle.deck_lines.specs.Values.{one_word, below_zero, value_of}
-use Rattle.deck_lines.specs.Reading.{cut, each, name_of, head_of}
+use Rattle.deck_lines.specs.Reading.{cut, each}
 use Rattle.deck_lines.proofs.Cutting.{two_sides, cut_sign, cut_none}
 
 -- words are what is done, and then what the rest is
@@ -32,12 +28,14 @@ pub going_starts : {B : Type 0} (sign : List ℕ) (f : Words → Option B) (word
 going_starts sign f words = record { so_far = nothing_done (each f (cut sign words)) }
 
 pub goes_on : {B : Type 0} (sign : List ℕ) (f : Words → Option B) (words : Words) (done : List B) (rest first after : Words) (y : B) → Going sign f words done rest → has sign rest ≡ true → first ≡ before sign rest → after ≡ behind sign rest → f first ≡ Some y → Going sign f words (done ++ y ∷ []) after
-goes_on sign f words done rest first after y g h b a e = record { so_far =
-    g.so_far
-    ∙ ap (λ c. option_map (λ ys. done ++ ys) (each f c)) (cut_first sign rest h)
-    ∙ ap (λ o. option_map (λ ys. done ++ ys) (option_and_then (λ z. option_map (λ ys. z ∷ ys) (each f (cut sign (behind sign rest)))) o)) (ap f (sym b) ∙ e)
-    ∙ behind_done done y (each f (cut sign (behind sign rest)))
-    ∙ ap (λ ws. option_map (λ ys. (done ++ y ∷ []) ++ ys) (each f (cut sign ws))) (sym a) }
+goes_on sign f words done rest first after y g h b a e = record {
+  so_far =
+      g.so_far
+      ∙ ap (λ c. option_map (λ ys. done ++ ys) (each f c)) (cut_first sign rest h)
+      ∙ ap (λ o. option_map (λ ys. done ++ ys) (option_and_then (λ z. option_map (λ ys. z ∷ ys) (each f (cut sign (behind sign rest)))) o)) (ap f (sym b) ∙ e)
+      ∙ behind_done done y (each f (cut sign (behind sign rest)))
+      ∙ ap (λ ws. option_map (λ ys. (done ++ y ∷ []) ++ ys) (each f (cut sign ws))) (sym a);
+}
 
 pub goes_wrong : {B : Type 0} (sign : List ℕ) (f : Words → Option B) (words : Words) (done : List B) (rest first : Words) → Going sign f words done rest → has sign rest ≡ true → first ≡ before sign rest → f first ≡ None → each f (cut sign words) ≡ None
 goes_wrong sign f words done rest first g h b e =

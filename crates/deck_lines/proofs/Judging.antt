@@ -1,24 +1,21 @@
 -- Which limit a choose goes beyond.
-use Rattle.std.proofs.Common.{◌≡◌, ℕ, ◌+◌, ◌<◌, ◌≤◌, Bool, true, false, List, [], ◌∷◌, ◌++◌, length, refl, sym, ap, ◌∙◌, arith, subst, inl, inr, ◌⊎◌, length-append}
-use Rattle.std.specs.Prelude.{min, map, codes, Option, Some, None, Result, Ok, Err}
+use Rattle.std.proofs.Common.{◌≡◌, ℕ, ◌<◌, ◌≤◌, Bool, true, false, List, [], ◌∷◌, ◌++◌, length, refl, ap, ◌∙◌, arith, subst, inl, inr}
+use Rattle.std.specs.Prelude.{min, map, Option, Some, None, Ok}
 use Rattle.std.specs.List.{AllByRecursion, AllZip}
 use Rattle.script_tree.specs.declared.limits.TheConstants.{INPUTS, CANDIDATES, SELECTORS}
 use Rattle.script_tree.specs.Scripts.{Scripted}
-use Rattle.expr_script.specs.declared.atoms.Atoms.TheVariants as atoms
-use Rattle.expr_script.specs.Spelled.{SpellsBody}
-use Rattle.expr_script.specs.Tokens.{script_names, names}
+use Rattle.expr_script.specs.Tokens.{script_names}
 use Rattle.signal_graph.specs.declared.builder.DeclKind.TheVariants as kind
 use Rattle.signal_graph.specs.Declarations as declarations
 use Rattle.signal_graph.specs.Declarations.{Part, IsPart, AreParts, different_names}
 use Rattle.signal_graph.specs.Graph.{BodyFits}
-use Rattle.deck_lines.specs.declared.fault.Limit.TheVariants.{Levels, Inputs, Candidates, Selectors as Selecting, Sets, Looks}
+use Rattle.deck_lines.specs.declared.fault.Limit.TheVariants.{Levels, Inputs, Candidates, Selectors as Selecting}
 use Rattle.deck_lines.specs.declared.line.Line.TheVariants.{Declares}
-use Rattle.deck_lines.specs.declared.selectors.Selectors.{Selectors}
-use Rattle.deck_lines.specs.Forms.{Words, PartForm, Form, Choose}
-use Rattle.deck_lines.specs.Limits.{Job, selector_script, body_script, scripts_of, IsTooDeep, IsShallow, One, all_names, together, Keeps, IsBeyond, limits, earlier}
+use Rattle.deck_lines.specs.Forms.{Words, PartForm, Choose}
+use Rattle.deck_lines.specs.Limits.{selector_script, body_script, scripts_of, IsTooDeep, IsShallow, all_names, Keeps, IsBeyond}
 use Rattle.deck_lines.specs.Lines.{IsReadAs, SaysPart, SaysBody}
-use Rattle.deck_lines.specs.Selectors.{IsScript, HasMany, HasFew, IsCrowded, HasRoom, Scripting, Crowding, IsSound, Gathers}
-use Rattle.deck_lines.proofs.Gathering.{one_before, one_behind, all_shallow, scripts_are}
+use Rattle.deck_lines.specs.Selectors.{IsScript, HasMany, HasFew, HasRoom, Scripting, Crowding, IsSound}
+use Rattle.deck_lines.proofs.Gathering.{one_before, all_shallow, scripts_are}
 
 pub all_both : {A : Type 0} (P : A → Type 0) (xs ys : List A) → AllByRecursion P xs → AllByRecursion P ys → AllByRecursion P (xs ++ ys)
 all_both P [] ys p q = q
@@ -49,10 +46,10 @@ same_names (f ∷ forms) (q ∷ parts) z = ap (λ ns. ns ++ declarations.script_
 
 pub too_deep : (name : List ℕ) (forms : List PartForm) (words : Option Words) (over : Option Scripted) (many : Bool) (parts : List Part) → Scripting forms true many parts → SaysBody (length forms) words over → IsBeyond (Choose name forms words) Levels
 too_deep name forms words over many parts s b = record {
-    scripts = all_both IsScript (map selector_script forms) (body_script (length forms) words) s.0 (scripts_are (body_script (length forms) words) (body_shallow (length forms) words over b));
-    beyond = one_before IsTooDeep (map selector_script forms) (body_script (length forms) words) s.1;
-    before = tt;
-  }
+  scripts = all_both IsScript (map selector_script forms) (body_script (length forms) words) s.0 (scripts_are (body_script (length forms) words) (body_shallow (length forms) words over b));
+  beyond = one_before IsTooDeep (map selector_script forms) (body_script (length forms) words) s.1;
+  before = tt;
+}
 
 shallow_all : (name : List ℕ) (forms : List PartForm) (words : Option Words) (over : Option Scripted) → AllByRecursion IsShallow (map selector_script forms) → SaysBody (length forms) words over → Keeps (Choose name forms words) Levels
 shallow_all name forms words over s b = all_both IsShallow (map selector_script forms) (body_script (length forms) words) s (body_shallow (length forms) words over b)
@@ -76,9 +73,10 @@ many_together name forms words over parts n z b e h =
     }
 
 few_inputs : (name : List ℕ) (forms : List PartForm) (words : Option Words) (parts : List Part) (n : ℕ) → AllZip SaysPart forms parts → n ≡ length (different_names (declarations.script_names parts)) → n ≤ INPUTS → Keeps (Choose name forms words) Inputs
-few_inputs name forms words parts n z e h =
-    (all_both HasFew (map selector_script forms) (body_script (length forms) words) (few_names forms parts z) (body_few (length forms) words),
-    subst (λ (k : ℕ). k ≤ INPUTS) (e ∙ ap (λ ns. length (different_names ns)) (same_names forms parts z)) h)
+few_inputs name forms words parts n z e h = (
+  all_both HasFew (map selector_script forms) (body_script (length forms) words) (few_names forms parts z) (body_few (length forms) words),
+  subst (λ (k : ℕ). k ≤ INPUTS) (e ∙ ap (λ ns. length (different_names ns)) (same_names forms parts z)) h,
+)
 
 pub too_crowded : (name : List ℕ) (forms : List PartForm) (words : Option Words) (over : Option Scripted) (parts : List Part) (n : ℕ) → AllZip SaysPart forms parts → SaysBody (length forms) words over → n ≡ length (different_names (declarations.script_names parts)) → n ≤ INPUTS → Crowding forms true → IsBeyond (Choose name forms words) Candidates
 too_crowded name forms words over parts n z b e h c =
@@ -99,9 +97,10 @@ too_long name forms words over parts n count z b e h c k l =
     }
 
 pub chosen : (name : List ℕ) (forms : List PartForm) (words : Option Words) (over : Option Scripted) (parts : List Part) (n count : ℕ) → AllZip SaysPart forms parts → SaysBody (length forms) words over → n ≡ length (different_names (declarations.script_names parts)) → n ≤ INPUTS → Crowding forms false → count ≡ min (length forms) 5 → count ≤ SELECTORS → IsReadAs (Choose name forms words) (Ok (Declares name (kind.Choose parts over)))
-chosen name forms words over parts n count z b e h c k l =
-    ((parts, over, z, b, refl),
-    (shallow_all name forms words over (all_shallow forms parts z) b, (few_inputs name forms words parts n z e h, (c, (omega (arith, k, l), (omega arith, (omega arith, tt)))))))
+chosen name forms words over parts n count z b e h c k l = (
+  (parts, over, z, b, refl),
+  (shallow_all name forms words over (all_shallow forms parts z) b, (few_inputs name forms words parts n z e h, (c, (omega (arith, k, l), (omega arith, (omega arith, tt)))))),
+)
 
 room_of : (forms : List PartForm) (parts : List Part) → AllZip SaysPart forms parts → AllByRecursion HasRoom forms → AllByRecursion IsSound parts → AllByRecursion IsPart parts
 room_of [] [] z c s = tt

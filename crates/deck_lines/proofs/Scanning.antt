@@ -1,12 +1,11 @@
 -- Going over pieces until one is a word.
 use Rattle.std.proofs.Common.{◌≡◌, ℕ, ◌+◌, ◌<◌, ◌≤◌, true, false, List, [], ◌∷◌, ◌++◌, length, take, drop, get_or, refl, sym, ap, ◌∙◌, arith, drop-cons, add-one, append_assoc, append-nil}
 use Rattle.std.proofs.Math.ListN.{drop_of_length-le}
-use Rattle.std.specs.Prelude.{map, if◌then◌else◌, ◌||◌}
+use Rattle.std.specs.Prelude.{if◌then◌else◌, ◌||◌}
 use Rattle.std.specs.Str.{bytes_eq}
 use Rattle.std.proofs.lemmas.Grind.{common_steps}
 use Rattle.expr_script.specs.declared.pieces.Piece.{Piece}
 use Rattle.expr_script.specs.Pieces.{words_among, bytes_of}
-use Rattle.deck_lines.specs.Forms.{Words}
 use Rattle.deck_lines.specs.Cuts.{has, before, behind}
 
 -- no piece before a place is the word
@@ -40,10 +39,10 @@ not_here word text pieces at d p h e f n =
     let cut_here = ap (words_among text) (drop_at pieces at d p h e) in
     record {
       before_it = n.before_it
-        ∙ ap (λ ws. words_among text (take at pieces) ++ before word ws) cut_here
-        ∙ ap (λ t. words_among text (take at pieces) ++ (if t then [] else w ∷ before word rest)) f
-        ∙ sym (append_assoc (words_among text (take at pieces)) (w ∷ []) (before word rest))
-        ∙ ap (λ ws. ws ++ before word rest) (sym (words_append text (take at pieces) (p ∷ [])) ∙ ap (words_among text) (sym (take_more pieces at d p h e)));
+          ∙ ap (λ ws. words_among text (take at pieces) ++ before word ws) cut_here
+          ∙ ap (λ t. words_among text (take at pieces) ++ (if t then [] else w ∷ before word rest)) f
+          ∙ sym (append_assoc (words_among text (take at pieces)) (w ∷ []) (before word rest))
+          ∙ ap (λ ws. ws ++ before word rest) (sym (words_append text (take at pieces) (p ∷ [])) ∙ ap (words_among text) (sym (take_more pieces at d p h e)));
       behind_it = n.behind_it ∙ ap (behind word) cut_here ∙ ap (λ t. if t then rest else behind word rest) f;
       has_it = n.has_it ∙ ap (has word) cut_here ∙ ap (λ t. t || has word rest) f;
     }

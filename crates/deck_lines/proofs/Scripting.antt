@@ -1,11 +1,10 @@
 -- From the answer of a script to that of its line.
-use Rattle.std.proofs.Common.{◌≡◌, ℕ, List, sym, subst}
-use Rattle.std.specs.Prelude.{Result, Ok, Err}
-use Rattle.script_tree.specs.Scripts.{Scripted}
+use Rattle.std.proofs.Common.{◌≡◌, ℕ, sym, subst}
+use Rattle.std.specs.Prelude.{Err}
 use Rattle.expr_script.specs.declared.atoms.Atoms.{Atoms}
 use Rattle.expr_script.specs.declared.faults.ScriptFault.{ScriptFault}
 use Rattle.expr_script.specs.declared.faults.ScriptFault.TheVariants as script
-use Rattle.expr_script.specs.Spelled.{SpellsWith, IsFault, IsAnswer}
+use Rattle.expr_script.specs.Spelled.{IsFault}
 use Rattle.deck_lines.specs.declared.fault.LineFault.{LineFault}
 use Rattle.deck_lines.specs.Forms.{Words}
 use Rattle.deck_lines.specs.Scripts.{line_fault, IsScriptOf}

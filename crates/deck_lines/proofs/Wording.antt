@@ -1,16 +1,16 @@
 -- Names, values and lists of them among words.
-use Rattle.std.proofs.Common.{◌≡◌, ℕ, Bool, true, false, List, [], ◌∷◌, ◌++◌, refl, sym, ap, ◌∙◌, arith, subst}
-use Rattle.std.specs.Prelude.{◌||◌, ◌&&◌, ◌≤◌, length, map, codes, IsTrue, Option, Some, None, IsSome, if◌then◌else◌}
+use Rattle.std.proofs.Common.{◌≡◌, ℕ, Bool, true, false, List, [], ◌∷◌, refl, sym, ap, ◌∙◌, arith, subst}
+use Rattle.std.specs.Prelude.{◌&&◌, ◌≤◌, length, map, codes, IsTrue, Option, Some, None, IsSome, if◌then◌else◌}
 use Rattle.std.specs.Option.{option_map, option_and_then, is_some}
 use Rattle.std.specs.List.{AllByRecursion}
 use Rattle.std.specs.Str.{bytes_eq}
 use Rattle.std.proofs.lemmas.Option.{none-some, same_Some, cond_some, option_and_then_some}
 use Rattle.script_tree.specs.Names.{is_name}
-use Rattle.deck_lines.specs.Forms.{Words, SetForm, PartForm, IsName, IsValue, IsSet, IsPart, one_each, with_commas, spelled_set, spelled_part}
-use Rattle.deck_lines.specs.Cuts.{has, before, behind, separated}
+use Rattle.deck_lines.specs.Forms.{Words, SetForm, IsName, IsValue, IsSet, with_commas, spelled_set}
+use Rattle.deck_lines.specs.Cuts.{has, separated}
 use Rattle.deck_lines.specs.Values.{one_word, below_zero, value_of}
-use Rattle.deck_lines.specs.Reading.{cut, each, name_of, names_of, head_of, set_by, set_of, sets_of, part_of}
-use Rattle.deck_lines.proofs.Cutting.{same_word, word_is, or_no, no_or, has_none, before_sign, behind_sign, has_sign, two_sides, cut_separated, separated_cut}
+use Rattle.deck_lines.specs.Reading.{cut, each, name_of, names_of, head_of, set_by, set_of, sets_of}
+use Rattle.deck_lines.proofs.Cutting.{same_word, no_or, cut_separated, separated_cut}
 
 pub no_yes : false ≡ true → ⊥
 no_yes e = cc
@@ -85,11 +85,11 @@ each_is f g P h [] [] e = (refl, tt)
 each_is f g P h [] (y ∷ ys) e = let s = same_Some [] (y ∷ ys) e in absurd (grind (arith, ap length s))
 each_is {A} {B} f g P h (x ∷ xs) ys e =
     option_and_then_some (λ y. option_map (λ zs. y ∷ zs) (each f xs)) (f x) ys e (λ y first rest.
-      let more = map_some (λ zs. y ∷ zs) (each f xs) ys rest in
-      let known = h x y first in
-      let others = each_is f g P h xs more.0 more.1 in
-      subst (λ (zs : List B). (x ∷ xs ≡ map g zs) × AllByRecursion P zs) more.2
-      (ap (λ a. a ∷ xs) known.0 ∙ ap (λ l. g y ∷ l) others.0, (known.1, others.1)))
+    let more = map_some (λ zs. y ∷ zs) (each f xs) ys rest in
+    let known = h x y first in
+    let others = each_is f g P h xs more.0 more.1 in
+    subst (λ (zs : List B). (x ∷ xs ≡ map g zs) × AllByRecursion P zs) more.2
+    (ap (λ a. a ∷ xs) known.0 ∙ ap (λ l. g y ∷ l) others.0, (known.1, others.1)))
 
 pub each_of : {A B : Type 0} (f : A → Option B) (g : B → A) (P : B → Type 0) → ((y : B) → P y → f (g y) ≡ Some y) → (ys : List B) → AllByRecursion P ys → each f (map g ys) ≡ Some ys
 each_of f g P h [] all = refl
@@ -135,9 +135,9 @@ each_some f [] [] e = refl
 each_some f [] (y ∷ ys) e = let s = same_Some [] (y ∷ ys) e in absurd (grind (arith, ap length s))
 each_some {A} {B} f (x ∷ xs) ys e =
     option_and_then_some (λ y. option_map (λ zs. y ∷ zs) (each f xs)) (f x) ys e (λ y first rest.
-      let more = map_some (λ zs. y ∷ zs) (each f xs) ys rest in
-      let others = each_some f xs more.0 more.1 in
-      subst (λ (zs : List B). length zs ≡ length (x ∷ xs)) more.2 (omega (arith, others)))
+    let more = map_some (λ zs. y ∷ zs) (each f xs) ys rest in
+    let others = each_some f xs more.0 more.1 in
+    subst (λ (zs : List B). length zs ≡ length (x ∷ xs)) more.2 (omega (arith, others)))
 
 -- the name of a declaration or a set, and `=`
 pub head_is : (words : Words) (head : List ℕ × Words) → head_of words ≡ Some head → (words ≡ head.0 ∷ codes "=" ∷ head.1) × IsName head.0

@@ -1,7 +1,6 @@
 -- What a line says, by its words.
-use Rattle.std.specs.Prelude.{◌≡◌, ℕ, ◌≤◌, min, false, true, List, length, Option, Some, None, Result, Ok, Err}
-use Rattle.std.specs.Option.{option_map}
-use Rattle.std.specs.List.{All, AllByRecursion, AllZip}
+use Rattle.std.specs.Prelude.{◌≡◌, ℕ, min, false, true, List, length, Option, Some, None, Result, Ok, Err}
+use Rattle.std.specs.List.{AllByRecursion, AllZip}
 use Rattle.script_tree.specs.declared.limits.TheConstants.{SELECTORS}
 use Rattle.script_tree.specs.declared.value.Value.{Value}
 use Rattle.script_tree.specs.Scripts.{Scripted}

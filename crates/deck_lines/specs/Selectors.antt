@@ -1,17 +1,16 @@
 -- The selectors of a line while they are gathered.
-use Rattle.std.specs.Prelude.{◌≡◌, ℕ, ◌<◌, ◌≤◌, min, Bool, true, false, ◌⊎◌, List, ◌∷◌, ◌++◌, [], length, map, Option, Some, None, Result, Ok, Err}
+use Rattle.std.specs.Prelude.{◌≡◌, ◌<◌, ◌≤◌, min, Bool, true, false, ◌⊎◌, List, ◌∷◌, ◌++◌, [], length, map, Option, Some, None, Result, Ok, Err}
 use Rattle.std.specs.List.{AllByRecursion, AllZip}
-use Rattle.script_tree.specs.declared.limits.TheConstants.{INPUTS, CANDIDATES, SELECTORS}
-use Rattle.script_tree.specs.Scripts.{Scripted, HasNoPicks, HasNoAcc, IsBody}
+use Rattle.script_tree.specs.declared.limits.TheConstants.{INPUTS, CANDIDATES}
+use Rattle.script_tree.specs.Scripts.{HasNoPicks, HasNoAcc}
 use Rattle.expr_script.specs.Tokens.{names}
 use Rattle.signal_graph.specs.Declarations.{Part}
-use Rattle.signal_graph.specs.Graph.{BodyFits}
 use Rattle.deck_lines.specs.declared.fault.LineFault.{LineFault}
 use Rattle.deck_lines.specs.declared.fault.LineFault.TheVariants.{Syntax, TooMany, Memory}
 use Rattle.deck_lines.specs.declared.selectors.Selectors.{Selectors}
-use Rattle.deck_lines.specs.Forms.{Words, PartForm, Form, Choose}
+use Rattle.deck_lines.specs.Forms.{PartForm}
 use Rattle.deck_lines.specs.Limits.{Job, selector_script, IsWrong, IsTooDeep, IsShallow, One}
-use Rattle.deck_lines.specs.Lines.{SaysPart, SaysBody}
+use Rattle.deck_lines.specs.Lines.{SaysPart}
 
 -- a script is one, too deep or not
 abbrev pub IsScript : Job → Type 0

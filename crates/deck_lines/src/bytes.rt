@@ -26,4 +26,3 @@ pub fn cut_at(text: &[u8], byte: u8) -> Option<(&[u8], &[u8])>
     }
     Some((&text[..at], &text[at + 1..]))
 }
-

@@ -60,10 +60,7 @@ fn judge(
         crowded: _,
         within,
     } = selectors;
-    Ok(Line::Declares(
-        name,
-        DeclKind::Choose(Items::from_vec(within), over),
-    ))
+    Ok(Line::Declares(name, DeclKind::Choose(Items::from_vec(within), over)))
 }
 
 // The one selector of a choose without a body.
@@ -136,12 +133,7 @@ fn last(
 }
 
 /// A choose with this name, from what stands behind its `=`.
-pub fn choose(
-    alloc: Global,
-    text: &[u8],
-    name: Name,
-    pieces: &[Piece],
-) -> Result<Line, LineFault>
+pub fn choose(alloc: Global, text: &[u8], name: Name, pieces: &[Piece]) -> Result<Line, LineFault>
     requires short { length text.now ≤ LINE_BYTES }
     requires within { Within text.now pieces.now }
     ensures read { IsRead (choose_by (name, words_among text.now pieces.now)) result }

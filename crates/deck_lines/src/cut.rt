@@ -4,6 +4,7 @@ ghost use Rattle.std.specs.Prelude.{◌≡◌, ◌+◌, ◌≤◌, [], ◌∷◌
 ghost use Rattle.std.specs.Str.{bytes_eq};
 ghost use Rattle.expr_script.specs.Pieces.{words_among, bytes_of};
 ghost use Rattle.deck_lines.specs.Cuts.{has, before, behind, Within};
+
 use expr_script::pieces::Piece;
 
 /// Whether a piece is this word or sign.
@@ -16,11 +17,7 @@ pub fn is_word(text: &[u8], piece: Piece, word: &[u8]) -> bool
 
 /// The pieces before the first that is this word and those behind it, or none where no piece is.
 #[tactic(auto, using(crate::proofs::Scanning::scan_laws))]
-pub fn cut<'a>(
-    text: &[u8],
-    pieces: &'a [Piece],
-    word: &[u8],
-) -> Option<(&'a [Piece], &'a [Piece])>
+pub fn cut<'a>(text: &[u8], pieces: &'a [Piece], word: &[u8]) -> Option<(&'a [Piece], &'a [Piece])>
     requires { Within text.now pieces.now }
     ensures some { IfSome result (λ _. has word.now (words_among text.now pieces.now) ≡ true) }
     ensures before { IfSome result (λ p. words_among text.now p.0.now ≡ before word.now (words_among text.now pieces.now)) }

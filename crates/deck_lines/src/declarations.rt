@@ -36,12 +36,7 @@ pub fn source(text: &[u8], name: Name, pieces: &[Piece]) -> Result<Line, LineFau
 }
 
 /// A signal with this name, from what stands behind its `=`.
-pub fn signal(
-    alloc: Global,
-    text: &[u8],
-    name: Name,
-    pieces: &[Piece],
-) -> Result<Line, LineFault>
+pub fn signal(alloc: Global, text: &[u8], name: Name, pieces: &[Piece]) -> Result<Line, LineFault>
     requires short { length text.now ≤ LINE_BYTES }
     requires within { Within text.now pieces.now }
     ensures read { IsReadAs (form.Signal name (words_among text.now pieces.now)) result }
@@ -74,12 +69,7 @@ fn fold_from(
 }
 
 /// A fold with this name, from what stands behind its `=`.
-pub fn fold(
-    alloc: Global,
-    text: &[u8],
-    name: Name,
-    pieces: &[Piece],
-) -> Result<Line, LineFault>
+pub fn fold(alloc: Global, text: &[u8], name: Name, pieces: &[Piece]) -> Result<Line, LineFault>
     requires short { length text.now ≤ LINE_BYTES }
     requires within { Within text.now pieces.now }
     ensures read { IsRead (fold_by (name, words_among text.now pieces.now)) result }

@@ -37,7 +37,10 @@ fn see(seen: &mut Vec<Name>, names: &[Name]) -> Result<(), AllocError>
 
 /// How many different names the scripts of selectors have.
 #[tactic(auto, using(crate::proofs::InputLaws::input_laws))]
-pub fn different_inputs(alloc: Global, selectors: &[(Script, NameList)]) -> Result<usize, AllocError>
+pub fn different_inputs(
+    alloc: Global,
+    selectors: &[(Script, NameList)],
+) -> Result<usize, AllocError>
     ensures { IfOk result (λ n. n ≡ length (different_names (script_names selectors.now))) }
 {
     let mut seen = Vec::new(alloc);

@@ -9,12 +9,15 @@ mod declarations;
 mod fault;
 mod inputs;
 mod keyword;
+pub mod laws;
 mod line;
 mod names;
 mod reading;
 mod said;
 mod scripts;
 mod selectors;
+#[cfg(test)]
+mod tests;
 mod value;
 
 pub use crate::fault::{Limit, LineFault};

@@ -5,6 +5,7 @@ ghost use Rattle.expr_script.specs.Pieces.{words_among};
 ghost use Rattle.deck_lines.specs.Cuts.{Within};
 ghost use Rattle.deck_lines.specs.Answers.{Reads};
 ghost use Rattle.deck_lines.specs.Reading.{name_of, names_of, head_of};
+
 use crate::cut::{cut, first, is_word};
 use crate::fault::LineFault;
 use expr_script::pieces::Piece;

@@ -76,12 +76,7 @@ fn thread(text: &[u8], pieces: &[Piece]) -> Result<Line, LineFault>
 }
 
 // A line, from what stands behind its first word.
-fn behind(
-    alloc: Global,
-    text: &[u8],
-    keyword: Keyword,
-    pieces: &[Piece],
-) -> Result<Line, LineFault>
+fn behind(alloc: Global, text: &[u8], keyword: Keyword, pieces: &[Piece]) -> Result<Line, LineFault>
     requires short { length text.now ≤ LINE_BYTES }
     requires within { Within text.now pieces.now }
     ensures read { IsRead (form_by keyword (words_among text.now pieces.now)) result }

@@ -26,12 +26,7 @@ fn fault_of(fault: ScriptFault) -> LineFault
 
 /// The script that pieces are, in which `acc` may stand or not.
 #[tactic(auto, using(crate::proofs::Scripting::script_laws))]
-pub fn script(
-    alloc: Global,
-    text: &[u8],
-    pieces: &[Piece],
-    acc: bool,
-) -> Result<Script, LineFault>
+pub fn script(alloc: Global, text: &[u8], pieces: &[Piece], acc: bool) -> Result<Script, LineFault>
     requires short { length text.now ≤ LINE_BYTES }
     requires within { Within text.now pieces.now }
     ensures read { IsScriptRead acc (words_among text.now pieces.now) result }
@@ -46,12 +41,7 @@ pub fn script(
 
 /// The body that pieces are, over so many picks.
 #[tactic(auto, using(crate::proofs::Scripting::script_laws))]
-pub fn body(
-    alloc: Global,
-    text: &[u8],
-    pieces: &[Piece],
-    picks: u32,
-) -> Result<Script, LineFault>
+pub fn body(alloc: Global, text: &[u8], pieces: &[Piece], picks: u32) -> Result<Script, LineFault>
     requires short { length text.now ≤ LINE_BYTES }
     requires within { Within text.now pieces.now }
     requires some { 1 ≤ picks }

@@ -8,12 +8,14 @@ ghost use Rattle.expr_script.specs.Words.{value};
 ghost use Rattle.expr_script.specs.Pieces.{words_among};
 ghost use Rattle.deck_lines.specs.Cuts.{Within};
 ghost use Rattle.deck_lines.specs.Values as values;
+
 use crate::cut::{first, is_word};
 use expr_script::pieces::Piece;
 use script_tree::value::Value;
 
 // The greatest number behind a minus, and its tenth.
 const MOST: u64 = 9_223_372_036_854_775_808;
+
 const TENTH: u64 = 922_337_203_685_477_580;
 
 fn all_digits(word: &[u8]) -> bool

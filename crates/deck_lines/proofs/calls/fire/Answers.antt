@@ -1,4 +1,4 @@
-use Rattle.std.proofs.Common.{List, ℕ, ◌≡◌, [], subst}
+use Rattle.std.proofs.Common.{List, ℕ, subst}
 use Rattle.std.specs.List.{AllZip}
 use Rattle.expr_script.specs.Pieces.{words_among}
 use Rattle.deck_lines.specs.Forms.{SetForm, Fire}

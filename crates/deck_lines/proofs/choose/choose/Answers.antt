@@ -14,7 +14,7 @@ loop-before-preserved c =
     record {
       within = c.in-Some.ensures.within.1;
       gathered = gathered_more (words_among text c.args.pieces.now) c.loop-before.selectors c.add.new.self (words_among text c.loop-before.rest.now) (words_among text c.in-Some.before.now) (words_among text c.in-Some.after.now)
-        c.loop-before.invariant.gathered c.in-Some.ensures.some c.in-Some.ensures.before c.in-Some.ensures.behind c.in_default-add.ensures;
+          c.loop-before.invariant.gathered c.in-Some.ensures.some c.in-Some.ensures.before c.in-Some.ensures.behind c.in_default-add.ensures;
     }
 
 pub returns-clause-read : goal.returns-clause-read

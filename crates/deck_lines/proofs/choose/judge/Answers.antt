@@ -1,4 +1,4 @@
-use Rattle.std.proofs.Common.{List, ℕ, ◌≡◌, true, false, length, sym, ap, ◌∙◌, subst}
+use Rattle.std.proofs.Common.{List, true, false, length, sym, ap, ◌∙◌, subst}
 use Rattle.std.specs.Prelude.{Ok}
 use Rattle.signal_graph.specs.declared.builder.DeclKind.TheVariants as kind
 use Rattle.signal_graph.specs.Declarations.{Part, AreParts, script_names, different_names}

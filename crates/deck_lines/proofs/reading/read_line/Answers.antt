@@ -1,6 +1,6 @@
 use Rattle.std.proofs.Common.{List, ℕ, ◌≡◌, ap, ◌∙◌, subst}
 use Rattle.std.specs.Prelude.{IfOk, IfErr}
-use Rattle.expr_script.specs.Pieces.{pieces, words_among, words}
+use Rattle.expr_script.specs.Pieces.{words_among, words}
 use Rattle.deck_lines.specs.Lines.{IsLine, IsLineFault}
 use Rattle.deck_lines.specs.Texts.{line_words}
 use Rattle.deck_lines.proofs.Finding.{is_line, is_fault}

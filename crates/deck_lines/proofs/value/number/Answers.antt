@@ -1,4 +1,4 @@
-use Rattle.std.proofs.Common.{◌+◌, ◌*◌, ◌<◌, ◌^◌, arith}
+use Rattle.std.proofs.Common.{◌^◌, arith}
 use Rattle.deck_lines.proofs.Numbers.{too_great}
 use Rattle.deck_lines.proofs.value.number.Goals as goal
 

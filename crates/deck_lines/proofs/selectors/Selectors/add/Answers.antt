@@ -1,4 +1,4 @@
-use Rattle.std.proofs.Common.{List, ℕ, refl, sym, subst}
+use Rattle.std.proofs.Common.{refl, sym, subst}
 use Rattle.std.specs.Prelude.{Option}
 use Rattle.expr_script.specs.Pieces.{words_among}
 use Rattle.deck_lines.specs.Forms.{PartForm}

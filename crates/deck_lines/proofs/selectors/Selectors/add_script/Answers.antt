@@ -1,4 +1,4 @@
-use Rattle.std.proofs.Common.{refl, ap, ◌∙◌, ◌++◌, ◌∷◌, []}
+use Rattle.std.proofs.Common.{ap, ◌∙◌, ◌++◌, ◌∷◌, []}
 use Rattle.deck_lines.proofs.Gathering.{gathers_script}
 use Rattle.deck_lines.proofs.selectors.Selectors.add_script.Goals as goal
 
