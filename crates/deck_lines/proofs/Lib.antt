@@ -14,3 +14,4 @@ pub mod Choosing
 pub mod CutLaws
 pub mod Texting
 pub mod Finding
+pub mod OneAnswer
