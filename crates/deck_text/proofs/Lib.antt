@@ -1,5 +1,3 @@
-pub mod CutLaws
 pub mod LineLaws
-pub mod InputLaws
 pub mod PrintLaws
 pub mod ThreadLaws

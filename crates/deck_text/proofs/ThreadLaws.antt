@@ -4,7 +4,8 @@ use Rattle.std.specs.List.{All}
 use Rattle.std.proofs.lemmas.List.Elements.{All-push}
 use Rattle.script_tree.specs.declared.limits.TheConstants.{THREADS}
 use Rattle.signal_graph.specs.declared.call.Call.{Call}
-use Rattle.deck_text.specs.Calls.{IsCall, IsThread, AreThreads}
+use Rattle.deck_lines.specs.Kept.{IsCall}
+use Rattle.deck_text.specs.Calls.{IsThread, AreThreads}
 
 -- the newest thread comes behind the others
 pub threads_kept : (threads : List (List Call)) (calls : List Call) → All IsThread threads → length threads < THREADS → All IsCall calls → length calls < 2 ^ 32 → AreThreads (threads ++ calls ∷ [])

@@ -1,10 +1,10 @@
 -- What a faulty line makes of its deck.
 use Rattle.std.specs.Prelude.{ℕ, ◌≤◌}
-use Rattle.expr_script.specs.declared.faults.ScriptFault.{ScriptFault}
-use Rattle.expr_script.specs.declared.faults.ScriptFault.TheVariants as script
 use Rattle.signal_graph.specs.declared.builder.GraphFault.{GraphFault}
 use Rattle.signal_graph.specs.declared.builder.GraphFault.TheVariants as graph
-use Rattle.deck_text.specs.declared.fault.What.TheVariants.{Nodes, Levels, Inputs}
+use Rattle.deck_lines.specs.declared.fault.Limit.{Limit}
+use Rattle.deck_lines.specs.declared.fault.Limit.TheVariants as limit
+use Rattle.deck_text.specs.declared.fault.What.TheVariants.{Nodes, Levels, Inputs, Candidates, Selectors, Sets, Looks}
 use Rattle.deck_text.specs.declared.fault.DeckFault.{DeckFault}
 use Rattle.deck_text.specs.declared.fault.DeckFault.TheVariants as fault
 use Rattle.deck_text.specs.declared.reason.Reason.{Reason}
@@ -29,12 +29,14 @@ NamesLine lines (fault.UnknownInput line) = (1 ≤ line) × (line ≤ lines)
 NamesLine lines fault.NoThread = Unit {0}
 NamesLine lines fault.Memory = Unit {0}
 
--- why a line is refused whose script is
-abbrev pub reason_of : ScriptFault → Reason
-reason_of (script.Syntax place) = Syntax
-reason_of (script.TooDeep place) = TooMany Levels
-reason_of script.TooManyInputs = TooMany Inputs
-reason_of script.Memory = Memory
+-- why a line is refused that goes beyond one of its own limits
+abbrev pub limit_reason : Limit → Reason
+limit_reason limit.Levels = TooMany Levels
+limit_reason limit.Inputs = TooMany Inputs
+limit_reason limit.Candidates = TooMany Candidates
+limit_reason limit.Selectors = TooMany Selectors
+limit_reason limit.Sets = TooMany Sets
+limit_reason limit.Looks = TooMany Looks
 
 -- why a line is refused whose declaration is
 abbrev pub declaration_reason : GraphFault → Reason

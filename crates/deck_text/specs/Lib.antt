@@ -1,9 +1,6 @@
 pub mod Calls
-pub mod Cuts
 pub mod Decks
 pub mod Faults
-pub mod Inputs
 pub mod Lines
 pub mod Printed
 pub mod Readers
-pub mod Selectors

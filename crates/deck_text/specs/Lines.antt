@@ -1,18 +1,11 @@
 -- The lines of a deck.
 use Rattle.std.specs.Prelude.{ℕ, ◌==◌, Bool, List, [], ◌∷◌, if◌then◌else◌}
-use Rattle.std.specs.List.{onto_first, before_first}
+use Rattle.std.specs.List.{onto_first}
 
 abbrev pub is_line_feed : ℕ → Bool
 is_line_feed b = b == 10
-
-abbrev pub is_hash : ℕ → Bool
-is_hash b = b == 35
 
 -- the lines of a text, each without its line feed: a line ends with one or with the text, and after a last one there is none
 abbrev pub lines : List ℕ → List (List ℕ)
 lines [] = []
 lines (b ∷ text) = if is_line_feed b then [] ∷ lines text else onto_first b (lines text)
-
--- a line without its comment, that is a `#` and all that follows it
-abbrev pub without_comment : List ℕ → List ℕ
-without_comment line = before_first is_hash line

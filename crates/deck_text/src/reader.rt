@@ -1,25 +1,23 @@
 // Reading a deck line by line.
 
 ghost use Rattle.std.specs.Prelude.{◌≡◌, ◌+◌, ◌<◌, ◌≤◌, ◌^◌, ℕ, [], length, IfOk, IfErr, OnOk};
-ghost use Rattle.deck_text.specs.Calls.{IsCall};
+ghost use Rattle.signal_graph.specs.Declarations.{IsDeclaration};
+ghost use Rattle.deck_lines.specs.Kept.{IsCall, IsKept};
 ghost use Rattle.deck_text.specs.Faults.{NamesLine};
 ghost use Rattle.deck_text.specs.Lines.{lines};
 ghost use Rattle.deck_text.specs.Readers.{Reads};
 
-use crate::calls::{fire, read};
-use crate::cut::first_word;
 use crate::deck::Deck;
-use crate::declarations::{Declaration, declare};
 use crate::fault::{DeckFault, What};
-use crate::keyword::Keyword;
-use crate::lines::{first_line, said};
+use crate::lines::first_line;
 use crate::reason::Reason;
+use deck_lines::{Limit, Line, LineFault, read_line};
 use script_tree::items::Items;
 use script_tree::limits::{DECK_BYTES, LINE_BYTES, NODES, THREADS};
 use script_tree::memory::OutOfMemory;
-use signal_graph::builder::GraphBuilder;
+use script_tree::name::Name;
+use signal_graph::builder::{DeclKind, GraphBuilder};
 use signal_graph::call::{Call, CallList};
-use signal_graph::node::NodeKind;
 use std::alloc::Global;
 use std::mem;
 
@@ -50,43 +48,57 @@ impl Reader {
         }
     }
 
-    // A declaration that goes beyond a limit: that of the nodes comes first.
-    fn too_many(&self, what: What) -> Reason {
+    // Why a declaration is refused that goes beyond this limit. In the wrong part it is none, and the limit of nodes comes
+    // before its own.
+    fn refused_declaration(&self, limit: Limit) -> Reason {
+        if self.begun {
+            return Reason::Syntax;
+        }
         if self.builder.len() >= NODES {
-            Reason::TooMany(What::Nodes)
-        } else {
-            Reason::TooMany(what)
+            return Reason::TooMany(What::Nodes);
+        }
+        Reason::beyond(limit)
+    }
+
+    // Why a call is refused that goes beyond this limit.
+    fn refused_call(&self, limit: Limit) -> Reason {
+        if !self.begun {
+            return Reason::Syntax;
+        }
+        Reason::beyond(limit)
+    }
+
+    // Why a line is refused that is none, or that goes beyond a limit of its own: the limit tells what it is.
+    fn refused(&self, fault: LineFault) -> Reason {
+        match fault {
+            LineFault::Syntax => Reason::Syntax,
+            LineFault::TooMany(limit) => match limit {
+                Limit::Sets | Limit::Looks => self.refused_call(limit),
+                _ => self.refused_declaration(limit),
+            },
+            LineFault::Memory => Reason::Memory,
         }
     }
 
-    fn read_declaration(&mut self, kind: NodeKind, text: &[u8]) -> Result<(), Reason>
-        requires short { length text.now ≤ LINE_BYTES }
+    fn add_declaration(&mut self, name: Name, kind: DeclKind) -> Result<(), Reason>
         requires reads { Reads self.old }
+        requires declaration { IsDeclaration kind }
         ensures reads { Reads self.new }
         ensures calls { self.new.calls ≡ self.old.calls }
     {
         if self.begun {
             return Err(Reason::Syntax);
         }
-        match declare(self.alloc, kind, text) {
-            Ok(Declaration { name, kind }) => {
-                self.builder.add(name, kind)?;
-                Ok(())
-            }
-            Err(Reason::TooMany(what)) => Err(self.too_many(what)),
-            Err(reason) => Err(reason),
-        }
+        self.builder.add(name, kind)?;
+        Ok(())
     }
 
-    fn read_thread(&mut self, text: &[u8]) -> Result<(), Reason>
+    fn begin_thread(&mut self) -> Result<(), Reason>
         requires reads { Reads self.old }
         requires counted { length self.old.calls.items < 2 ^ 32 }
         ensures reads { OnOk result (Reads self.new) }
         ensures calls { OnOk result (length self.new.calls.items ≤ length self.old.calls.items) }
     {
-        if !text.is_empty() {
-            return Err(Reason::Syntax);
-        }
         if self.begun {
             if self.threads.len() + 1 >= THREADS as usize {
                 return Err(Reason::TooMany(What::Threads));
@@ -104,36 +116,31 @@ impl Reader {
         ensures reads { OnOk result (Reads self.new) }
         ensures calls { OnOk result (length self.new.calls.items ≤ length self.old.calls.items + 1) }
     {
+        if !self.begun {
+            return Err(Reason::Syntax);
+        }
         self.calls.push(call)?;
         Ok(())
     }
 
-    fn read_fire(&mut self, text: &[u8]) -> Result<(), Reason>
+    // Takes what a line says.
+    fn take(&mut self, line: Line) -> Result<(), Reason>
         requires reads { Reads self.old }
+        requires counted { length self.old.calls.items < 2 ^ 32 }
+        requires kept { IsKept line }
         ensures reads { OnOk result (Reads self.new) }
         ensures calls { OnOk result (length self.new.calls.items ≤ length self.old.calls.items + 1) }
     {
-        if !self.begun {
-            return Err(Reason::Syntax);
+        match line {
+            Line::Nothing => Ok(()),
+            Line::Declares(name, kind) => self.add_declaration(name, kind),
+            Line::Thread => self.begin_thread(),
+            Line::Calls(call) => self.add_call(call),
         }
-        let call = fire(self.alloc, text)?;
-        self.add_call(call)
-    }
-
-    fn read_read(&mut self, text: &[u8]) -> Result<(), Reason>
-        requires reads { Reads self.old }
-        ensures reads { OnOk result (Reads self.new) }
-        ensures calls { OnOk result (length self.new.calls.items ≤ length self.old.calls.items + 1) }
-    {
-        if !self.begun {
-            return Err(Reason::Syntax);
-        }
-        let call = read(self.alloc, text)?;
-        self.add_call(call)
     }
 
     // Reads a line.
-    fn read_line(&mut self, line: &[u8]) -> Result<(), Reason>
+    fn read(&mut self, line: &[u8]) -> Result<(), Reason>
         requires reads { Reads self.old }
         requires counted { length self.old.calls.items < 2 ^ 32 }
         ensures reads { OnOk result (Reads self.new) }
@@ -142,17 +149,9 @@ impl Reader {
         if line.len() > LINE_BYTES {
             return Err(Reason::LineTooLong);
         }
-        let text = said(line);
-        if text.is_empty() {
-            return Ok(());
-        }
-        let (word, rest) = first_word(text);
-        match Keyword::of(word) {
-            Some(Keyword::Declares(kind)) => self.read_declaration(kind, rest),
-            Some(Keyword::Thread) => self.read_thread(rest),
-            Some(Keyword::Fire) => self.read_fire(rest),
-            Some(Keyword::Read) => self.read_read(rest),
-            None => Err(Reason::Syntax),
+        match read_line(self.alloc, line) {
+            Ok(said) => self.take(said),
+            Err(fault) => Err(self.refused(fault)),
         }
     }
 
@@ -208,7 +207,7 @@ pub fn read_deck(alloc: Global, bytes: &[u8]) -> Result<Deck, DeckFault>
         if (bytes.len() - after.len()) as u64 > DECK_BYTES {
             return Err(DeckFault::TooMany(number, What::Bytes));
         }
-        if let Err(reason) = reader.read_line(line) {
+        if let Err(reason) = reader.read(line) {
             return Err(reason.at(number));
         }
         rest = after;

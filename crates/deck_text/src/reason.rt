@@ -1,10 +1,10 @@
 // Why a line is refused.
 
 ghost use Rattle.std.specs.Prelude.{◌≡◌};
-ghost use Rattle.deck_text.specs.Faults.{fault_at};
+ghost use Rattle.deck_text.specs.Faults.{fault_at, limit_reason};
 
 use crate::fault::{DeckFault, What};
-use expr_script::ScriptFault;
+use deck_lines::Limit;
 use script_tree::memory::OutOfMemory;
 use signal_graph::builder::GraphFault;
 use std::alloc::{AllocError, AllocFailed};
@@ -69,22 +69,6 @@ impl<T: Drop> From<AllocFailed<T>> for Reason {
     }
 }
 
-impl From<ScriptFault> for Reason {
-    ghost use Rattle.std.specs.Prelude.{◌≡◌};
-    ghost use Rattle.deck_text.specs.Faults.{reason_of};
-
-    ghost from_gives = { λ fault r. r ≡ reason_of fault };
-
-    fn from(fault: ScriptFault) -> Reason {
-        match fault {
-            ScriptFault::Syntax(_) => Reason::Syntax,
-            ScriptFault::TooDeep(_) => Reason::TooMany(What::Levels),
-            ScriptFault::TooManyInputs => Reason::TooMany(What::Inputs),
-            ScriptFault::Memory => Reason::Memory,
-        }
-    }
-}
-
 impl From<GraphFault> for Reason {
     ghost use Rattle.std.specs.Prelude.{◌≡◌};
     ghost use Rattle.deck_text.specs.Faults.{declaration_reason};
@@ -98,5 +82,22 @@ impl From<GraphFault> for Reason {
             GraphFault::TooManyNodes => Reason::TooMany(What::Nodes),
             GraphFault::Memory => Reason::Memory,
         }
+    }
+}
+
+impl Reason {
+    /// The reason of a line that goes beyond one of its own limits.
+    pub fn beyond(limit: Limit) -> Reason
+        ensures { result ≡ limit_reason limit }
+    {
+        let what = match limit {
+            Limit::Levels => What::Levels,
+            Limit::Inputs => What::Inputs,
+            Limit::Candidates => What::Candidates,
+            Limit::Selectors => What::Selectors,
+            Limit::Sets => What::Sets,
+            Limit::Looks => What::Looks,
+        };
+        Reason::TooMany(what)
     }
 }

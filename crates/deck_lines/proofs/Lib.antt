@@ -1,0 +1,17 @@
+pub mod Cutting
+pub mod Wording
+pub mod Fitting
+pub mod Scanning
+pub mod Going
+pub mod Numbers
+pub mod Scripting
+pub mod Calling
+pub mod Declaring
+pub mod InputLaws
+pub mod Gathering
+pub mod Judging
+pub mod Choosing
+pub mod CutLaws
+pub mod Texting
+pub mod Finding
+pub mod OneAnswer

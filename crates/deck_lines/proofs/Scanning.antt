@@ -1,0 +1,74 @@
+-- Going over pieces until one is a word.
+use Rattle.std.proofs.Common.{◌≡◌, ℕ, ◌+◌, ◌<◌, ◌≤◌, true, false, List, [], ◌∷◌, ◌++◌, length, take, drop, get_or, refl, sym, ap, ◌∙◌, arith, drop-cons, add-one, append_assoc, append-nil}
+use Rattle.std.proofs.Math.ListN.{drop_of_length-le}
+use Rattle.std.specs.Prelude.{if◌then◌else◌, ◌||◌}
+use Rattle.std.specs.Str.{bytes_eq}
+use Rattle.std.proofs.lemmas.Grind.{common_steps}
+use Rattle.expr_script.specs.declared.pieces.Piece.{Piece}
+use Rattle.expr_script.specs.Pieces.{words_among, bytes_of}
+use Rattle.deck_lines.specs.Cuts.{has, before, behind}
+
+-- no piece before a place is the word
+pub record NotYet (word text : List ℕ) (pieces : List Piece) (at : ℕ) : Type 0 where
+  pub before_it : before word (words_among text pieces) ≡ words_among text (take at pieces) ++ before word (words_among text (drop at pieces))
+  pub behind_it : behind word (words_among text pieces) ≡ behind word (words_among text (drop at pieces))
+  pub has_it : has word (words_among text pieces) ≡ has word (words_among text (drop at pieces))
+
+drop_at : (pieces : List Piece) (at : ℕ) (d p : Piece) → at < length pieces → p ≡ get_or pieces at d → drop at pieces ≡ p ∷ drop (at + 1) pieces
+drop_at pieces at d p h e =
+    let there : drop at pieces ≡ get_or pieces at d ∷ drop (at + 1) pieces = rw (add-one, drop-cons pieces at d) refl in
+    there ∙ ap (λ x. x ∷ drop (at + 1) pieces) (sym e)
+
+take_next : (pieces : List Piece) (at : ℕ) (d : Piece) → at < length pieces → take (at + 1) pieces ≡ take at pieces ++ get_or pieces at d ∷ []
+take_next pieces at d h = grind (arith, common_steps)
+
+take_more : (pieces : List Piece) (at : ℕ) (d p : Piece) → at < length pieces → p ≡ get_or pieces at d → take (at + 1) pieces ≡ take at pieces ++ p ∷ []
+take_more pieces at d p h e = take_next pieces at d h ∙ ap (λ x. take at pieces ++ x ∷ []) (sym e)
+
+words_append : (text : List ℕ) (a b : List Piece) → words_among text (a ++ b) ≡ words_among text a ++ words_among text b
+words_append text [] b = refl
+words_append text (p ∷ a) b = ap (λ ws. bytes_of text p ∷ ws) (words_append text a b)
+
+pub not_yet : (word text : List ℕ) (pieces : List Piece) → NotYet word text pieces 0
+not_yet word text pieces = record { before_it = refl; behind_it = refl; has_it = refl }
+
+pub not_here : (word text : List ℕ) (pieces : List Piece) (at : ℕ) (d p : Piece) → at < length pieces → p ≡ get_or pieces at d → bytes_eq (bytes_of text p) word ≡ false → NotYet word text pieces at → NotYet word text pieces (at + 1)
+not_here word text pieces at d p h e f n =
+    let rest = words_among text (drop (at + 1) pieces) in
+    let w = bytes_of text p in
+    let cut_here = ap (words_among text) (drop_at pieces at d p h e) in
+    record {
+      before_it = n.before_it
+          ∙ ap (λ ws. words_among text (take at pieces) ++ before word ws) cut_here
+          ∙ ap (λ t. words_among text (take at pieces) ++ (if t then [] else w ∷ before word rest)) f
+          ∙ sym (append_assoc (words_among text (take at pieces)) (w ∷ []) (before word rest))
+          ∙ ap (λ ws. ws ++ before word rest) (sym (words_append text (take at pieces) (p ∷ [])) ∙ ap (words_among text) (sym (take_more pieces at d p h e)));
+      behind_it = n.behind_it ∙ ap (behind word) cut_here ∙ ap (λ t. if t then rest else behind word rest) f;
+      has_it = n.has_it ∙ ap (has word) cut_here ∙ ap (λ t. t || has word rest) f;
+    }
+
+pub here_before : (word text : List ℕ) (pieces : List Piece) (at : ℕ) (d p : Piece) → at < length pieces → p ≡ get_or pieces at d → bytes_eq (bytes_of text p) word ≡ true → NotYet word text pieces at → words_among text (take at pieces) ≡ before word (words_among text pieces)
+here_before word text pieces at d p h e f n =
+    let rest = words_among text (drop (at + 1) pieces) in
+    let w = bytes_of text p in
+    let cut_here = ap (words_among text) (drop_at pieces at d p h e) in
+    sym (n.before_it
+    ∙ ap (λ ws. words_among text (take at pieces) ++ before word ws) cut_here
+    ∙ ap (λ t. words_among text (take at pieces) ++ (if t then [] else w ∷ before word rest)) f
+    ∙ append-nil (words_among text (take at pieces)))
+
+pub here_behind : (word text : List ℕ) (pieces : List Piece) (at : ℕ) (d p : Piece) → at < length pieces → p ≡ get_or pieces at d → bytes_eq (bytes_of text p) word ≡ true → NotYet word text pieces at → words_among text (drop (at + 1) pieces) ≡ behind word (words_among text pieces)
+here_behind word text pieces at d p h e f n =
+    let rest = words_among text (drop (at + 1) pieces) in
+    let cut_here = ap (words_among text) (drop_at pieces at d p h e) in
+    sym (n.behind_it ∙ ap (behind word) cut_here ∙ ap (λ t. if t then rest else behind word rest) f)
+
+pub here_has : (word text : List ℕ) (pieces : List Piece) (at : ℕ) (d p : Piece) → at < length pieces → p ≡ get_or pieces at d → bytes_eq (bytes_of text p) word ≡ true → NotYet word text pieces at → has word (words_among text pieces) ≡ true
+here_has word text pieces at d p h e f n =
+    let rest = words_among text (drop (at + 1) pieces) in
+    n.has_it ∙ ap (has word) (ap (words_among text) (drop_at pieces at d p h e)) ∙ ap (λ t. t || has word rest) f
+
+pub never : (word text : List ℕ) (pieces : List Piece) (at : ℕ) → length pieces ≤ at → NotYet word text pieces at → has word (words_among text pieces) ≡ false
+never word text pieces at h n = n.has_it ∙ ap (λ ps. has word (words_among text ps)) (drop_of_length-le pieces h)
+
+pub ruleset scan_laws = (not_yet, not_here, here_before, here_behind, here_has, never)

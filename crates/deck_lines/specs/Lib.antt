@@ -1,0 +1,12 @@
+pub mod Cuts
+pub mod Values
+pub mod Forms
+pub mod Reading
+pub mod Answers
+pub mod Limits
+pub mod Lines
+pub mod Scripts
+pub mod Kept
+pub mod Inputs
+pub mod Selectors
+pub mod Texts

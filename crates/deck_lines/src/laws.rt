@@ -1,0 +1,22 @@
+//! Laws of lines.
+
+ghost use Rattle.std.specs.Prelude.{◌≡◌, ◌≢◌};
+ghost use Rattle.deck_lines.specs.declared.fault.LineFault.{LineFault};
+ghost use Rattle.deck_lines.specs.declared.fault.LineFault.TheVariants.{Memory};
+ghost use Rattle.deck_lines.specs.declared.line.Line.{Line};
+ghost use Rattle.deck_lines.specs.Forms.{Words, Form, Fits};
+ghost use Rattle.deck_lines.specs.Lines.{IsLine, IsLineFault};
+
+/// No words have two forms.
+pub fn one_form()
+    ensures { (words : Words) (a b : Form) → Fits words a → Fits words b → a ≡ b }
+{}
+
+/// Want of memory aside, words that say something have no fault, and words that say nothing have one. So each answer
+/// comes exactly where its cause is there.
+pub fn one_answer()
+    ensures apart { (words : Words) (line : Line) (fault : LineFault) → IsLine words line → IsLineFault words fault → fault ≡ Memory }
+    ensures fault { (words : Words) (a b : LineFault) → IsLineFault words a → IsLineFault words b → a ≢ Memory → b ≢ Memory → a ≡ b }
+{
+    script_grammar::laws::one_answer();
+}
