@@ -1,4 +1,4 @@
-//! The bytes of a report.
+//! Reports: a finished run as lines of text and as JSON, and reports that are read back.
 #![tactic(auto)]
 
 pub mod data;
@@ -7,6 +7,8 @@ mod json;
 mod lines;
 mod pieces;
 mod reading;
+#[cfg(test)]
+mod tests;
 mod whole;
 
 pub use json::report_json;
