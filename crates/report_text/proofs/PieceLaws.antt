@@ -23,6 +23,15 @@ pub ends_behind : (text : List ℕ) → Ends (drop (prefix_len is_inner text) te
 ends_behind [] = tt
 ends_behind (b ∷ bs) = ends_from b bs (is_inner b) refl (ends_behind bs)
 
+-- the bytes of a piece are bytes within one
+inner_from : (b : ℕ) (bs : List ℕ) (v : Bool) → is_inner b ≡ v → list_all is_inner (take (prefix_len is_inner bs) bs) ≡ true → list_all is_inner (take (prefix_len is_inner (b ∷ bs)) (b ∷ bs)) ≡ true
+inner_from b bs true e h = rw e (let n : 1 + prefix_len is_inner bs ≡ suc (prefix_len is_inner bs) = omega arith in rw n (rw e h))
+inner_from b bs false e h = rw e refl
+
+pub inner_taken : (text : List ℕ) → list_all is_inner (take (prefix_len is_inner text) text) ≡ true
+inner_taken [] = refl
+inner_taken (b ∷ bs) = inner_from b bs (is_inner b) refl (inner_taken bs)
+
 is_good : {A E : Type 0} → Result A E → Bool
 is_good (Ok x) = true
 is_good (Err e) = false

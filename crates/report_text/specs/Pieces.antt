@@ -18,3 +18,13 @@ abbrev pub IsValue : Value → Type 0
 IsValue (Int x) = FitsSigned w64 x
 IsValue (Truth b) = Unit {0}
 IsValue (Faulty f) = Unit {0}
+
+abbrev pub IsPlain : Value → Type 0
+IsPlain (Int x) = Unit {0}
+IsPlain (Truth b) = Unit {0}
+IsPlain (Faulty f) = ⊥
+
+-- a label that begins with a space
+abbrev pub IsBlankFirst : List ℕ → Type 0
+IsBlankFirst [] = ⊥
+IsBlankFirst (b ∷ bs) = b ≡ 32

@@ -3,9 +3,10 @@
 ghost use Rattle.std.specs.Prelude.{◌≡◌, ◌≢◌, ◌↔◌, ℕ, ℤ, List, ◌<◌, ◌≤◌, ◌^◌, ◌++◌, length, IsTrue, true, false, IfSome, IfNone, MatchOption, codes, decimal, FitsSigned, take_while};
 ghost use Rattle.std.specs.Fmt.{signed_decimal};
 ghost use Rattle.std.specs.Int.{w64};
+ghost use Rattle.std.specs.List.{list_all};
 ghost use Rattle.script_tree.specs.Names.{is_name};
 ghost use Rattle.script_tree.specs.Printed.{value_text, fault_text};
-ghost use Rattle.report_text.specs.Pieces.{is_inner, Ends, IsValue};
+ghost use Rattle.report_text.specs.Pieces.{is_inner, Ends, IsBlankFirst, IsValue, IsPlain};
 ghost use Rattle.report_text.specs.Report.{counted, named_value};
 
 use itoa::Buffer;
@@ -38,7 +39,7 @@ fn inner_len(text: &[u8]) -> usize
 #[tactic(auto, using(crate::proofs::PieceLaws::piece_laws))]
 pub fn piece(text: &[u8]) -> (&[u8], &[u8])
     ensures whole { text.now ≡ result.0.now ++ result.1.now }
-    ensures inner { result.0.now ≡ take_while is_inner text.now }
+    ensures inner { list_all is_inner result.0.now ≡ true }
     ensures ends { Ends result.1.now }
 {
     text.split_at(inner_len(text))
@@ -99,7 +100,8 @@ fn is_same(text: &[u8], word: &[u8]) -> bool
 
 // The kind of fault that a word names.
 fn fault_of(word: &[u8]) -> Option<Fault>
-    ensures { IfSome result (λ fault. word.now ≡ fault_text fault) }
+    ensures some { IfSome result (λ fault. word.now ≡ fault_text fault) }
+    ensures none { IfNone result ((fault : Fault) → word.now ≢ fault_text fault) }
 {
     if is_same(word, b"overflow") {
         return Some(Fault::Overflow);
@@ -118,7 +120,8 @@ fn fault_of(word: &[u8]) -> Option<Fault>
 
 // The value that a piece is printed as, if it is no fault.
 fn plain_of(word: &[u8]) -> Option<Value>
-    ensures { IfSome result (λ value. word.now ≡ value_text value) }
+    ensures some { IfSome result (λ value. (word.now ≡ value_text value) × IsValue value) }
+    ensures none { IfNone result ((value : Value) → IsValue value → IsPlain value → word.now ≢ value_text value) }
 {
     if is_same(word, b"true") {
         return Some(Value::Bool(true));
@@ -133,7 +136,8 @@ fn plain_of(word: &[u8]) -> Option<Value>
 }
 
 fn fault(text: &[u8]) -> Option<(Value, &[u8])>
-    ensures { IfSome result (λ p. codes "fault " ++ text.now ≡ value_text p.0 ++ p.1.now) }
+    ensures some { IfSome result (λ p. (codes "fault " ++ text.now ≡ value_text p.0 ++ p.1.now) × IsValue p.0 × Ends p.1.now) }
+    ensures none { IfNone result ((fault : Fault) (rest : List ℕ) → Ends rest → text.now ≢ fault_text fault ++ rest) }
 {
     let (word, rest) = piece(text);
     match fault_of(word) {
@@ -143,7 +147,8 @@ fn fault(text: &[u8]) -> Option<(Value, &[u8])>
 }
 
 fn plain(text: &[u8]) -> Option<(Value, &[u8])>
-    ensures { IfSome result (λ p. text.now ≡ value_text p.0 ++ p.1.now) }
+    ensures some { IfSome result (λ p. (text.now ≡ value_text p.0 ++ p.1.now) × IsValue p.0 × Ends p.1.now) }
+    ensures none { IfNone result ((value : Value) (rest : List ℕ) → IsValue value → IsPlain value → Ends rest → text.now ≢ value_text value ++ rest) }
 {
     let (word, rest) = piece(text);
     match plain_of(word) {
@@ -154,7 +159,8 @@ fn plain(text: &[u8]) -> Option<(Value, &[u8])>
 
 /// The value that a text begins with, and what stands behind it.
 pub fn value(text: &[u8]) -> Option<(Value, &[u8])>
-    ensures { IfSome result (λ p. text.now ≡ value_text p.0 ++ p.1.now) }
+    ensures some { IfSome result (λ p. (text.now ≡ value_text p.0 ++ p.1.now) × IsValue p.0 × Ends p.1.now) }
+    ensures none { IfNone result ((value : Value) (rest : List ℕ) → IsValue value → Ends rest → text.now ≢ value_text value ++ rest) }
 {
     match behind(text, b"fault ") {
         Some(rest) => fault(rest),
@@ -164,7 +170,8 @@ pub fn value(text: &[u8]) -> Option<(Value, &[u8])>
 
 /// The name that a text begins with, and what stands behind it.
 pub fn name(text: &[u8]) -> Option<(Name, &[u8])>
-    ensures { IfSome result (λ p. (text.now ≡ p.0 ++ p.1.now) × IsTrue (is_name p.0)) }
+    ensures some { IfSome result (λ p. (text.now ≡ p.0 ++ p.1.now) × IsTrue (is_name p.0) × Ends p.1.now) }
+    ensures none { IfNone result ((name rest : List ℕ) → IsTrue (is_name name) → Ends rest → text.now ≢ name ++ rest) }
 {
     let (word, rest) = piece(text);
     match Name::of_bytes(word) {
@@ -175,7 +182,8 @@ pub fn name(text: &[u8]) -> Option<(Name, &[u8])>
 
 /// The number that a text begins with, and what stands behind it.
 pub fn number(text: &[u8]) -> Option<(u32, &[u8])>
-    ensures { IfSome result (λ p. text.now ≡ decimal p.0 ++ p.1.now) }
+    ensures some { IfSome result (λ p. (text.now ≡ decimal p.0 ++ p.1.now) × Ends p.1.now) }
+    ensures none { IfNone result ((n : ℕ) (rest : List ℕ) → n < 2 ^ 32 → Ends rest → text.now ≢ decimal n ++ rest) }
 {
     let (word, rest) = piece(text);
     match number_of(word) {
@@ -186,7 +194,8 @@ pub fn number(text: &[u8]) -> Option<(u32, &[u8])>
 
 /// A label with a number behind it, and what stands behind that.
 pub fn count<'a>(text: &'a [u8], label: &[u8]) -> Option<(u32, &'a [u8])>
-    ensures { IfSome result (λ p. text.now ≡ counted label.now p.0 p.1.now) }
+    ensures some { IfSome result (λ p. (text.now ≡ counted label.now p.0 p.1.now) × Ends p.1.now) }
+    ensures none { IfNone result ((n : ℕ) (rest : List ℕ) → n < 2 ^ 32 → Ends rest → text.now ≢ counted label.now n rest) }
 {
     match behind(text, label) {
         Some(rest) => number(rest),
@@ -196,7 +205,10 @@ pub fn count<'a>(text: &'a [u8], label: &[u8]) -> Option<(u32, &'a [u8])>
 
 /// Two labels with a number behind each, and what stands behind them.
 pub fn counts<'a>(text: &'a [u8], first: &[u8], second: &[u8]) -> Option<(u32, u32, &'a [u8])>
-    ensures { IfSome result (λ p. text.now ≡ counted first.now p.0 (counted second.now p.1 p.2.now)) }
+    requires { IsBlankFirst second.now }
+    ensures some { IfSome result (λ p. (text.now ≡ counted first.now p.0 (counted second.now p.1 p.2.now)) × Ends p.2.now) }
+    ensures none { IfNone result ((m n : ℕ) (rest : List ℕ) → m < 2 ^ 32 → n < 2 ^ 32 → Ends rest
+        → text.now ≢ counted first.now m (counted second.now n rest)) }
 {
     let Some((one, rest)) = count(text, first) else {
         return None;
@@ -209,7 +221,9 @@ pub fn counts<'a>(text: &'a [u8], first: &[u8], second: &[u8]) -> Option<(u32, u
 
 /// A name with a value, and what stands behind it.
 pub fn named(text: &[u8]) -> Option<(Name, Value, &[u8])>
-    ensures { IfSome result (λ p. (text.now ≡ named_value (p.0, p.1) ++ p.2.now) × IsTrue (is_name p.0)) }
+    ensures some { IfSome result (λ p. (text.now ≡ named_value (p.0, p.1) ++ p.2.now) × IsTrue (is_name p.0) × IsValue p.1 × Ends p.2.now) }
+    ensures none { IfNone result ((name : List ℕ) (value : Value) (rest : List ℕ) → IsTrue (is_name name) → IsValue value → Ends rest
+        → text.now ≢ named_value (name, value) ++ rest) }
 {
     let Some((name, rest)) = name(text) else {
         return None;

@@ -60,7 +60,10 @@ fn texts_are_read_or_refused_at_their_line(rt: HostRuntime) {
         ("\n", Some(1)),
         ("done 0 accepted 0 refused", Some(1)),
         ("done 0 accepted 0 refused\n\n", Some(2)),
-        ("done 0 accepted 0 refused\ndone 0 accepted 0 refused\n", Some(2)),
+        (
+            "done 0 accepted 0 refused\ndone 0 accepted 0 refused\n",
+            Some(2),
+        ),
         ("done 0 accepted 0 refused\nx", Some(2)),
         ("done 00 accepted 0 refused\n", Some(1)),
         ("done 4294967296 accepted 0 refused\n", Some(1)),
@@ -73,7 +76,10 @@ fn texts_are_read_or_refused_at_their_line(rt: HostRuntime) {
         ("final a=1\nfinal b=2", Some(2)),
         ("final a=01\ndone 0 accepted 0 refused\n", Some(1)),
         ("final a=-0\ndone 0 accepted 0 refused\n", Some(1)),
-        ("final a=9223372036854775808\ndone 0 accepted 0 refused\n", Some(1)),
+        (
+            "final a=9223372036854775808\ndone 0 accepted 0 refused\n",
+            Some(1),
+        ),
         ("final a=fault\ndone 0 accepted 0 refused\n", Some(1)),
         ("final a=fault kinds\ndone 0 accepted 0 refused\n", Some(1)),
         ("final a=True\ndone 0 accepted 0 refused\n", Some(1)),
@@ -105,10 +111,7 @@ fn texts_are_read_or_refused_at_their_line(rt: HostRuntime) {
             "call 1 thread 1 fire changed 0 evaluated 0 look \ndone 1 accepted 0 refused\n",
             Some(1),
         ),
-        (
-            "call 1 thread 1 read\ndone 1 accepted 0 refused\n",
-            Some(1),
-        ),
+        ("call 1 thread 1 read\ndone 1 accepted 0 refused\n", Some(1)),
         (
             "call 1 thread 1 read a=1,b=2\ndone 1 accepted 0 refused\n",
             Some(1),
