@@ -1,5 +1,5 @@
 -- One more line, and one more look, behind those that were read.
-use Rattle.std.proofs.Common.{◌≡◌, ℕ, ◌<◌, List, [], ◌∷◌, ◌++◌, length, refl, sym, ap, ◌∙◌, append_assoc, append-nil, length-append, arith, codes, Bool, true, false, true≢false}
+use Rattle.std.proofs.Common.{◌≡◌, ℕ, ◌+◌, ◌<◌, ◌≤◌, List, [], ◌∷◌, ◌++◌, length, refl, sym, ap, ◌∙◌, append_assoc, append-nil, length-append, arith, codes, Bool, true, false, true≢false}
 use Rattle.std.specs.Prelude.{IsTrue, decimal}
 use Rattle.std.specs.List.{AllByRecursion, flat_map, zip}
 use Rattle.std.proofs.lemmas.List.Concat.{flat_map-append}
@@ -64,3 +64,7 @@ pub fire_read : (a b : ℕ) (looks : List (List ℕ × Value)) (text rest after 
     → text ≡ counted (codes " fire changed ") a (counted (codes " evaluated ") b rest) → rest ≡ fire_looks looks ++ after → text ≡ fire_text a b looks ++ after
 fire_read a b looks text rest after first second =
     joined (codes " fire changed ") (decimal a) (codes " evaluated ") (decimal b) (fire_looks looks) text rest after first second
+
+-- every line takes a byte at least
+pub few_added : {A : Type 0} (xs : List A) (x : A) (after rest text : List ℕ) → length xs + length rest ≤ length text → length after < length rest → length (xs ++ x ∷ []) + length after ≤ length text
+few_added xs x after rest text few shorter = omega (arith, few, shorter, length-append xs (x ∷ []))

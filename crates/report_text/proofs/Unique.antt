@@ -135,7 +135,7 @@ fault_back NoChoice = refl
 one_fault : (f g : Fault) → fault_text f ≡ fault_text g → f ≡ g
 one_fault f g e = sym (fault_back f) ∙ ap fault_by e ∙ fault_back g
 
-numbers_differ : (b c : ℕ) → b < c → b ≡ c → ⊥
+pub numbers_differ : (b c : ℕ) → b < c → b ≡ c → ⊥
 numbers_differ b c less e = absurd (omega (arith, less, e))
 
 below : (b c : ℕ) → nat_lt b c ≡ true → b < c

@@ -1,3 +1,4 @@
+pub mod Faults
 pub mod Json
 pub mod Pieces
 pub mod Printed

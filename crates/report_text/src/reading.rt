@@ -1,8 +1,9 @@
 // Reading a report.
 
-ghost use Rattle.std.specs.Prelude.{◌≡◌, ◌++◌, ◌+◌, ◌-◌, ◌<◌, ◌≤◌, ◌^◌, [], length, IfOk};
+ghost use Rattle.std.specs.Prelude.{◌≡◌, ◌++◌, ◌+◌, ◌-◌, ◌<◌, ◌≤◌, ◌^◌, [], length, IfOk, IfErr};
 ghost use Rattle.std.specs.List.{flat_map};
-ghost use Rattle.report_text.specs.Printed.{line_text, AreLines, printed};
+ghost use Rattle.report_text.specs.Faults.{IsFault};
+ghost use Rattle.report_text.specs.Printed.{line_text, AreLines, AreRefusals, AreLooks, IsReport, NoCall, NoRefusal, NoFinal, printed};
 ghost use Rattle.report_text.specs.Report.{refused_line, final_line};
 
 use crate::data::{CallLine, Report};
@@ -28,6 +29,11 @@ pub enum ReportFault {
 }
 
 impl From<OutOfMemory> for ReportFault {
+    ghost use Rattle.std.specs.Prelude.{◌≡◌};
+    ghost use Rattle.report_text.specs.declared.reading.ReportFault.TheVariants.{Memory};
+
+    ghost from_gives = { λ _ e. e ≡ Memory };
+
     fn from(_: OutOfMemory) -> ReportFault {
         ReportFault::Memory
     }
@@ -42,6 +48,7 @@ fn read_calls<'a>(
     requires { lines.old.items ≡ [] }
     ensures text { IfOk result (λ rest. text.now ≡ flat_map line_text lines.new.items ++ rest.now) }
     ensures lines { IfOk result (λ rest. AreLines lines.new.items) }
+    ensures all { IfOk result (λ rest. NoCall rest.now) }
     ensures few { IfOk result (λ rest. length lines.new.items + length rest.now ≤ length text.now) }
 {
     let mut rest = text;
@@ -62,6 +69,8 @@ fn read_calls<'a>(
 fn read_refused<'a>(text: &'a [u8], lines: &mut Vec<Refused>) -> Result<&'a [u8], OutOfMemory>
     requires { lines.old.items ≡ [] }
     ensures text { IfOk result (λ rest. text.now ≡ flat_map refused_line lines.new.items ++ rest.now) }
+    ensures lines { IfOk result (λ rest. AreRefusals lines.new.items) }
+    ensures all { IfOk result (λ rest. NoRefusal rest.now) }
     ensures few { IfOk result (λ rest. length lines.new.items + length rest.now ≤ length text.now) }
 {
     let mut rest = text;
@@ -81,6 +90,8 @@ fn read_refused<'a>(text: &'a [u8], lines: &mut Vec<Refused>) -> Result<&'a [u8]
 fn read_finals<'a>(text: &'a [u8], lines: &mut Vec<(Name, Value)>) -> Result<&'a [u8], OutOfMemory>
     requires { lines.old.items ≡ [] }
     ensures text { IfOk result (λ rest. text.now ≡ flat_map final_line lines.new.items ++ rest.now) }
+    ensures lines { IfOk result (λ rest. AreLooks lines.new.items) }
+    ensures all { IfOk result (λ rest. NoFinal rest.now) }
     ensures few { IfOk result (λ rest. length lines.new.items + length rest.now ≤ length text.now) }
 {
     let mut rest = text;
@@ -102,7 +113,8 @@ fn read_finals<'a>(text: &'a [u8], lines: &mut Vec<(Name, Value)>) -> Result<&'a
 /// behind the last line where the report is cut.
 pub fn read_report(alloc: Global, bytes: &[u8]) -> Result<Report, ReportFault>
     requires { length bytes.now < 2 ^ 32 - 1 }
-    ensures ok { IfOk result (λ report. (bytes.now ≡ printed report) × AreLines report.calls) }
+    ensures ok { IfOk result (λ report. (bytes.now ≡ printed report) × IsReport report) }
+    ensures err { IfErr result (IsFault bytes.now) }
 {
     let mut calls = Vec::new(alloc);
     let mut refused = Vec::new(alloc);
