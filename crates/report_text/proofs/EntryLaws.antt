@@ -25,7 +25,7 @@ behind_counts text first second a b behind m n rest blank ha hb hm hn hw hr e f 
     let outer = behind_count text first a m (counted second b behind) (counted second n rest) ha hm (blank_ends second (decimal b ++ behind) blank) (blank_ends second (decimal n ++ rest) blank) e f in
     (behind_count (counted second b behind) second b n behind rest hb hn hw hr refl outer.1).1
 
-flat : (l1 d1 l2 d2 t rest : List ℕ) → (l1 ++ (d1 ++ (l2 ++ (d2 ++ t)))) ++ rest ≡ l1 ++ (d1 ++ (l2 ++ (d2 ++ (t ++ rest))))
+pub flat : (l1 d1 l2 d2 t rest : List ℕ) → (l1 ++ (d1 ++ (l2 ++ (d2 ++ t)))) ++ rest ≡ l1 ++ (d1 ++ (l2 ++ (d2 ++ (t ++ rest))))
 flat l1 d1 l2 d2 t rest = simp append_assoc
 
 -- ---- the last line
@@ -66,7 +66,7 @@ last_behind text inner name value behind last rest first second is ends are e =
     (one_named name last.0 value last.1 behind (10 ∷ rest) is.0 are.0 is.1 are.1 ends refl same).2
 
 -- ---- looks
-not_at_end : (name : List ℕ) (value : Value) (behind after : List ℕ) → IsTrue (is_name name) → named_value (name, value) ++ behind ≡ 10 ∷ after → ⊥
+pub not_at_end : (name : List ℕ) (value : Value) (behind after : List ℕ) → IsTrue (is_name name) → named_value (name, value) ++ behind ≡ 10 ∷ after → ⊥
 not_at_end [] value behind after h e = true≢false (sym h)
 not_at_end (b ∷ bs) value behind after h e =
     not_empty b bs (one_piece (b ∷ bs) ((codes "=" ++ value_text value) ++ behind) [] (10 ∷ after) (inner_name (b ∷ bs) h) refl refl refl (sym (append_assoc (b ∷ bs) _ behind) ∙ e)).0

@@ -1,17 +1,18 @@
 -- The bytes that data is the report of.
-use Rattle.std.specs.Prelude.{◌≡◌, ◌≢◌, ℕ, ◌+◌, ◌<◌, ◌^◌, IsTrue, ◌⊎◌, List, [], ◌++◌, length, codes}
+use Rattle.std.specs.Prelude.{◌≡◌, ◌≢◌, ℕ, ◌+◌, ◌<◌, ◌^◌, IsTrue, ◌⊎◌, List, [], ◌++◌, length, map, codes}
 use Rattle.std.specs.List.{AllByRecursion, flat_map, zip}
 use Rattle.script_tree.specs.Names.{is_name}
 use Rattle.script_tree.specs.declared.value.Value.{Value}
 use Rattle.signal_graph.specs.declared.call.Reply.{Reply}
 use Rattle.signal_graph.specs.declared.call.Reply.TheVariants.{Fire as Fired, Read as Seen}
+use Rattle.signal_graph.specs.declared.log.Logged.{Logged}
 use Rattle.signal_graph.specs.declared.log.Refused.{Refused}
 use Rattle.signal_graph.specs.declared.log.Why.{Why}
 use Rattle.signal_graph.specs.declared.log.Why.TheVariants.{UnknownName, VersionsUsedUp}
 use Rattle.report_text.specs.declared.data.CallLine.{CallLine}
 use Rattle.report_text.specs.declared.data.Report.{Report}
 use Rattle.report_text.specs.Pieces.{IsValue}
-use Rattle.report_text.specs.Report.{counted, reply_text, line_end, refused_line, final_line, done_line}
+use Rattle.report_text.specs.Report.{counted, names_of, reply_text, line_end, refused_line, final_line, done_line}
 
 -- the line of a call, from its data
 abbrev pub line_text : CallLine → List ℕ
@@ -61,6 +62,13 @@ lines_before calls refused finals behind = flat_map line_text calls ++ (flat_map
 -- the text of a report
 abbrev pub printed : Report → List ℕ
 printed report = lines_before report.calls report.refused report.finals (done_line report.accepted report.refusals)
+
+-- the data of a finished run
+abbrev pub line_of : Logged → CallLine
+line_of entry = record { version = entry.version; caller = entry.caller; reply = entry.reply; names = names_of entry.call }
+
+abbrev pub data_of : List Logged → List Refused → List (List ℕ) → List Value → Report
+data_of log refused names finals = record { calls = map line_of log; refused = refused; finals = zip names finals; accepted = length log; refusals = length refused }
 
 -- data that a report can have
 pub record IsReport (report : Report) : Type 0 where

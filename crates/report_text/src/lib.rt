@@ -4,6 +4,7 @@
 pub mod data;
 mod entries;
 mod json;
+mod laws;
 mod lines;
 mod pieces;
 mod reading;
@@ -12,5 +13,6 @@ mod tests;
 mod whole;
 
 pub use json::report_json;
+pub use laws::{reports_are_told_apart, runs_are_read_back};
 pub use reading::{ReportFault, read_report};
 pub use whole::report;
