@@ -1,0 +1,27 @@
+// Laws of reports.
+
+ghost use Rattle.std.specs.Prelude.{◌≡◌, ℕ, List};
+ghost use Rattle.script_tree.specs.declared.value.Value.{Value};
+ghost use Rattle.signal_graph.specs.declared.log.Logged.{Logged};
+ghost use Rattle.signal_graph.specs.declared.log.Refused.{Refused};
+ghost use Rattle.report_text.specs.declared.data.Report.{Report};
+ghost use Rattle.report_text.specs.Report.{report_of};
+ghost use Rattle.report_text.specs.Printed.{printed, data_of, IsReport, Stops};
+
+/// Bytes are the report of one data alone, and the bytes of a report stop at no line to be one. So of bytes that are a
+/// report no line is named as a fault.
+pub fn reports_are_told_apart()
+    ensures one { (a b : Report) → IsReport a → IsReport b → printed a ≡ printed b → a ≡ b }
+    ensures whole { (report : Report) (line : ℕ) → IsReport report → ¬ Stops (printed report) line }
+{}
+
+/// The report of a finished run is that of its data: its calls with the names that they look at, its refusals, its last
+/// values with their names, and the two counts. So what is read from it is this data.
+pub fn runs_are_read_back()
+    ensures printed { (log : List Logged) (refused : List Refused) (names : List (List ℕ)) (finals : List Value)
+        → report_of log refused names finals ≡ printed (data_of log refused names finals) }
+    ensures read { (log : List Logged) (refused : List Refused) (names : List (List ℕ)) (finals : List Value)
+        → IsReport (data_of log refused names finals)
+        → (report : Report) → IsReport report → report_of log refused names finals ≡ printed report
+        → report ≡ data_of log refused names finals }
+{}
