@@ -9,6 +9,7 @@ use crate::items::Items;
 use crate::limits::NAME_BYTES;
 use arrayvec::ArrayVec;
 use std::marker::Model;
+use std::str;
 
 /// A name: a word of 1 to 32 bytes of ASCII letters, digits and `_` that begins with no digit and is not reserved.
 /// Contracts see its bytes. It is held without allocation.
@@ -146,6 +147,18 @@ impl Name {
         ensures { result.now ≡ self.now }
     {
         self.bytes.as_slice()
+    }
+
+    /// Its text. Takes no memory.
+    pub fn as_str(&self) -> &str
+        ensures text { result.now ≡ self.now }
+        ensures name { IsTrue (is_name self.now) }
+    {
+        match str::from_utf8(self.bytes.as_slice()) {
+            Ok(text) => text,
+            // Letters, digits and `_` are ASCII.
+            Err(_) => unreachable!(),
+        }
     }
 
     /// Whether the two are the same name.
