@@ -1,1 +1,4 @@
+pub mod Json
+pub mod Pieces
+pub mod Printed
 pub mod Report

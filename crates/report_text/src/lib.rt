@@ -1,7 +1,16 @@
-//! The bytes of a report.
+//! Reports: a finished run as lines of text and as JSON, and reports that are read back.
 #![tactic(auto)]
 
+pub mod data;
+mod entries;
+mod json;
 mod lines;
+mod pieces;
+mod reading;
+#[cfg(test)]
+mod tests;
 mod whole;
 
+pub use json::report_json;
+pub use reading::{ReportFault, read_report};
 pub use whole::report;

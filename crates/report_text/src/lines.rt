@@ -71,7 +71,8 @@ fn print_fire_looks(out: &mut Text, names: &[Name], values: &[Value]) -> Result<
     }
 }
 
-fn names_of(call: &Call) -> &[Name]
+// The names that a call looks at.
+pub fn names_of(call: &Call) -> &[Name]
     ensures { result.now ≡ names_of call.now }
 {
     match call {
