@@ -1,8 +1,8 @@
 -- From what was read to what is written.
-use Rattle.std.proofs.Common.{ℕ, List, Option, Ok}
+use Rattle.std.proofs.Common.{ℕ, Bool, List, Option, Ok}
 use Rattle.deck_text.specs.Decks.{Decked}
 use Rattle.fs_io.specs.Count.{Rose}
-use Rattle.framesweep_cli.specs.declared.command.Command.{Command}
+use Rattle.command_words.specs.declared.command.Command.{Command}
 use Rattle.framesweep_cli.specs.declared.stop.Stop.{Stop}
 use Rattle.framesweep_cli.specs.declared.stop.Stop.TheVariants.{Read, Deck, Memory}
 use Rattle.framesweep_cli.specs.Endings.{IsInput, ReadsDeck, IsReport, IsSerial, IsAnyOrder, IsOutput, Makes}
@@ -24,5 +24,5 @@ unread_stops left before after (Deck fault) unread = absurd unread
 unread_stops left before after Memory unread = unread
 
 -- a report in thread order is one in some order
-pub in_any_order : (deck : Decked) (versions : ℕ) (text : List ℕ) → IsReport deck versions IsSerial text → IsReport deck versions IsAnyOrder text
-in_any_order deck versions text r = record { log = r.log; refused = r.refused; ordered = tt; legal = r.legal; merge = r.merge; bytes = r.bytes }
+pub in_any_order : (deck : Decked) (versions : ℕ) (json : Bool) (text : List ℕ) → IsReport deck versions json IsSerial text → IsReport deck versions json IsAnyOrder text
+in_any_order deck versions json text r = record { log = r.log; refused = r.refused; ordered = tt; legal = r.legal; merge = r.merge; bytes = r.bytes }

@@ -1,8 +1,9 @@
 -- What the program reads, makes and says.
-use Rattle.std.specs.Prelude.{◌≡◌, ◌≢◌, ℕ, ◌+◌, ⊤, ◌⊎◌, List, length, take, Option, Some, None, Result, Ok, Err}
+use Rattle.std.specs.Prelude.{◌≡◌, ◌≢◌, ℕ, ◌+◌, Bool, true, false, ⊤, ◌⊎◌, List, length, take, Option, Some, None, Result, Ok, Err}
 use Rattle.fs_io.specs.Bytes.{Adds, AddsFirst}
 use Rattle.fs_io.specs.Count.{Rose}
 use Rattle.script_tree.specs.declared.limits.TheConstants.{DECK_BYTES}
+use Rattle.script_tree.specs.declared.value.Value.{Value}
 use Rattle.signal_graph.specs.declared.log.Logged.{Logged}
 use Rattle.signal_graph.specs.declared.log.Refused.{Refused}
 use Rattle.signal_graph.specs.Legal.{Legal, finals}
@@ -16,8 +17,9 @@ use Rattle.deck_text.specs.Faults.{NamesLine}
 use Rattle.deck_text.specs.Lines.{lines}
 use Rattle.deck_text.specs.Printed.{canonical}
 use Rattle.report_text.specs.Report.{report_of}
-use Rattle.framesweep_cli.specs.declared.command.Command.{Command}
-use Rattle.framesweep_cli.specs.declared.command.Command.TheVariants.{Run, Serial, Print}
+use Rattle.report_text.specs.Json.{json_of}
+use Rattle.command_words.specs.declared.command.Command.{Command}
+use Rattle.command_words.specs.declared.command.Command.TheVariants.{Run, Serial, Print}
 
 -- the bytes are what the source had left, where it told that: all of it, or the first ones of an input that is too long
 abbrev pub IsInput : Option (List ℕ) → List ℕ → Type 0
@@ -29,15 +31,20 @@ abbrev pub ReadsDeck : List ℕ → Result Decked DeckFault → Type 0
 ReadsDeck bytes (Ok deck) = AreThreads deck.scripts
 ReadsDeck bytes (Err fault) = NamesLine (length (lines bytes)) fault
 
+-- a report as text or as one line of JSON
+abbrev pub report_bytes : Bool → List Logged → List Refused → List (List ℕ) → List Value → List ℕ
+report_bytes false log refused names finals = report_of log refused names finals
+report_bytes true log refused names finals = json_of log refused names finals
+
 -- the report of a run of a deck: every reply is the one-thread machine's in the order of the log, the log and what was
 -- refused are one merge of all threads' calls, the final values are those behind the log, and the log is ordered so
-pub record IsReport (deck : Decked) (versions : ℕ) (Ordered : List Logged → Type 0) (text : List ℕ) : Type 0 where
+pub record IsReport (deck : Decked) (versions : ℕ) (json : Bool) (Ordered : List Logged → Type 0) (text : List ℕ) : Type 0 where
   pub log : List Logged
   pub refused : List Refused
   pub ordered : Ordered log
   pub legal : Legal deck.graph log
   pub merge : Merge deck.graph deck.scripts versions log refused
-  pub bytes : text ≡ report_of log refused deck.graph.names (finals deck.graph log)
+  pub bytes : text ≡ report_bytes json log refused deck.graph.names (finals deck.graph log)
 
 -- all calls of a thread come before those of a later one, with versions that count from 1
 abbrev pub IsSerial : List Logged → Type 0
@@ -49,8 +56,8 @@ IsAnyOrder log = ⊤
 
 -- what a command writes for a deck
 abbrev pub IsOutput : Command → Decked → List ℕ → Type 0
-IsOutput (Run versions) deck text = IsReport deck versions IsAnyOrder text
-IsOutput (Serial versions) deck text = IsReport deck versions IsSerial text
+IsOutput (Run versions json) deck text = IsReport deck versions json IsAnyOrder text
+IsOutput (Serial versions json) deck text = IsReport deck versions json IsSerial text
 IsOutput Print deck text = text ≡ canonical deck
 
 -- the input is read as a deck, and the text is what the command writes for it

@@ -2,16 +2,16 @@
 use Rattle.std.specs.Prelude.{◌≡◌, ℕ, Bool, IsTrue, ◌⊎◌, List, Option, Result, Ok, Err}
 use Rattle.fs_io.specs.Bytes.{Adds, AddsFirst, Stays}
 use Rattle.fs_io.specs.Count.{Rose}
-use Rattle.framesweep_cli.specs.declared.command.Command.{Command}
-use Rattle.framesweep_cli.specs.declared.command.WordsFault.{WordsFault}
-use Rattle.framesweep_cli.specs.declared.command.WordsFault.TheVariants as words
+use Rattle.command_words.specs.declared.command.Command.{Command}
+use Rattle.command_words.specs.declared.command.WordsFault.{WordsFault}
+use Rattle.command_words.specs.declared.command.WordsFault.TheVariants as words
 use Rattle.framesweep_cli.specs.declared.ending.Ending.{Ending}
 use Rattle.framesweep_cli.specs.declared.ending.Ending.TheVariants.{Done, Refused, ReadFailed, WriteFailed, OutOfMemory}
 use Rattle.framesweep_cli.specs.declared.stop.Stop.{Stop}
 use Rattle.framesweep_cli.specs.declared.stop.Stop.TheVariants.{Read, Deck, Memory}
 use Rattle.framesweep_cli.specs.Endings.{Makes, Refuses, Says}
 use Rattle.framesweep_cli.specs.Lines.{words_line, read_line, write_line, memory_line, fault_line}
-use Rattle.framesweep_cli.specs.Words.{ReadsWords}
+use Rattle.command_words.specs.Words.{ReadsWords}
 
 abbrev pub status_of : Ending → ℕ
 status_of Done = 0

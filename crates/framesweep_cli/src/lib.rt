@@ -1,7 +1,6 @@
 //! The command line: what words ask for, and what is done for them.
 #![tactic(auto)]
 
-pub mod command;
 mod ending;
 mod input;
 mod lines;
@@ -10,7 +9,6 @@ mod stop;
 #[cfg(test)]
 mod tests;
 mod top;
-mod words;
 
+pub use command_words::{Command, WordsFault, read_words};
 pub use top::{framesweep, framesweep_alone};
-pub use words::read_words;

@@ -3,9 +3,9 @@
 ghost use Rattle.std.specs.Prelude.{◌≡◌, ◌≤◌, IfOk};
 ghost use Rattle.framesweep_cli.specs.Endings.{IsOutput, IsReport, IsSerial};
 
-use crate::command::Command;
+use command_words::Command;
 use deck_text::{Deck, print_deck};
-use report_text::report;
+use report_text::{report, report_json};
 use script_tree::items::Text;
 use script_tree::memory::OutOfMemory;
 use serial_machine::serial;
@@ -13,11 +13,14 @@ use std::alloc::Global;
 
 // The report of the run of a deck, thread after thread.
 #[tactic(auto, using(crate::proofs::Answered::report_laws))]
-fn run(alloc: Global, deck: &Deck, versions: u32) -> Result<Text, OutOfMemory>
-    ensures { IfOk result (IsReport deck.now versions IsSerial) }
+fn run(alloc: Global, deck: &Deck, versions: u32, json: bool) -> Result<Text, OutOfMemory>
+    ensures { IfOk result (IsReport deck.now versions json IsSerial) }
 {
     let graph = deck.graph();
     let finished = serial(alloc, graph, deck.scripts(), versions)?;
+    if json {
+        return report_json(alloc, graph, &finished);
+    }
     report(alloc, graph, &finished)
 }
 
@@ -28,6 +31,8 @@ pub fn output(alloc: Global, command: &Command, deck: &Deck) -> Result<Text, Out
 {
     match command {
         Command::Print => print_deck(alloc, deck),
-        Command::Run { versions } | Command::Serial { versions } => run(alloc, deck, *versions),
+        Command::Run { versions, json } | Command::Serial { versions, json } => {
+            run(alloc, deck, *versions, *json)
+        }
     }
 }

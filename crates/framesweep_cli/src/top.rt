@@ -5,13 +5,12 @@ ghost use Rattle.framesweep_cli.specs.Endings.{Makes, Says};
 ghost use Rattle.framesweep_cli.specs.Statuses.{Happened, Ends, Obeys, StopsSaying};
 ghost use Rattle.framesweep_cli.specs.Stops.{IsStopped};
 
-use crate::command::{Command, WordsFault};
 use crate::ending::Ending;
 use crate::input::{judge, read_input};
 use crate::lines::{MEMORY_LINE, READ_LINE, WORDS_LINE, WRITE_LINE, fault_line};
 use crate::output::output;
 use crate::stop::Stop;
-use crate::words::read_words;
+use command_words::{Command, WordsFault, read_words};
 use fs_io::sink::Sink;
 use fs_io::source::Source;
 use fs_io::whole::write_all;

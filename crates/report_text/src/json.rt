@@ -1,6 +1,6 @@
 // The report as JSON.
 
-ghost use Rattle.std.specs.Prelude.{◌≡◌, ◌++◌, ◌∷◌, [], length, map, IfOk, IfSome};
+ghost use Rattle.std.specs.Prelude.{◌≡◌, ◌++◌, ◌∷◌, [], length, map, IfOk};
 ghost use Rattle.std.specs.List.{zip};
 ghost use Rattle.serde_json.specs.View.{view};
 ghost use Rattle.script_tree.specs.Printed.{fault_text};
@@ -17,16 +17,6 @@ use serde_json::{Map, Value as Json, json, put};
 use signal_graph::call::Reply;
 use signal_graph::graph::Graph;
 use std::alloc::Global;
-
-// A name as a text. Its bytes are ASCII, so it always is one.
-fn name_text(name: &Name) -> Option<&str>
-    ensures { IfSome result (λ text. text.now ≡ name.now) }
-{
-    match str::from_utf8(name.as_slice()) {
-        Ok(text) => Some(text),
-        Err(_) => None,
-    }
-}
 
 fn fault_word(fault: Fault) -> &'static str
     ensures { result.now ≡ fault_text fault }
@@ -60,11 +50,8 @@ fn value_json(alloc: Global, value: Value) -> Result<Json, OutOfMemory>
 fn look_json(alloc: Global, name: &Name, value: Value) -> Result<Json, OutOfMemory>
     ensures { IfOk result (λ json. view json ≡ look_data (name.now, value)) }
 {
-    let Some(name) = name_text(name) else {
-        return Err(OutOfMemory);
-    };
     let value = value_json(alloc, value)?;
-    let json = json!(in alloc; {"name": name, "value": value})?;
+    let json = json!(in alloc; {"name": name.as_str(), "value": value})?;
     Ok(json)
 }
 

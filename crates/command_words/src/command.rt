@@ -6,10 +6,10 @@ use thiserror::Error;
 /// What the program is asked to do with the deck that it reads.
 #[derive(Clone, Copy, Debug, PartialEq, Eq)]
 pub enum Command {
-    /// Run it, with at most so many versions, and write the report.
-    Run { versions: u32 },
+    /// Run it, with at most so many versions, and write the report, as text or as JSON.
+    Run { versions: u32, json: bool },
     /// The same by the one-thread machine, thread after thread.
-    Serial { versions: u32 },
+    Serial { versions: u32, json: bool },
     /// Write it in its canonical form.
     Print,
 }
@@ -27,7 +27,7 @@ pub enum WordsFault {
 
 impl From<AllocError> for WordsFault {
     ghost use Rattle.std.specs.Prelude.{◌≡◌};
-    ghost use Rattle.framesweep_cli.specs.declared.command.WordsFault.TheVariants.{Memory};
+    ghost use Rattle.command_words.specs.declared.command.WordsFault.TheVariants.{Memory};
 
     ghost from_gives = { λ _ fault. fault ≡ Memory };
 

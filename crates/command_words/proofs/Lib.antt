@@ -1,0 +1,6 @@
+pub mod Limits
+mod DigitCases
+pub mod Shapes
+pub mod Tested
+pub mod Found
+pub mod Asked

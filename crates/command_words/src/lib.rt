@@ -1,0 +1,12 @@
+//! The words behind the program's name, and the command that they ask for.
+#![tactic(auto)]
+
+mod command;
+mod options;
+mod words;
+
+pub use crate::command::{Command, WordsFault};
+pub use crate::words::read_words;
+
+#[cfg(test)]
+mod tests;
