@@ -1,1 +1,6 @@
+pub mod Asked
+pub mod Collecting
+pub mod KeptLemmas
+pub mod LastDone
 pub mod Lists
+pub mod Places

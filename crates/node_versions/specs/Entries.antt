@@ -1,5 +1,5 @@
 -- A node's list: an entry for each call that reached the node, in the calls' order. A call is named by its version.
-use Rattle.std.specs.Prelude.{ℕ, Bool, true, false, not, ◌&&◌, ◌||◌, ◌==◌, ◌≡◌, List, [], ◌∷◌, ◌++◌, filter, Option, Some, None}
+use Rattle.std.specs.Prelude.{ℕ, Bool, true, false, not, ◌&&◌, ◌||◌, ◌==◌, ◌≡◌, List, [], ◌∷◌, ◌++◌, filter, Option, Some, None, slice_index_or}
 use Rattle.std.specs.List.{cons_option}
 use Rattle.std.specs.Option.{option_or}
 use Rattle.script_tree.specs.declared.value.Value.{Value}
@@ -156,7 +156,11 @@ OutEdge = ℕ × ℕ
 
 -- Of a call that has an entry: the entry of since stands at or before it, or isn't in the list.
 abbrev pub is_active : List Entry → ℕ → ℕ → Bool
-is_active es since t = not (has es since) || ((since == t) || behind es since t)
+is_active es since t = not (has es since) || has (up_to es t) since
+
+-- the since of the out-edge at an index
+abbrev pub since_at : List OutEdge → ℕ → ℕ
+since_at outs index = (slice_index_or outs index (0, 0)).1
 
 -- the nodes of the out-edges that are active for the call
 abbrev pub active_nodes : List Entry → List OutEdge → ℕ → List ℕ
@@ -194,3 +198,19 @@ pub record Versions : Type 0 where
   pub outs : List OutEdge
   pub room : ℕ
   pub outs_room : ℕ
+
+-- the list at opening: one entry, of version 0
+abbrev pub opened : ℕ → ℕ → Value → List (Option ℕ) → Versions
+opened room outs_room value picks = record {
+  entries = record { version = 0; slot = 0; state = Done value false picks } ∷ [];
+  outs = [];
+  room = room;
+  outs_room = outs_room;
+}
+
+-- the list with other entries, or other out-edges
+abbrev pub with_entries : Versions → List Entry → Versions
+with_entries list entries = record list { entries = entries }
+
+abbrev pub with_outs : Versions → List OutEdge → Versions
+with_outs list outs = record list { outs = outs }

@@ -2,5 +2,7 @@
 #![tactic(auto)]
 
 pub use entry::{Entry, State};
+pub use list::NodeList;
 
 mod entry;
+mod list;
