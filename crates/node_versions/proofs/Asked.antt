@@ -1,5 +1,5 @@
 -- What is known of a test that a closure tells, from the closure's answers.
-use Rattle.std.proofs.Common.{◌≡◌, ℕ, ◌+◌, ◌<◌, ◌≤◌, Bool, true, false, List, [], ◌∷◌, length, refl, sym, ap, ◌∙◌, arith, subst, zero, suc, Option, Some, None, Bor, inl, inr, ap₂, cond, not}
+use Rattle.std.proofs.Common.{◌≡◌, ℕ, ◌+◌, ◌<◌, ◌≤◌, Bool, true, false, List, [], ◌∷◌, length, refl, sym, arith, subst, zero, suc, Some, Bor, inl, inr, ap₂, cond, not}
 use Rattle.std.specs.List.{slice_get, slice_index_or, position_or_len}
 use Rattle.std.specs.Fn.{FnReturnsAt}
 use Rattle.std.proofs.lemmas.List.Sums.{position_or_len_is}

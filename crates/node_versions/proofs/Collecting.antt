@@ -1,13 +1,9 @@
 -- What stays of a list whose ended entries are its first ones.
-use Rattle.std.proofs.Common.{◌≡◌, ℕ, ◌+◌, ◌<◌, ◌≤◌, Bool, true, false, not, List, [], ◌∷◌, ◌++◌, length, take, drop, refl, sym, ap, ap₂, ◌∙◌, arith, subst, cond, zero, suc, Option, Some, None, true≢false, length-take}
-use Rattle.std.specs.List.{filter, slice_get, position_or_len, remove_range, cons_option}
-use Rattle.std.specs.Option.{IsSome, is_some}
+use Rattle.std.proofs.Common.{◌≡◌, ℕ, ◌+◌, ◌<◌, Bool, true, false, not, List, [], ◌∷◌, ◌++◌, length, take, drop, refl, sym, ap, ap₂, ◌∙◌, arith, cond, zero, suc, Option, Some, None, true≢false, length-take}
+use Rattle.std.specs.List.{filter, slice_get, remove_range, cons_option}
+use Rattle.std.specs.Option.{is_some}
 use Rattle.std.proofs.lemmas.Option.{slice_get-get_or}
-use Rattle.node_versions.specs.Entries.{Entry, last_done, collected, EndedIsPrefix}
-
--- how many entries stand before the first that has not ended
-abbrev pub ended_len : (Entry → Bool) → List Entry → ℕ
-ended_len ended es = position_or_len (λ e. not (ended e)) es
+use Rattle.node_versions.specs.Entries.{Entry, last_done, collected, ended_len, EndedIsPrefix, HasEndedPrefix}
 
 abbrev live : (Entry → Bool) → List Entry → List Entry
 live ended es = filter (λ e. not (ended e)) es
@@ -56,8 +52,11 @@ cut-collected ended (x ∷ xs) n k prefix e below found =
     cut_before es (drop n es) k _ (get_of_part n es k _ is) ∙ ap₂ (λ (o : Option Entry) (ys : List Entry). cons_option o ys) last (ap (λ m. drop m es) e ∙ sym split.1)
 
 -- Where one of the ended entries is Done, the search finds one.
-pub none_found : (ended : Entry → Bool) (es : List Entry) (n : ℕ) → EndedIsPrefix ended es → IsSome (last_done (filter ended es)) → n ≡ ended_len ended es → last_done (take n es) ≡ None → ⊥
-none_found ended es n prefix some e none =
-    let split = parts ended es prefix in
+pub none_found : (ended : Entry → Bool) (es : List Entry) (n : ℕ) → HasEndedPrefix ended es → n ≡ ended_len ended es → last_done (take n es) ≡ None → ⊥
+none_found ended es n has e none =
+    let split = parts ended es has.prefix in
     let nothing = ap last_done split.0 ∙ ap (λ m. last_done (take m es)) (sym e) ∙ none in
-    absurd (true≢false (sym some ∙ ap is_some nothing))
+    absurd (true≢false (sym has.done ∙ ap is_some nothing))
+
+pub flips : (b t : Bool) → not b ≡ t → b ≡ not t
+flips b t h = grind (arith, h)

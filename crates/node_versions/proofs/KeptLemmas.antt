@@ -1,15 +1,14 @@
 -- Each change keeps a list within its rooms, one entry a call, and no out-edge twice.
-use Rattle.std.proofs.Common.{◌≡◌, ℕ, ◌+◌, ◌<◌, ◌≤◌, Bool, true, false, not, ◌&&◌, ◌||◌, ◌==◌, List, [], ◌∷◌, ◌++◌, length, take, drop, refl, sym, ap, ◌∙◌, arith, subst, cond, true≢false, zero, suc, length-append, length-take, length-drop}
+use Rattle.std.proofs.Common.{◌≡◌, ℕ, ◌+◌, ◌<◌, ◌≤◌, Bool, true, false, ◌||◌, ◌==◌, List, [], ◌∷◌, ◌++◌, length, take, drop, refl, sym, ap, ◌∙◌, arith, subst, cond, true≢false, zero, suc, length-append, length-take, length-drop}
 use Rattle.std.specs.List.{insert, filter, remove_range}
 use Rattle.std.specs.Prelude.{Result, Ok, Err, IsOk, OnOk}
 use Rattle.std.specs.List.Retain.{RetainsInTurn}
 use Rattle.std.proofs.lemmas.Bool.Decides.{eqb_tells}
 use Rattle.std.proofs.lemmas.List.{take-append-drop}
 use Rattle.std.proofs.lemmas.List.Edits.{length-insert}
-use Rattle.smallvec.specs.SmallVec.{SmallVec, with_items}
-use Rattle.node_versions.specs.Entries.{Entry, State, OutEdge, IsUnique, AreDifferent, has, has_out, is_edge, with_state, without_out}
+use Rattle.smallvec.specs.SmallVec.{SmallVec}
+use Rattle.node_versions.specs.Entries.{Entry, State, OutEdge, IsUnique, AreDifferent, has, has_out, is_edge, with_state}
 use Rattle.node_versions.specs.Kept.{IsKept}
-use Rattle.node_versions.proofs.Lists.{has-append}
 
 -- ---- one entry more
 
@@ -163,12 +162,12 @@ module _ {entries : SmallVec Entry} {outs : SmallVec OutEdge} {room outs_room : 
       let long = ap length items ∙ length-with_state t s entries.items in
       kept_with_entries new k (omega (arith, long, k.some)) (omega (arith, long, k.fits)) same (subst IsUnique (sym items) (IsUnique-with_state t s entries.items k.unique))
 
-  pub kept_cut : (new between : SmallVec Entry) (i n : ℕ) → IsKept entries outs room outs_room → i < n → n ≤ length entries.items
-      → between.items ≡ remove_range entries.items (i + 1) n → between.capacity ≡ entries.capacity → new.items ≡ remove_range between.items 0 i → new.capacity ≡ between.capacity → IsKept new outs room outs_room
-  kept_cut new between i n k lt le items same items' same' =
+  pub kept_cut : (new : SmallVec Entry) (i n : ℕ) → IsKept entries outs room outs_room → i < n → n ≤ length entries.items
+      → new.items ≡ remove_range (remove_range entries.items (i + 1) n) 0 i → new.capacity ≡ entries.capacity → IsKept new outs room outs_room
+  kept_cut new i n k lt le items same =
+      let between = remove_range entries.items (i + 1) n in
       let first = length-remove_range entries.items (i + 1) n (omega (arith, lt)) le in
-      let cut = ap length items in
-      let second = length-remove_range between.items 0 i (omega arith) (omega (arith, first, cut, lt, le)) in
-      let cut_again = ap length items' in
-      kept_with_entries new k (omega (arith, first, cut, second, cut_again, lt, le)) (omega (arith, first, cut, second, cut_again, k.fits, lt, le)) (same' ∙ same)
-      (subst IsUnique (sym items') (IsUnique-remove_range between.items 0 i (omega arith) (subst IsUnique (sym items) (IsUnique-remove_range entries.items (i + 1) n (omega (arith, lt)) k.unique))))
+      let second = length-remove_range between 0 i (omega arith) (omega (arith, first, lt, le)) in
+      let long = ap length items in
+      kept_with_entries new k (omega (arith, first, second, long, lt, le)) (omega (arith, first, second, long, k.fits, lt, le)) same
+      (subst IsUnique (sym items) (IsUnique-remove_range between 0 i (omega arith) (IsUnique-remove_range entries.items (i + 1) n (omega (arith, lt)) k.unique)))

@@ -1,9 +1,8 @@
 -- The parts of a list around a place, and the place as an index.
-use Rattle.std.proofs.Common.{◌≡◌, ℕ, ◌+◌, Bool, true, false, not, ◌&&◌, ◌||◌, ◌==◌, List, [], ◌∷◌, ◌++◌, length, take, drop, insert, refl, sym, ap, ap₂, ◌∙◌, arith, Option, Some, None}
-use Rattle.std.specs.List.{position_or_len, position}
-use Rattle.std.specs.Option.{option_or, is_some, option_map}
-use Rattle.std.proofs.lemmas.Bool.Decides.{eqb_tells}
-use Rattle.node_versions.specs.Entries.{Entry, State, has, at, behind, before, up_to, last_done, only_done, front, rest, placed, is_of, is_active}
+use Rattle.std.proofs.Common.{◌≡◌, ℕ, Bool, ◌||◌, List, [], ◌∷◌, ◌++◌, length, take, drop, insert, refl, sym, ap, ap₂, ◌∙◌, arith}
+use Rattle.std.specs.List.{position_or_len}
+use Rattle.std.specs.Option.{option_or}
+use Rattle.node_versions.specs.Entries.{Entry, has, last_done, front, rest, placed}
 
 pub front-rest : (stops : Entry → Bool) (es : List Entry) → front stops es ++ rest stops es ≡ es
 front-rest stops [] = refl

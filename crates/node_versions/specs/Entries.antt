@@ -1,7 +1,7 @@
 -- A node's list: an entry for each call that reached the node, in the calls' order. A call is named by its version.
 use Rattle.std.specs.Prelude.{ℕ, Bool, true, false, not, ◌&&◌, ◌||◌, ◌==◌, ◌≡◌, List, [], ◌∷◌, ◌++◌, filter, Option, Some, None, slice_index_or}
-use Rattle.std.specs.List.{cons_option}
-use Rattle.std.specs.Option.{option_or}
+use Rattle.std.specs.List.{cons_option, position_or_len}
+use Rattle.std.specs.Option.{option_or, IsSome}
 use Rattle.script_tree.specs.declared.value.Value.{Value}
 use Rattle.script_tree.specs.declared.value.Value.TheVariants as value
 use Rattle.script_tree.specs.declared.value.Fault.TheVariants.{NoChoice}
@@ -139,14 +139,23 @@ abbrev pub with_state : ℕ → State → List Entry → List Entry
 with_state t state [] = []
 with_state t state (e ∷ es) = elim (e.version == t) [ true ↦ record e { state = state } ∷ es | false ↦ e ∷ with_state t state es ]
 
--- the list in which of the ended entries only the last Done stays
-abbrev pub collected : (Entry → Bool) → List Entry → List Entry
-collected ended es = cons_option (last_done (filter ended es)) (filter (λ e. not (ended e)) es)
-
 -- No entry that has ended stands behind one that has not.
 abbrev pub EndedIsPrefix : (Entry → Bool) → List Entry → Type 0
 EndedIsPrefix ended [] = Unit {0}
 EndedIsPrefix ended (e ∷ es) = elim (ended e) [ true ↦ EndedIsPrefix ended es | false ↦ filter ended es ≡ [] ]
+
+-- The entries that have ended are the first ones, and one of them is Done.
+pub record HasEndedPrefix (ended : Entry → Bool) (es : List Entry) : Type 0 where
+  pub prefix : EndedIsPrefix ended es
+  pub done : IsSome (last_done (filter ended es))
+
+-- how many entries stand before the first that has not ended
+abbrev pub ended_len : (Entry → Bool) → List Entry → ℕ
+ended_len ended es = position_or_len (λ e. not (ended e)) es
+
+-- the list in which of the ended entries only the last Done stays
+abbrev pub collected : (Entry → Bool) → List Entry → List Entry
+collected ended es = cons_option (last_done (filter ended es)) (filter (λ e. not (ended e)) es)
 
 -- ---- out-edges
 

@@ -1,8 +1,9 @@
 // One node's list over small vectors.
-ghost use Rattle.std.specs.Prelude.{◌≡◌, ◌<◌, ◌≤◌, ◌+◌, length, insert, filter, IsTrue, IfOk, IfSome, IfNone, Some, None, slice_get, not, false};
-ghost use Rattle.std.specs.List.{position, position_or_len};
+ghost use Rattle.std.specs.Prelude.{◌≡◌, ◌<◌, ◌≤◌, ◌+◌, length, insert, IsTrue, IfOk, IfSome, IfNone, Some, None, slice_get, not, false};
+ghost use Rattle.std.specs.List.{position, position_or_len, remove_range};
 ghost use Rattle.std.specs.Option.{IsSome, option_copied, option_map};
-ghost use Rattle.node_versions.specs.Entries.{Frame, Done, IsUnique, AreDifferent, has, at, is_of, is_mark, is_frame, value_of, picks_of, state_of, up_to, before, last_done, value_at, value_before, picks_at, picks_before, with_state, is_active, since_at, has_out, with_out, without_out, EndedIsPrefix, collected, opened, with_entries, with_outs};
+ghost use Rattle.node_versions.specs.Entries.{Frame, Done, IsUnique, AreDifferent, has, at, is_of, is_mark, is_frame, value_of, picks_of, state_of, up_to, before, last_done, value_at, value_before, picks_at, picks_before, with_state, is_active, since_at, has_out, with_out, without_out, HasEndedPrefix, ended_len, collected, opened, with_entries, with_outs};
+ghost use Rattle.smallvec.specs.SmallVec.{small_vec_len};
 ghost use Rattle.node_versions.specs.Answers.{IsAskable, AnswersBy, AnswersTo};
 
 use crate::entry::{Entry, State};
@@ -243,25 +244,21 @@ impl NodeList {
         self.outs.retain(|edge| edge.0 != node || edge.1 != since);
     }
 
-    /// Of the entries that have ended only the last Done stays. Answers how many went.
+    /// Of the entries that have ended only the last Done stays. Answers how many went. The ended entries are the first
+    /// ones of the list, and one of them is Done. `ended` is asked of entries of this list alone. Takes no memory.
     pub fn collect<F: Fn(&Entry) -> bool>(&mut self, ended: F) -> u32
         requires askable { IsAskable F.Fn ended self.old.entries }
-        requires ended { AnswersTo F.Fn ended self.old.entries (λ test. EndedIsPrefix test self.old.entries × IsSome (last_done (filter test self.old.entries))) }
-        ensures list { AnswersBy F.Fn ended self.old.entries (λ test. self.new ≡ with_entries self.old (collected test self.old.entries)) }
+        requires ended { AnswersTo F.Fn ended self.old.entries (λ test. HasEndedPrefix test self.old.entries) }
+        ensures list { AnswersBy F.Fn ended self.old.entries (λ test. HasEndedPrefix test self.old.entries → self.new ≡ with_entries self.old (collected test self.old.entries)) }
         ensures gone { result + length self.new.entries ≡ length self.old.entries }
     {
-        let count = self.place_of(
-            |entry|
-                requires { F.pre ended entry }
-                ensures { F.post ended entry.entry (not result) }
-            { !ended(entry) },
-        ) as usize;
-        let Some(kept) = last_done_place(&self.entries.as_slice()[..count]) else {
+        let count = self.ended_len(&ended);
+        let ended_part = &self.entries.as_slice()[..count as usize];
+        let Some(kept) = last_done_place(ended_part) else {
             return 0;
         };
-        drop(self.entries.drain(kept + 1..count));
-        drop(self.entries.drain(..kept));
-        (count - 1) as u32
+        keep_one(&mut self.entries, kept, count as usize);
+        count - 1
     }
 
     /// What holds of every list: there is an entry, there are no more entries and out-edges than there is room for, no two
@@ -294,6 +291,20 @@ impl NodeList {
             return;
         };
         entry.state = state;
+    }
+
+    // How many entries stand before the first that has not ended.
+    fn ended_len<F: Fn(&Entry) -> bool>(&self, ended: &F) -> u32
+        requires { IsAskable F.Fn ended.now self.now.entries }
+        ensures place { AnswersBy F.Fn ended.entry.now self.now.entries (λ test. result ≡ ended_len test self.now.entries) }
+        ensures bound { result ≤ length self.now.entries }
+    {
+        self.place_of(
+            |entry|
+                requires { F.pre ended.now entry }
+                ensures { F.post ended.entry.now entry.entry (not result) }
+            { !ended(entry) },
+        )
     }
 
     // The entries up to the version's, and those before it.
@@ -355,4 +366,15 @@ fn picks_in(done: Option<&Entry>) -> Picks
         Some(entry) => entry.state.picks(),
         None => Picks::new(),
     }
+}
+
+// Of the first `count` entries only the one at the index `kept` stays.
+fn keep_one(entries: &mut SmallVec<Entry, INLINE_ENTRIES>, kept: usize, count: usize)
+    requires kept { kept < count }
+    requires count { count ≤ small_vec_len entries.old }
+    ensures items { entries.new.items ≡ remove_range (remove_range entries.old.items (kept + 1) count) 0 kept }
+    ensures capacity { entries.new.capacity ≡ entries.old.capacity }
+{
+    drop(entries.drain(kept + 1..count));
+    drop(entries.drain(..kept));
 }

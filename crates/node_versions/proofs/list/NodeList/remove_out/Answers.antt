@@ -1,7 +1,6 @@
-use Rattle.std.proofs.Common.{◌≡◌, ap, ◌∙◌, rules, not}
-use Rattle.std.proofs.lemmas.Bool.Decides.{eqb_tells}
+use Rattle.std.proofs.Common.{◌≡◌, rules, not}
 use borrow.Author.Tests.{tests}
-use Rattle.node_versions.specs.Entries.{Versions, with_outs, without_out, OutEdge, is_edge}
+use Rattle.node_versions.specs.Entries.{without_out, is_edge}
 use Rattle.node_versions.proofs.KeptLemmas.{kept_fewer_outs, filter-retained}
 use Rattle.node_versions.proofs.Places.{replaced_outs}
 use Rattle.node_versions.proofs.list.NodeList.remove_out.Goals as goal

@@ -1,4 +1,4 @@
-use Rattle.std.proofs.Common.{length, ap, sym, ◌∙◌, arith, refl}
+use Rattle.std.proofs.Common.{length, ap, arith, refl}
 use Rattle.std.proofs.lemmas.Bool.{false≢true}
 use Rattle.node_versions.specs.Entries.{Versions, with_state}
 use Rattle.node_versions.proofs.Places.{place-below, seen_stated, replaced_entries}
