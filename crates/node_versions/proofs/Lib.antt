@@ -1,5 +1,6 @@
 pub mod Asked
 pub mod Collecting
+pub mod Indexes
 pub mod KeptLemmas
 pub mod LastDone
 pub mod Lists

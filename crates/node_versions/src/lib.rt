@@ -5,4 +5,5 @@ pub use entry::{Entry, State};
 pub use list::NodeList;
 
 mod entry;
+pub mod laws;
 mod list;
