@@ -1,9 +1,9 @@
 -- What stays of a list whose ended entries are its first ones.
-use Rattle.std.proofs.Common.{◌≡◌, ℕ, ◌+◌, ◌<◌, Bool, true, false, not, List, [], ◌∷◌, ◌++◌, length, take, drop, refl, sym, ap, ap₂, ◌∙◌, arith, cond, zero, suc, Option, Some, None, true≢false, length-take}
+use Rattle.std.proofs.Common.{◌≡◌, ℕ, ◌+◌, ◌<◌, Bool, true, false, not, List, [], ◌∷◌, ◌++◌, length, take, drop, refl, sym, ap, ap₂, ◌∙◌, arith, subst, cond, zero, suc, Option, Some, None, true≢false, length-take}
 use Rattle.std.specs.List.{filter, slice_get, remove_range, cons_option}
 use Rattle.std.specs.Option.{is_some}
 use Rattle.std.proofs.lemmas.Option.{slice_get-get_or}
-use Rattle.node_versions.specs.Entries.{Entry, last_done, collected, ended_len, EndedIsPrefix, HasEndedPrefix}
+use Rattle.node_versions.specs.Entries.{Versions, with_entries, Entry, last_done, collected, ended_len, EndedIsPrefix, HasEndedPrefix}
 
 abbrev live : (Entry → Bool) → List Entry → List Entry
 live ended es = filter (λ e. not (ended e)) es
@@ -60,3 +60,12 @@ none_found ended es n has e none =
 
 pub flips : (b t : Bool) → not b ≡ t → b ≡ not t
 flips b t h = grind (arith, h)
+
+-- The list as it is seen after it was cut.
+pub seen_cut : (old now : Versions) → old ≡ now → (ended : Entry → Bool) (n k : ℕ) → HasEndedPrefix ended now.entries → n ≡ ended_len ended now.entries
+    → (k < length (take n old.entries)) × (slice_get (take n old.entries) k ≡ last_done (take n old.entries))
+    → (new : List Entry) → new ≡ remove_range (remove_range old.entries (k + 1) n) 0 k → with_entries old new ≡ with_entries now (collected ended now.entries)
+seen_cut old now is ended n k has place found new cut =
+    let prefix = subst (λ (v : Versions). EndedIsPrefix ended v.entries) (sym is) has.prefix in
+    let count = place ∙ ap (λ (v : Versions). ended_len ended v.entries) (sym is) in
+    ap (with_entries old) (cut ∙ cut-collected ended old.entries n k prefix count found.0 found.1) ∙ ap (λ (v : Versions). with_entries v (collected ended v.entries)) is

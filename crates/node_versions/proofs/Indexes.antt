@@ -1,18 +1,10 @@
 -- The words on lists by indexes.
-use Rattle.std.proofs.Common.{◌≡◌, ℕ, ◌+◌, ◌<◌, Bool, true, false, not, ◌&&◌, ◌||◌, ◌==◌, cond, List, [], ◌∷◌, length, nat_lt, refl, sym, ap, ◌∙◌, arith, subst, suc, Option, Some, None, true≢false}
-use Rattle.std.specs.List.{position, position_or_len, slice_get}
-use Rattle.std.specs.Option.{is_some}
+use Rattle.std.proofs.Common.{◌≡◌, ℕ, ◌+◌, ◌<◌, ◌≤◌, Bool, true, false, not, ◌||◌, ◌==◌, cond, List, [], ◌∷◌, length, nat_lt, refl, sym, ap, ◌∙◌, arith, subst, suc, Option, Some, None, true≢false}
+use Rattle.std.specs.List.{position_or_len, slice_get}
 use Rattle.std.proofs.lemmas.Bool.Decides.{eqb_tells, nat_tests}
 use Rattle.std.proofs.lemmas.Bool.{eqb-true}
-use Rattle.node_versions.specs.Entries.{Entry, State, is_frame, is_of, has, at, behind, up_to, IsUnique, first_open, is_active}
+use Rattle.node_versions.specs.Entries.{Entry, State, is_frame, has, at, behind, up_to, IsUnique, IsEntryAt, IsFirstOpenAt, first_open, is_active}
 use Rattle.node_versions.proofs.Places.{place, has-place}
-
--- the index that is found is the first at which the test passes
-found_at : (test : Entry → Bool) (es : List Entry) (i : ℕ) → position test es ≡ Some i → i ≡ position_or_len test es
-found_at test es i h = grind (arith, nat_tests, h)
-
-pub entry_has_index : (es : List Entry) (t : ℕ) → is_some (position (is_of t) es) ≡ has es t
-entry_has_index es t = let r = has-place es t in grind (arith, nat_tests, r)
 
 one_more : (n : ℕ) → 1 + n ≡ suc n
 one_more n = omega arith
@@ -31,8 +23,17 @@ entry_at_place (x ∷ xs) t e h = go (x.version == t) refl h (entry_at_place xs 
     go true k h r = here k h
     go false k h r = let told = r (ap (slice_get (x ∷ xs)) (sym (one_more (place xs t))) ∙ h) in (told.0, λ test. let at = told.1 test in grind (arith, k, at))
 
-pub entry_at_index : (es : List Entry) (t i : ℕ) (e : Entry) → position (is_of t) es ≡ Some i → slice_get es i ≡ Some e → (e.version ≡ t) × ((test : State → Bool) → at test es t ≡ test e.state)
-entry_at_index es t i e h k = entry_at_place es t e (ap (slice_get es) (sym (found_at (is_of t) es i h)) ∙ k)
+pub entry_at_index : (es : List Entry) (t i : ℕ) → i ≡ place es t → IsEntryAt es t i
+entry_at_index es t i at = record {
+  version = λ e k. (entry_at_place es t e (ap (slice_get es) (sym at) ∙ k)).0;
+  state = λ e test k. (entry_at_place es t e (ap (slice_get es) (sym at) ∙ k)).1 test;
+}
+
+pub has_index : (es : List Entry) (t i : ℕ) → i ≡ place es t → i < length es → true ≡ has es t
+has_index es t i at h = let r = has-place es t in grind (arith, nat_tests, r, at, h)
+
+pub has_no_index : (es : List Entry) (t i : ℕ) → i ≡ place es t → length es ≤ i → false ≡ has es t
+has_no_index es t i at h = let r = has-place es t in grind (arith, nat_tests, r, at, h)
 
 -- the test of `NodeList::first_open`
 abbrev pub opens : Entry → Bool
@@ -49,8 +50,8 @@ first_open_at_place (x ∷ xs) e h = go (is_frame x.state) h (first_open_at_plac
     go true h r = grind (arith, h)
     go false h r = r (ap (slice_get (x ∷ xs)) (sym (one_more n)) ∙ h)
 
-pub first_open_at_index : (es : List Entry) (i : ℕ) (e : Entry) → position opens es ≡ Some i → slice_get es i ≡ Some e → first_open es ≡ Some e.version
-first_open_at_index es i e h k = first_open_at_place es e (ap (slice_get es) (sym (found_at opens es i h)) ∙ k)
+pub first_open_at_index : (es : List Entry) (i : ℕ) → i ≡ position_or_len opens es → IsFirstOpenAt es i
+first_open_at_index es i at = λ e k. first_open_at_place es e (ap (slice_get es) (sym at) ∙ k)
 
 no_place : (es : List Entry) → nat_lt (position_or_len opens es) (length es) ≡ false → first_open es ≡ None
 no_place [] h = refl
@@ -63,8 +64,8 @@ no_place (x ∷ xs) h = go (is_frame x.state) h (no_place xs)
     go true h r = absurd (grind (arith, nat_tests, h))
     go false h r = r (grind (arith, nat_tests, h))
 
-pub no_first_open : (es : List Entry) → position opens es ≡ None → first_open es ≡ None
-no_first_open es h = no_place es (grind (arith, nat_tests, h))
+pub no_first_open : (es : List Entry) (i : ℕ) → i ≡ position_or_len opens es → length es ≤ i → first_open es ≡ None
+no_first_open es i at h = no_place es (grind (arith, nat_tests, at, h))
 
 pub behind_by_index : (es : List Entry) (t u : ℕ) → IsUnique es → has es u ≡ true → behind es t u ≡ nat_lt (place es t) (place es u)
 behind_by_index [] t u q h = absurd (true≢false (sym h))

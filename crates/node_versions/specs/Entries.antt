@@ -1,5 +1,5 @@
 -- A node's list: an entry for each call that reached the node, in the calls' order. A call is named by its version.
-use Rattle.std.specs.Prelude.{ℕ, Bool, true, false, not, ◌&&◌, ◌||◌, ◌==◌, ◌≡◌, List, [], ◌∷◌, ◌++◌, filter, Option, Some, None, slice_index_or}
+use Rattle.std.specs.Prelude.{ℕ, Bool, true, false, not, ◌&&◌, ◌||◌, ◌==◌, ◌≡◌, List, [], ◌∷◌, ◌++◌, filter, Option, Some, None, slice_get, slice_index_or}
 use Rattle.std.specs.List.{cons_option, position_or_len}
 use Rattle.std.specs.Option.{option_or, IsSome}
 use Rattle.script_tree.specs.declared.value.Value.{Value}
@@ -82,6 +82,15 @@ before (e ∷ es) t = elim (e.version == t) [ true ↦ [] | false ↦ e ∷ befo
 abbrev pub up_to : List Entry → ℕ → List Entry
 up_to [] t = []
 up_to (e ∷ es) t = elim (e.version == t) [ true ↦ e ∷ [] | false ↦ e ∷ up_to es t ]
+
+-- The entry at the index is the call's.
+pub record IsEntryAt (es : List Entry) (t i : ℕ) : Type 0 where
+  pub version : (e : Entry) → slice_get es i ≡ Some e → e.version ≡ t
+  pub state : (e : Entry) (test : State → Bool) → slice_get es i ≡ Some e → at test es t ≡ test e.state
+
+-- The entry at the index is the first Frame.
+abbrev pub IsFirstOpenAt : List Entry → ℕ → Type 0
+IsFirstOpenAt es i = (e : Entry) → slice_get es i ≡ Some e → first_open es ≡ Some e.version
 
 -- ---- values and picks
 

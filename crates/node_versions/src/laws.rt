@@ -1,28 +1,7 @@
 // Laws that tie the words on lists to indexes, for crates that reason about lists. The functions do nothing when they run.
-ghost use Rattle.std.specs.Prelude.{◌≡◌, ℕ, ◌+◌, ◌==◌, not, ◌&&◌, ◌||◌, Bool, true, false, List, take, insert, Option, Some, None, slice_get, nat_lt};
-ghost use Rattle.std.specs.List.{position, position_or_len};
-ghost use Rattle.std.specs.Option.{is_some};
-ghost use Rattle.node_versions.specs.Entries.{Entry, State, is_frame, is_of, has, at, behind, IsUnique, first_open, before, up_to, placed, is_active};
-
-/// A call has an entry where `entry_of` gives an index.
-pub fn entry_has_index()
-    ensures { (es : List Entry) (t : ℕ) → is_some (position (is_of t) es) ≡ has es t }
-{}
-
-/// The entry at the index that `entry_of` gives is the call's.
-pub fn entry_at_index()
-    ensures { (es : List Entry) (t i : ℕ) (e : Entry) → position (is_of t) es ≡ Some i → slice_get es i ≡ Some e → (e.version ≡ t) × ((test : State → Bool) → at test es t ≡ test e.state) }
-{}
-
-/// The entry at the index that `NodeList::first_open` gives is the first Frame.
-pub fn first_open_at_index()
-    ensures { (es : List Entry) (i : ℕ) (e : Entry) → position (λ x. is_frame x.state) es ≡ Some i → slice_get es i ≡ Some e → first_open es ≡ Some e.version }
-{}
-
-/// Where `NodeList::first_open` gives no index, there is no first Frame.
-pub fn no_first_open()
-    ensures { (es : List Entry) → position (λ x. is_frame x.state) es ≡ None → first_open es ≡ None }
-{}
+ghost use Rattle.std.specs.Prelude.{◌≡◌, ℕ, ◌+◌, not, Bool, true, List, take, insert, nat_lt};
+ghost use Rattle.std.specs.List.{position_or_len};
+ghost use Rattle.node_versions.specs.Entries.{Entry, is_of, has, behind, IsUnique, before, up_to, placed, is_active};
 
 /// An entry that is inserted at its place stands before the first that stops.
 pub fn placed_at_index()

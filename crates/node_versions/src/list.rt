@@ -1,8 +1,8 @@
 // One node's list over small vectors.
 ghost use Rattle.std.specs.Prelude.{◌≡◌, ◌<◌, ◌≤◌, ◌+◌, length, insert, IsTrue, IfOk, IfSome, IfNone, Some, None, slice_get, not, false};
 ghost use Rattle.std.specs.List.{position, position_or_len, remove_range};
-ghost use Rattle.std.specs.Option.{IsSome, option_copied, option_map};
-ghost use Rattle.node_versions.specs.Entries.{Frame, Done, IsUnique, AreDifferent, has, at, is_of, is_mark, is_frame, value_of, picks_of, state_of, up_to, before, last_done, value_at, value_before, picks_at, picks_before, with_state, is_active, since_at, has_out, with_out, without_out, HasEndedPrefix, ended_len, collected, opened, with_entries, with_outs};
+ghost use Rattle.std.specs.Option.{IsSome, is_some, option_copied};
+ghost use Rattle.node_versions.specs.Entries.{Frame, Done, IsUnique, AreDifferent, has, at, is_of, is_mark, is_frame, value_of, picks_of, state_of, up_to, before, last_done, value_at, value_before, picks_at, picks_before, with_state, is_active, since_at, IsEntryAt, IsFirstOpenAt, first_open, has_out, with_out, without_out, HasEndedPrefix, ended_len, collected, opened, with_entries, with_outs};
 ghost use Rattle.smallvec.specs.SmallVec.{small_vec_len};
 ghost use Rattle.node_versions.specs.Answers.{IsAskable, AnswersBy, AnswersTo};
 
@@ -96,7 +96,10 @@ impl NodeList {
 
     /// The index of the version's entry. None exactly where it has none.
     pub fn entry_of(&self, version: u32) -> Option<u32>
-        ensures { result ≡ position (is_of version) self.now.entries }
+        ensures index { result ≡ position (is_of version) self.now.entries }
+        ensures bound { IfSome result (λ i. i < length self.now.entries) }
+        ensures exact { is_some result ≡ has self.now.entries version }
+        ensures entry { IfSome result (IsEntryAt self.now.entries version) }
     {
         let index = self.index_of(version);
         if index < self.len() {
@@ -108,7 +111,10 @@ impl NodeList {
 
     /// The index of the first Frame. None exactly where there is none.
     pub fn first_open(&self) -> Option<u32>
-        ensures { result ≡ position (λ e. is_frame e.state) self.now.entries }
+        ensures index { result ≡ position (λ e. is_frame e.state) self.now.entries }
+        ensures bound { IfSome result (λ i. i < length self.now.entries) }
+        ensures some { IfSome result (IsFirstOpenAt self.now.entries) }
+        ensures none { IfNone result (first_open self.now.entries ≡ None) }
     {
         let index = self.place_of(|entry| entry.state.is_frame());
         if index < self.len() {

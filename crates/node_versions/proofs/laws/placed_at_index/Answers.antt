@@ -1,4 +1,3 @@
-use Rattle.std.proofs.Common.{sym}
 use Rattle.node_versions.proofs.Lists.{placed-insert}
 use Rattle.node_versions.proofs.laws.placed_at_index.Goals as goal
 

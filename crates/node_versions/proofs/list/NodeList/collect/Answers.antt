@@ -1,9 +1,8 @@
 use Rattle.std.proofs.Common.{◌≡◌, ◌<◌, ◌≤◌, List, length, take, ap, sym, ◌∙◌, subst, arith, length-take}
 use Rattle.std.specs.List.{slice_get}
-use Rattle.node_versions.specs.Entries.{Entry, Versions, last_done, EndedIsPrefix, ended_len, collected}
-use Rattle.node_versions.proofs.Collecting.{none_found, cut-collected}
+use Rattle.node_versions.specs.Entries.{Entry, Versions, last_done}
+use Rattle.node_versions.proofs.Collecting.{none_found, seen_cut}
 use Rattle.node_versions.proofs.KeptLemmas.{kept_cut}
-use Rattle.node_versions.proofs.Places.{replaced_entries}
 use Rattle.node_versions.proofs.list.NodeList.collect.Goals as goal
 
 pub returns-in_default-clause-list : goal.returns-in_default-clause-list
@@ -21,7 +20,5 @@ invariant_of-self g c =
 
 pub returns-clause-list : goal.returns-clause-list
 returns-clause-list g c = λ test tells ended.
-    let view = ap (λ (v : Versions). v.entries) c.self.view_is in
-    let place = c.ended_len-count.ensures.place test tells ∙ ap (ended_len test) (sym view) in
-    let some = subst (λ (xs : List Entry). (c.in-Some.kept < length (take c.ended_len-count.result xs)) × (slice_get (take c.ended_len-count.result xs) c.in-Some.kept ≡ last_done (take c.ended_len-count.result xs))) c.as_slice.ensures c.in-Some.ensures.some in
-    replaced_entries _ c.args.self.now c.self.view_is c.keep_one.new.entries.items (collected test) (c.keep_one.ensures.items ∙ cut-collected test c.self.inside.entries.items c.ended_len-count.result c.in-Some.kept (subst (λ (v : Versions). EndedIsPrefix test v.entries) (sym c.self.view_is) ended.prefix) place some.0 some.1)
+    let Found = λ (xs : List Entry). (c.in-Some.kept < length (take c.ended_len-count.result xs)) × (slice_get (take c.ended_len-count.result xs) c.in-Some.kept ≡ last_done (take c.ended_len-count.result xs)) in
+    seen_cut _ c.args.self.now c.self.view_is test c.ended_len-count.result c.in-Some.kept ended (c.ended_len-count.ensures.place test tells) (subst Found c.as_slice.ensures c.in-Some.ensures.some) _ c.keep_one.ensures.items
