@@ -7,3 +7,5 @@ pub use list::NodeList;
 mod entry;
 pub mod laws;
 mod list;
+#[cfg(test)]
+mod tests;
