@@ -1,0 +1,173 @@
+-- Each change keeps a list within its rooms, one entry a call, and no out-edge twice.
+use Rattle.std.proofs.Common.{◌≡◌, ℕ, ◌+◌, ◌<◌, ◌≤◌, Bool, true, false, ◌||◌, ◌==◌, List, [], ◌∷◌, ◌++◌, length, take, drop, refl, sym, ap, ◌∙◌, arith, subst, cond, true≢false, zero, suc, length-append, length-take, length-drop}
+use Rattle.std.specs.List.{insert, filter, remove_range}
+use Rattle.std.specs.Prelude.{Result, Ok, Err, IsOk, OnOk}
+use Rattle.std.specs.List.Retain.{RetainsInTurn}
+use Rattle.std.proofs.lemmas.Bool.Decides.{eqb_tells}
+use Rattle.std.proofs.lemmas.List.{take-append-drop}
+use Rattle.std.proofs.lemmas.List.Edits.{length-insert}
+use Rattle.smallvec.specs.SmallVec.{SmallVec}
+use Rattle.node_versions.specs.Entries.{Entry, State, OutEdge, IsUnique, AreDifferent, has, has_out, is_edge, with_state}
+use Rattle.node_versions.specs.Kept.{IsKept}
+
+-- ---- one entry more
+
+pub has-put : (xs ys : List Entry) (e : Entry) (u : ℕ) → has (xs ++ e ∷ ys) u ≡ ((e.version == u) || has (xs ++ ys) u)
+has-put [] ys e u = refl
+has-put (x ∷ xs) ys e u = let r = has-put xs ys e u in grind (arith, r)
+
+pub IsUnique-put : (xs ys : List Entry) (e : Entry) → IsUnique (xs ++ ys) → has (xs ++ ys) e.version ≡ false → IsUnique (xs ++ e ∷ ys)
+IsUnique-put [] ys e q h = (h, q)
+IsUnique-put (x ∷ xs) ys e q h =
+    let a = has-put xs ys e x.version in
+    (grind (arith, eqb_tells, a, q.0, h), IsUnique-put xs ys e q.1 (grind (arith, eqb_tells, h)))
+
+pub IsUnique-insert : (es : List Entry) (i : ℕ) (e : Entry) → IsUnique es → has es e.version ≡ false → IsUnique (insert es i e)
+IsUnique-insert es i e q h =
+    let whole = sym (take-append-drop i es) in
+    IsUnique-put (take i es) (drop i es) e (subst IsUnique whole q) (subst (λ (xs : List Entry). has xs e.version ≡ false) whole h)
+
+-- ---- another state
+
+pub has-with_state : (t : ℕ) (s : State) (es : List Entry) (u : ℕ) → has (with_state t s es) u ≡ has es u
+has-with_state t s [] u = refl
+has-with_state t s (e ∷ es) u = let r = has-with_state t s es u in grind (arith, eqb_tells, r)
+
+pub IsUnique-with_state : (t : ℕ) (s : State) (es : List Entry) → IsUnique es → IsUnique (with_state t s es)
+IsUnique-with_state t s [] q = q
+IsUnique-with_state t s (e ∷ es) q = go (e.version == t) (IsUnique-with_state t s es q.1)
+  where
+    go : (b : Bool) → IsUnique (with_state t s es) → IsUnique (elim b as (λ _. List Entry) [ true ↦ record e { state = s } ∷ es | false ↦ e ∷ with_state t s es ])
+    go true r = q
+    go false r = (has-with_state t s es e.version ∙ q.0, r)
+
+pub length-with_state : (t : ℕ) (s : State) (es : List Entry) → length (with_state t s es) ≡ length es
+length-with_state t s [] = refl
+length-with_state t s (e ∷ es) = let r = length-with_state t s es in grind (arith, r)
+
+-- ---- a part of the entries less
+
+has-remove_range : (es : List Entry) (i j u : ℕ) → i ≤ j → has es u ≡ false → has (remove_range es i j) u ≡ false
+has-remove_range [] zero zero u le h = h
+has-remove_range [] zero (suc j) u le h = h
+has-remove_range [] (suc i) zero u le h = h
+has-remove_range [] (suc i) (suc j) u le h = h
+has-remove_range (e ∷ es) zero zero u le h = h
+has-remove_range (e ∷ es) zero (suc j) u le h = has-remove_range es zero j u (omega arith) (grind (arith, h))
+has-remove_range (e ∷ es) (suc i) zero u le h = absurd (omega (arith, le))
+has-remove_range (e ∷ es) (suc i) (suc j) u le h = let r = has-remove_range es i j u (omega (arith, le)) in grind (arith, h, r)
+
+pub IsUnique-remove_range : (es : List Entry) (i j : ℕ) → i ≤ j → IsUnique es → IsUnique (remove_range es i j)
+IsUnique-remove_range [] zero zero le q = q
+IsUnique-remove_range [] zero (suc j) le q = q
+IsUnique-remove_range [] (suc i) zero le q = q
+IsUnique-remove_range [] (suc i) (suc j) le q = q
+IsUnique-remove_range (e ∷ es) zero zero le q = q
+IsUnique-remove_range (e ∷ es) zero (suc j) le q = IsUnique-remove_range es zero j (omega arith) q.1
+IsUnique-remove_range (e ∷ es) (suc i) zero le q = absurd (omega (arith, le))
+IsUnique-remove_range (e ∷ es) (suc i) (suc j) le q = (has-remove_range es i j e.version (omega (arith, le)) q.0, IsUnique-remove_range es i j (omega (arith, le)) q.1)
+
+pub length-remove_range : (es : List Entry) (i j : ℕ) → i ≤ j → j ≤ length es → length (remove_range es i j) + j ≡ length es + i
+length-remove_range es i j le h =
+    let a = length-append (take i es) (drop j es) in
+    let b = length-take i es in
+    let c = length-drop j es in
+    omega (arith, a, b, c, le, h)
+
+-- ---- out-edges
+
+has_out-push : (outs : List OutEdge) (node since n s : ℕ) → has_out (outs ++ (node, since) ∷ []) n s ≡ (has_out outs n s || is_edge n s (node, since))
+has_out-push [] node since n s = grind (arith, eqb_tells)
+has_out-push (edge ∷ outs) node since n s = let r = has_out-push outs node since n s in grind (arith, r)
+
+pub AreDifferent-push : (outs : List OutEdge) (node since : ℕ) → AreDifferent outs → has_out outs node since ≡ false → AreDifferent (outs ++ (node, since) ∷ [])
+AreDifferent-push [] node since d h = (refl, tt)
+AreDifferent-push (edge ∷ outs) node since d h =
+    let a = has_out-push outs node since edge.0 edge.1 in
+    (grind (arith, eqb_tells, a, d.0, h), AreDifferent-push outs node since d.1 (grind (arith, eqb_tells, h)))
+
+has_out-filter : (test : OutEdge → Bool) (outs : List OutEdge) (n s : ℕ) → has_out outs n s ≡ false → has_out (filter test outs) n s ≡ false
+has_out-filter test [] n s h = h
+has_out-filter test (edge ∷ outs) n s h = let r = has_out-filter test outs n s in grind (arith, eqb_tells, r, h)
+
+pub AreDifferent-filter : (test : OutEdge → Bool) (outs : List OutEdge) → AreDifferent outs → AreDifferent (filter test outs)
+AreDifferent-filter test [] d = d
+AreDifferent-filter test (edge ∷ outs) d = go (test edge) (AreDifferent-filter test outs d.1)
+  where
+    go : (b : Bool) → AreDifferent (filter test outs) → AreDifferent (cond b (edge ∷ filter test outs) (filter test outs))
+    go true r = (has_out-filter test outs edge.0 edge.1 d.0, r)
+    go false r = r
+
+-- what `retain` keeps, where the closure says what the test says and changes nothing
+pub filter-retained : {S X : Type 0} (R : S → X → Bool → S → X → Type 0) (test : X → Bool) (s : S) → ((x : X) (b : Bool) (t : S) (y : X) → R s x b t y → (b ≡ test x) × (y ≡ x) × (t ≡ s))
+    → (xs ys : List X) → RetainsInTurn R s xs ys → ys ≡ filter test xs
+filter-retained R test s told [] ys k = k
+filter-retained {S} {X} R test s told (x ∷ xs) ys (b, t, y, r, zs, k, e) =
+    let says = told x b t y r in
+    let rest = filter-retained R test s told xs zs (subst (λ (u : S). RetainsInTurn R u xs zs) says.2 k) in
+    e ∙ λ i. cond (says.0 i) (says.1 i ∷ rest i) (rest i)
+
+-- what stands on a result that is Ok
+pub on_ok : {T E : Type 0} {P : Type 0} (r : Result T E) → IsOk r → OnOk r P → P
+on_ok (Ok x) is h = h
+on_ok (Err e) is h = absurd (true≢false (sym is))
+
+-- ---- the whole
+
+module _ {entries : SmallVec Entry} {outs : SmallVec OutEdge} {room outs_room : ℕ} where
+  pub kept_with_entries : (new : SmallVec Entry) → IsKept entries outs room outs_room → 0 < length new.items → length new.items ≤ room → new.capacity ≡ entries.capacity → IsUnique new.items → IsKept new outs room outs_room
+  kept_with_entries new k some fits same unique = record {
+    small = k.small;
+    outs_small = k.outs_small;
+    some = some;
+    fits = fits;
+    reserved = subst (λ n. room ≤ n) (sym same) k.reserved;
+    unique = unique;
+    outs_fit = k.outs_fit;
+    outs_reserved = k.outs_reserved;
+    different = k.different;
+  }
+
+  pub kept_with_outs : (new : SmallVec OutEdge) → IsKept entries outs room outs_room → length new.items ≤ outs_room → new.capacity ≡ outs.capacity → AreDifferent new.items → IsKept entries new room outs_room
+  kept_with_outs new k fits same different = record {
+    small = k.small;
+    outs_small = k.outs_small;
+    some = k.some;
+    fits = k.fits;
+    reserved = k.reserved;
+    unique = k.unique;
+    outs_fit = fits;
+    outs_reserved = subst (λ n. outs_room ≤ n) (sym same) k.outs_reserved;
+    different = different;
+  }
+
+  pub kept_more_outs : (new : SmallVec OutEdge) (node since : ℕ) → IsKept entries outs room outs_room → length outs.items < outs_room → has_out outs.items node since ≡ false
+      → new.items ≡ outs.items ++ (node, since) ∷ [] → new.capacity ≡ outs.capacity → IsKept entries new room outs_room
+  kept_more_outs new node since k fits other items same =
+      let long = length-append outs.items ((node, since) ∷ []) in
+      kept_with_outs new k (omega (arith, fits, ap length items, long)) same (subst AreDifferent (sym items) (AreDifferent-push outs.items node since k.different other))
+
+  pub kept_fewer_outs : (new : SmallVec OutEdge) (test : OutEdge → Bool) → IsKept entries outs room outs_room → length new.items ≤ length outs.items
+      → new.items ≡ filter test outs.items → new.capacity ≡ outs.capacity → IsKept entries new room outs_room
+  kept_fewer_outs new test k fits items same = kept_with_outs new k (omega (arith, fits, k.outs_fit)) same (subst AreDifferent (sym items) (AreDifferent-filter test outs.items k.different))
+
+  pub kept_inserted : (new : SmallVec Entry) (i : ℕ) (e : Entry) → IsKept entries outs room outs_room → length entries.items < room → i ≤ length entries.items → has entries.items e.version ≡ false
+      → new.items ≡ insert entries.items i e → new.capacity ≡ entries.capacity → IsKept new outs room outs_room
+  kept_inserted new i e k fits le other items same =
+      let long = length-insert entries.items i e le in
+      kept_with_entries new k (omega (arith, ap length items, long)) (omega (arith, fits, ap length items, long)) same (subst IsUnique (sym items) (IsUnique-insert entries.items i e k.unique other))
+
+  pub kept_stated : (new : SmallVec Entry) (t : ℕ) (s : State) → IsKept entries outs room outs_room → new.items ≡ with_state t s entries.items → new.capacity ≡ entries.capacity → IsKept new outs room outs_room
+  kept_stated new t s k items same =
+      let long = ap length items ∙ length-with_state t s entries.items in
+      kept_with_entries new k (omega (arith, long, k.some)) (omega (arith, long, k.fits)) same (subst IsUnique (sym items) (IsUnique-with_state t s entries.items k.unique))
+
+  pub kept_cut : (new : SmallVec Entry) (i n : ℕ) → IsKept entries outs room outs_room → i < n → n ≤ length entries.items
+      → new.items ≡ remove_range (remove_range entries.items (i + 1) n) 0 i → new.capacity ≡ entries.capacity → IsKept new outs room outs_room
+  kept_cut new i n k lt le items same =
+      let between = remove_range entries.items (i + 1) n in
+      let first = length-remove_range entries.items (i + 1) n (omega (arith, lt)) le in
+      let second = length-remove_range between 0 i (omega arith) (omega (arith, first, lt, le)) in
+      let long = ap length items in
+      kept_with_entries new k (omega (arith, first, second, long, lt, le)) (omega (arith, first, second, long, k.fits, lt, le)) same
+      (subst IsUnique (sym items) (IsUnique-remove_range between 0 i (omega arith) (IsUnique-remove_range entries.items (i + 1) n (omega (arith, lt)) k.unique)))

@@ -1,0 +1,7 @@
+pub mod Asked
+pub mod Collecting
+pub mod Indexes
+pub mod KeptLemmas
+pub mod LastDone
+pub mod Lists
+pub mod Places

@@ -1,0 +1,17 @@
+-- How a list is kept: within its rooms, for which the vectors have their capacity.
+use Rattle.std.specs.Prelude.{ℕ, ◌^◌, ◌<◌, ◌≤◌, length}
+use Rattle.smallvec.specs.SmallVec.{SmallVec}
+use Rattle.node_versions.specs.Entries.{Entry, OutEdge, IsUnique, AreDifferent}
+
+-- The rooms are numbers of 32 bits. There is an entry, and there are no more entries and out-edges than there is room for. No two entries are of one
+-- call, and no out-edge is there twice.
+pub record IsKept (entries : SmallVec Entry) (outs : SmallVec OutEdge) (room outs_room : ℕ) : Type 0 where
+  pub small : room < 2 ^ 32
+  pub outs_small : outs_room < 2 ^ 32
+  pub some : 0 < length entries.items
+  pub fits : length entries.items ≤ room
+  pub reserved : room ≤ entries.capacity
+  pub unique : IsUnique entries.items
+  pub outs_fit : length outs.items ≤ outs_room
+  pub outs_reserved : outs_room ≤ outs.capacity
+  pub different : AreDifferent outs.items

@@ -1,0 +1,386 @@
+// One node's list over small vectors.
+ghost use Rattle.std.specs.Prelude.{◌≡◌, ◌<◌, ◌≤◌, ◌+◌, length, insert, IsTrue, IfOk, IfSome, IfNone, Some, None, slice_get, not, false};
+ghost use Rattle.std.specs.List.{position, position_or_len, remove_range};
+ghost use Rattle.std.specs.Option.{IsSome, is_some, option_copied};
+ghost use Rattle.node_versions.specs.Entries.{Frame, Done, IsUnique, AreDifferent, has, at, is_of, is_mark, is_frame, value_of, picks_of, state_of, up_to, before, last_done, value_at, value_before, picks_at, picks_before, with_state, is_active, since_at, IsEntryAt, IsFirstOpenAt, first_open, has_out, with_out, without_out, HasEndedPrefix, ended_len, collected, opened, with_entries, with_outs};
+ghost use Rattle.smallvec.specs.SmallVec.{small_vec_len};
+ghost use Rattle.node_versions.specs.Answers.{IsAskable, AnswersBy, AnswersTo};
+
+use crate::entry::{Entry, State};
+use script_tree::memory::OutOfMemory;
+use script_tree::picks::Picks;
+use script_tree::value::Value;
+use smallvec::SmallVec;
+use std::alloc::Global;
+use std::marker::Model;
+
+// A list in use has room for more entries than it is worth to keep in the value itself.
+const INLINE_ENTRIES: usize = 1;
+
+// Few chooses list one node as a candidate.
+const INLINE_OUTS: usize = 4;
+
+/// The list of one node: an entry for each call that reached the node, in the calls' order, and its out-edges.
+///
+/// Contracts see the list of entries, the list of out-edges (pairs of a choose node and a version, called since), and
+/// how many of each there is room for. No two entries have one version, and no out-edge is there twice. All memory is
+/// taken by `new`. A call goes over the list at most a few times.
+#[derive(Drop)]
+pub struct NodeList {
+    entries: SmallVec<Entry, INLINE_ENTRIES>,
+    outs: SmallVec<(u32, u32), INLINE_OUTS>,
+    room: u32,
+    outs_room: u32,
+}
+
+impl Model for NodeList {
+    ghost use Rattle.node_versions.specs.Entries.{Versions};
+    ghost use Rattle.node_versions.specs.Kept.{IsKept};
+    ghost use Rattle.std.specs.Coded.{codes};
+
+    ghost Value = { Versions };
+
+    ghost coded = { Prim.hlevel codes };
+
+    ghost view = { λ l. record { entries = l.entries.items; outs = l.outs.items; room = l.room; outs_room = l.outs_room } };
+
+    ghost invariant = { λ l. IsKept l.entries l.outs l.room l.outs_room };
+}
+
+impl NodeList {
+    /// A list with one entry: version 0, slot 0, Done with this value and these picks, unchanged. It has room for
+    /// `room` entries, this one among them, and for `outs_room` out-edges. Takes all memory that the list will need.
+    pub fn new(
+        alloc: Global,
+        room: u32,
+        outs_room: u32,
+        value: Value,
+        picks: Picks,
+    ) -> Result<NodeList, OutOfMemory>
+        requires { 1 ≤ room }
+        ensures { IfOk result (λ list. list ≡ opened room outs_room value picks) }
+    {
+        let mut entries = SmallVec::with_capacity(alloc, room as usize)?;
+        let outs = SmallVec::with_capacity(alloc, outs_room as usize)?;
+        entries.push_reserved(Entry {
+            version: 0,
+            slot: 0,
+            state: State::Done {
+                value,
+                changed: false,
+                picks,
+            },
+        });
+        Ok(NodeList {
+            entries,
+            outs,
+            room,
+            outs_room,
+        })
+    }
+
+    /// How many entries there are.
+    pub fn len(&self) -> u32
+        ensures { result ≡ length self.now.entries }
+    {
+        self.entries.len() as u32
+    }
+
+    /// The entry at an index, counted from 0.
+    pub fn get(&self, index: u32) -> &Entry
+        requires { index < length self.now.entries }
+        ensures { slice_get self.now.entries index ≡ Some result.now }
+    {
+        &self.entries.as_slice()[index as usize]
+    }
+
+    /// The index of the version's entry. None exactly where it has none.
+    pub fn entry_of(&self, version: u32) -> Option<u32>
+        ensures index { result ≡ position (is_of version) self.now.entries }
+        ensures bound { IfSome result (λ i. i < length self.now.entries) }
+        ensures exact { is_some result ≡ has self.now.entries version }
+        ensures entry { IfSome result (IsEntryAt self.now.entries version) }
+    {
+        let index = self.index_of(version);
+        if index < self.len() {
+            Some(index)
+        } else {
+            None
+        }
+    }
+
+    /// The index of the first Frame. None exactly where there is none.
+    pub fn first_open(&self) -> Option<u32>
+        ensures index { result ≡ position (λ e. is_frame e.state) self.now.entries }
+        ensures bound { IfSome result (λ i. i < length self.now.entries) }
+        ensures some { IfSome result (IsFirstOpenAt self.now.entries) }
+        ensures none { IfNone result (first_open self.now.entries ≡ None) }
+    {
+        let index = self.place_of(|entry| entry.state.is_frame());
+        if index < self.len() {
+            Some(index)
+        } else {
+            None
+        }
+    }
+
+    /// The index of the first entry that stops, else how many entries there are. `stops` is asked of entries of this list
+    /// alone.
+    pub fn place_of<F: Fn(&Entry) -> bool>(&self, stops: F) -> u32
+        requires { IsAskable F.Fn stops self.now.entries }
+        ensures place { AnswersBy F.Fn stops self.now.entries (λ test. result ≡ position_or_len test self.now.entries) }
+        ensures bound { result ≤ length self.now.entries }
+    {
+        for index in 0..self.len() {
+            if stops(self.get(index)) {
+                return index;
+            }
+        }
+        self.len()
+    }
+
+    /// Puts an entry in at an index: what stood there and behind it moves back by one. Takes no memory.
+    pub fn insert_at(&mut self, index: u32, entry: Entry)
+        requires room { length self.old.entries < self.old.room }
+        requires in_list { index ≤ length self.old.entries }
+        requires new_version { has self.old.entries entry.version ≡ false }
+        ensures { self.new ≡ with_entries self.old (insert self.old.entries index entry) }
+    {
+        let _room_is_reserved = self.entries.insert(index as usize, entry);
+    }
+
+    /// Makes the version's Mark a Frame.
+    pub fn raise_mark(&mut self, version: u32)
+        requires { IsTrue (at is_mark self.old.entries version) }
+        ensures { self.new ≡ with_entries self.old (with_state version Frame self.old.entries) }
+    {
+        self.set_state(version, State::Frame);
+    }
+
+    /// Makes the version's Frame a Done with this value and these picks, changed or not.
+    pub fn finish(&mut self, version: u32, value: Value, changed: bool, picks: Picks)
+        requires { IsTrue (at is_frame self.old.entries version) }
+        ensures { self.new ≡ with_entries self.old (with_state version (Done value changed picks) self.old.entries) }
+    {
+        let state = State::Done {
+            value,
+            changed,
+            picks,
+        };
+        self.set_state(version, state);
+    }
+
+    /// The node's value for the version: that of the last Done at or before its entry.
+    pub fn value_for(&self, version: u32) -> Value
+        requires entry { IsTrue (has self.now.entries version) }
+        requires done { IsSome (last_done (up_to self.now.entries version)) }
+        ensures { result ≡ value_at self.now.entries version }
+    {
+        value_in(last_done(self.up_to(version)))
+    }
+
+    /// The node's picks for the version: those of the last Done at or before its entry. Takes no memory.
+    pub fn picks_for(&self, version: u32) -> Picks
+        requires entry { IsTrue (has self.now.entries version) }
+        requires done { IsSome (last_done (up_to self.now.entries version)) }
+        ensures { result ≡ picks_at self.now.entries version }
+    {
+        picks_in(last_done(self.up_to(version)))
+    }
+
+    /// The node's value before the version: that of the last Done strictly before its entry.
+    pub fn value_before(&self, version: u32) -> Value
+        requires entry { IsTrue (has self.now.entries version) }
+        requires done { IsSome (last_done (before self.now.entries version)) }
+        ensures { result ≡ value_before self.now.entries version }
+    {
+        value_in(last_done(self.before(version)))
+    }
+
+    /// The node's picks before the version: those of the last Done strictly before its entry. Takes no memory.
+    pub fn picks_before(&self, version: u32) -> Picks
+        requires entry { IsTrue (has self.now.entries version) }
+        requires done { IsSome (last_done (before self.now.entries version)) }
+        ensures { result ≡ picks_before self.now.entries version }
+    {
+        picks_in(last_done(self.before(version)))
+    }
+
+    /// How many out-edges there are.
+    pub fn outs_len(&self) -> u32
+        ensures { result ≡ length self.now.outs }
+    {
+        self.outs.len() as u32
+    }
+
+    /// The out-edge at an index, counted from 0: its choose node and its since.
+    pub fn out(&self, index: u32) -> (u32, u32)
+        requires { index < length self.now.outs }
+        ensures { slice_get self.now.outs index ≡ Some result }
+    {
+        self.outs.as_slice()[index as usize]
+    }
+
+    /// Whether the out-edge at an index is active for the version: the entry of its since stands at or before that of the
+    /// version, or isn't in the list.
+    pub fn active(&self, index: u32, version: u32) -> bool
+        requires in_outs { index < length self.now.outs }
+        requires entry { IsTrue (has self.now.entries version) }
+        ensures { result ≡ is_active self.now.entries (since_at self.now.outs index) version }
+    {
+        let (_, since) = self.out(index);
+        let place = self.index_of(since);
+        place == self.len() || place <= self.index_of(version)
+    }
+
+    /// Adds an out-edge at the end. Takes no memory.
+    pub fn add_out(&mut self, node: u32, since: u32)
+        requires room { length self.old.outs < self.old.outs_room }
+        requires new_edge { has_out self.old.outs node since ≡ false }
+        ensures { self.new ≡ with_outs self.old (with_out self.old.outs node since) }
+    {
+        self.outs.push_reserved((node, since));
+    }
+
+    /// Takes an out-edge out. The others keep their order.
+    pub fn remove_out(&mut self, node: u32, since: u32)
+        requires { IsTrue (has_out self.old.outs node since) }
+        ensures { self.new ≡ with_outs self.old (without_out self.old.outs node since) }
+    {
+        self.outs.retain(|edge| edge.0 != node || edge.1 != since);
+    }
+
+    /// Of the entries that have ended only the last Done stays. Answers how many went. The ended entries are the first
+    /// ones of the list, and one of them is Done. `ended` is asked of entries of this list alone. Takes no memory.
+    pub fn collect<F: Fn(&Entry) -> bool>(&mut self, ended: F) -> u32
+        requires askable { IsAskable F.Fn ended self.old.entries }
+        requires ended { AnswersTo F.Fn ended self.old.entries (λ test. HasEndedPrefix test self.old.entries) }
+        ensures list { AnswersBy F.Fn ended self.old.entries (λ test. HasEndedPrefix test self.old.entries → self.new ≡ with_entries self.old (collected test self.old.entries)) }
+        ensures gone { result + length self.new.entries ≡ length self.old.entries }
+    {
+        let count = self.ended_len(&ended);
+        let ended_part = &self.entries.as_slice()[..count as usize];
+        let Some(kept) = last_done_place(ended_part) else {
+            return 0;
+        };
+        keep_one(&mut self.entries, kept, count as usize);
+        count - 1
+    }
+
+    /// What holds of every list: there is an entry, there are no more entries and out-edges than there is room for, no two
+    /// entries have one version, and no out-edge is there twice. Does nothing when it runs.
+    pub fn is_kept(&self)
+        ensures some { 0 < length self.now.entries }
+        ensures fits { length self.now.entries ≤ self.now.room }
+        ensures unique { IsUnique self.now.entries }
+        ensures outs_fit { length self.now.outs ≤ self.now.outs_room }
+        ensures different { AreDifferent self.now.outs }
+    {
+        let _ = &self.entries;
+    }
+
+    // The index of the version's entry, else how many entries there are.
+    fn index_of(&self, version: u32) -> u32
+        ensures place { result ≡ position_or_len (is_of version) self.now.entries }
+        ensures bound { result ≤ length self.now.entries }
+    {
+        self.place_of(|entry| entry.version == version)
+    }
+
+    // Puts another state into the version's entry.
+    fn set_state(&mut self, version: u32, state: State)
+        requires { IsTrue (has self.old.entries version) }
+        ensures { self.new ≡ with_entries self.old (with_state version state self.old.entries) }
+    {
+        let place = self.index_of(version);
+        let Some(entry) = self.entries.get_mut(place as usize) else {
+            return;
+        };
+        entry.state = state;
+    }
+
+    // How many entries stand before the first that has not ended.
+    fn ended_len<F: Fn(&Entry) -> bool>(&self, ended: &F) -> u32
+        requires { IsAskable F.Fn ended.now self.now.entries }
+        ensures place { AnswersBy F.Fn ended.entry.now self.now.entries (λ test. result ≡ ended_len test self.now.entries) }
+        ensures bound { result ≤ length self.now.entries }
+    {
+        self.place_of(
+            |entry|
+                requires { F.pre ended.now entry }
+                ensures { F.post ended.entry.now entry.entry (not result) }
+            { !ended(entry) },
+        )
+    }
+
+    // The entries up to the version's, and those before it.
+    fn up_to(&self, version: u32) -> &[Entry]
+        requires { IsTrue (has self.now.entries version) }
+        ensures { result.now ≡ up_to self.now.entries version }
+    {
+        let place = self.index_of(version);
+        &self.entries.as_slice()[..=place as usize]
+    }
+
+    fn before(&self, version: u32) -> &[Entry]
+        ensures { result.now ≡ before self.now.entries version }
+    {
+        let place = self.index_of(version);
+        &self.entries.as_slice()[..place as usize]
+    }
+}
+
+// The index of the last Done of a list.
+fn last_done_place(entries: &[Entry]) -> Option<usize>
+    ensures some { IfSome result (λ i. (i < length entries.now) × (slice_get entries.now i ≡ last_done entries.now)) }
+    ensures none { IfNone result (last_done entries.now ≡ None) }
+{
+    let mut rest = entries;
+    while let Some((entry, front)) = rest.split_last() {
+        if entry.state.is_done() {
+            return Some(front.len());
+        }
+        rest = front;
+    }
+    None
+}
+
+// The last Done of a list.
+fn last_done(entries: &[Entry]) -> Option<&Entry>
+    ensures { option_copied result ≡ last_done entries.now }
+{
+    match last_done_place(entries) {
+        Some(place) => Some(&entries[place]),
+        None => None,
+    }
+}
+
+// The value of a Done, and its picks.
+fn value_in(done: Option<&Entry>) -> Value
+    ensures { result ≡ value_of (state_of (option_copied done.entry)) }
+{
+    match done {
+        Some(entry) => entry.state.value(),
+        None => State::Mark.value(),
+    }
+}
+
+fn picks_in(done: Option<&Entry>) -> Picks
+    ensures { result ≡ picks_of (state_of (option_copied done.entry)) }
+{
+    match done {
+        Some(entry) => entry.state.picks(),
+        None => Picks::new(),
+    }
+}
+
+// Of the first `count` entries only the one at the index `kept` stays.
+fn keep_one(entries: &mut SmallVec<Entry, INLINE_ENTRIES>, kept: usize, count: usize)
+    requires kept { kept < count }
+    requires count { count ≤ small_vec_len entries.old }
+    ensures items { entries.new.items ≡ remove_range (remove_range entries.old.items (kept + 1) count) 0 kept }
+    ensures capacity { entries.new.capacity ≡ entries.old.capacity }
+{
+    drop(entries.drain(kept + 1..count));
+    drop(entries.drain(..kept));
+}
