@@ -1,0 +1,7 @@
+//! The machine of interleaved calls: what its steps are, when each is allowed and what it changes, and what every state
+//! that they reach keeps.
+#![tactic(auto)]
+
+pub use step::{Cause, Step, Turn};
+
+mod step;
