@@ -1,0 +1,2 @@
+pub mod RowsOfExamples
+pub mod OrderDecides

@@ -1,7 +1,9 @@
 -- Histories: the moves from the opening state on, each allowed in the state before it.
-use Rattle.std.specs.Prelude.{ℕ, Bool, true, false, List, [], ◌∷◌}
+use Rattle.std.specs.Prelude.{ℕ, Bool, true, false, List, [], ◌∷◌, map}
+use Rattle.script_tree.specs.declared.value.Value.{Value}
 use Rattle.signal_graph.specs.declared.call.Call.{Call}
 use Rattle.signal_graph.specs.Graph.{Graph}
+use Rattle.node_versions.specs.Entries.{value_of, state_of, last_done}
 use Rattle.flow_model.specs.declared.step.Step.{Step}
 use Rattle.flow_model.specs.State.{Core, opening}
 use Rattle.flow_model.specs.Steps.{can_begin, begin, allowed, apply}
@@ -33,3 +35,7 @@ state graph callers limit moves = after_moves graph (opening graph callers limit
 
 abbrev pub is_history : Graph → ℕ → ℕ → List Move → Bool
 is_history graph callers limit moves = may_all graph (opening graph callers limit) moves
+
+-- the values of the last Dones, which the core gives in the end
+abbrev pub last_values : Core → List Value
+last_values s = map (λ c. value_of (state_of (last_done c.entries))) s.cells

@@ -7,5 +7,7 @@ pub mod Steps
 pub mod Histories
 pub mod Next
 pub mod Schedules
+pub mod Keys
 pub mod Runs
 pub mod Lawful
+pub mod Examples

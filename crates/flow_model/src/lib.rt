@@ -4,4 +4,5 @@
 
 pub use step::{Cause, Step, Turn};
 
+pub mod laws;
 mod step;

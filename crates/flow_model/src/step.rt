@@ -1,5 +1,8 @@
 // The steps of live calls, and what comes next for one.
 
+ghost use Rattle.std.specs.Prelude.{◌≡◌};
+ghost use Rattle.flow_model.specs.Keys.{version_of_step, is_own_step, list_of_step};
+
 /// A step of a live call, which is named by its version, or of a node's list. A call's beginning is no such step, since
 /// it brings the call with it.
 #[derive(Clone, Copy, PartialEq, Eq, Debug)]
@@ -60,4 +63,50 @@ pub enum Turn {
     NotYet(Cause),
     /// Nothing but its end.
     Ready,
+}
+
+impl Step {
+    /// The version of the call that the step is of. Collect is of none. Takes no memory.
+    pub fn version(self) -> Option<u32>
+        ensures { result ≡ version_of_step self }
+    {
+        match self {
+            Step::Frame { version, .. }
+            | Step::Start { version }
+            | Step::Skip { version, .. }
+            | Step::Gather { version, .. }
+            | Step::Evaluate { version, .. }
+            | Step::Body { version, .. }
+            | Step::Resolve { version, .. }
+            | Step::Discover { version, .. }
+            | Step::Drop { version, .. }
+            | Step::Mark { version, .. }
+            | Step::Look { version }
+            | Step::End { version } => Some(version),
+            Step::Collect { .. } => None,
+        }
+    }
+
+    /// Whether only the call's own caller makes the step. Frame may be made for another call, and Collect is of none.
+    /// Takes no memory.
+    pub fn is_own(self) -> bool
+        ensures { result ≡ is_own_step self }
+    {
+        match self {
+            Step::Frame { .. } | Step::Collect { .. } => false,
+            _ => true,
+        }
+    }
+
+    /// The node whose list or out-edges the step changes, where it changes one. Takes no memory.
+    pub fn list(self) -> Option<u32>
+        ensures { result ≡ list_of_step self }
+    {
+        match self {
+            Step::Frame { node, .. } | Step::Skip { node, .. } | Step::Resolve { node, .. } => Some(node),
+            Step::Mark { node, .. } | Step::Collect { node } => Some(node),
+            Step::Discover { candidate, .. } | Step::Drop { candidate, .. } => Some(candidate),
+            _ => None,
+        }
+    }
 }

@@ -1,0 +1,34 @@
+//! Laws of the machine. The functions do nothing when they run.
+
+ghost use Rattle.std.specs.Prelude.{◌≡◌, ℕ, IsTrue, ◌↔◌};
+ghost use Rattle.flow_model.specs.State.{Core, precedes};
+ghost use Rattle.flow_model.specs.Order.{IsBefore};
+ghost use Rattle.flow_model.specs.Examples.{PlaysOut, retrofit_log_with};
+ghost use Rattle.flow_model.specs.Examples.{retrofit_graph, retrofit_scripts, retrofit_schedule, retrofit_moves, retrofit_log, retrofit_finals};
+ghost use Rattle.flow_model.specs.Examples.{other_order_graph, other_order_scripts, other_order_schedule, other_order_moves, other_order_log, other_order_finals};
+ghost use Rattle.flow_model.specs.Examples.{one_edge_graph, one_edge_scripts, one_edge_schedule, one_edge_moves, one_edge_log, one_edge_finals};
+ghost use Rattle.flow_model.specs.Examples.{two_levels_graph, two_levels_scripts, two_levels_schedule, two_levels_moves, two_levels_log, two_levels_finals};
+ghost use Rattle.flow_model.specs.Examples.{reader_in_the_past_graph, reader_in_the_past_scripts, reader_in_the_past_schedule, reader_in_the_past_moves, reader_in_the_past_log, reader_in_the_past_finals};
+ghost use Rattle.flow_model.specs.Examples.{unconnected_graph, unconnected_scripts, unconnected_schedule, unconnected_moves, unconnected_log, unconnected_finals};
+ghost use Rattle.flow_model.specs.Examples.{two_selectors_graph, two_selectors_scripts, two_selectors_schedule, two_selectors_moves, two_selectors_log, two_selectors_finals};
+
+/// The test of the order decides whether one call is before another.
+pub fn order_is_decided()
+    ensures { (s : Core) (u v : ℕ) → IsTrue (precedes s u v) ↔ IsBefore s u v }
+{}
+
+/// The worked examples: what each schedule makes of its deck.
+pub fn examples_play_out()
+    ensures retrofit { PlaysOut retrofit_graph retrofit_scripts retrofit_schedule retrofit_moves retrofit_log retrofit_finals }
+    ensures other_order { PlaysOut other_order_graph other_order_scripts other_order_schedule other_order_moves other_order_log other_order_finals }
+    ensures one_edge { PlaysOut one_edge_graph one_edge_scripts one_edge_schedule one_edge_moves one_edge_log one_edge_finals }
+    ensures two_levels { PlaysOut two_levels_graph two_levels_scripts two_levels_schedule two_levels_moves two_levels_log two_levels_finals }
+    ensures reader_in_the_past { PlaysOut reader_in_the_past_graph reader_in_the_past_scripts reader_in_the_past_schedule reader_in_the_past_moves reader_in_the_past_log reader_in_the_past_finals }
+    ensures unconnected { PlaysOut unconnected_graph unconnected_scripts unconnected_schedule unconnected_moves unconnected_log unconnected_finals }
+    ensures two_selectors { PlaysOut two_selectors_graph two_selectors_scripts two_selectors_schedule two_selectors_moves two_selectors_log two_selectors_finals }
+{}
+
+/// The first example's last look shows 22 and no other number.
+pub fn example_is_exact()
+    ensures { (look : ℕ) → PlaysOut retrofit_graph retrofit_scripts retrofit_schedule retrofit_moves (retrofit_log_with look) retrofit_finals → look ≡ 22 }
+{}
