@@ -1,5 +1,5 @@
 -- The lawful states: what every state that steps reach keeps. A call is named by its version.
-use Rattle.std.specs.Prelude.{◌≡◌, ℕ, ◌+◌, ◌<◌, ◌≤◌, ◌⊎◌, Bool, true, false, ◌&&◌, ◌||◌, not, ◌==◌, List, [], ◌∷◌, ◌++◌, length, map, filter, Option, Some, None, is_none, slice_get, count_by}
+use Rattle.std.specs.Prelude.{◌≡◌, ℕ, ◌+◌, ◌<◌, ◌≤◌, ◌⊎◌, Bool, true, false, ◌&&◌, ◌||◌, not, ◌==◌, List, [], ◌∷◌, ◌++◌, length, map, filter, Option, Some, None, is_none, slice_get}
 use Rattle.std.specs.List.{list_any, AllZip}
 use Rattle.script_tree.specs.declared.limits.TheConstants.{SETS, LOOKS}
 use Rattle.script_tree.specs.declared.value.Value.{Value}
@@ -109,7 +109,7 @@ pub record DonesAreRight (graph : Graph) (s : Core) : Type 0 where
   pub other : (u n : ℕ) → IsLive s u → HasDone s u n → is_source (node_at graph n) ≡ false → IsDoneRight graph s u n
   pub flag : (u n : ℕ) → IsLive s u → HasDone s u n → changed_of (done_at (entries s n) u) ≡ not (same (value_for s u n) (value_before (entries s n) u))
   pub changed : (u n : ℕ) → IsLive s u → changes s u n ≡ at changed_of (entries s n) u
-  pub evaluated : (u : ℕ) → IsLive s u → (call s u).evaluated ≡ count_by (has_evaluated graph s u) (numbers graph)
+  pub evaluated : (u : ℕ) → IsLive s u → (call s u).evaluated ≡ length (filter (has_evaluated graph s u) (numbers graph))
 
 -- ---- ended calls, room and slots
 
@@ -184,7 +184,7 @@ pub record SomeHead (s : Core) (n : ℕ) (P : ℕ → Type 0) : Type 0 where
   pub holds : P head
 
 abbrev pub count_edges : ℕ → List OutEdge → ℕ
-count_edges n edges = count_by (λ (edge : OutEdge). edge.0 == n) edges
+count_edges n edges = length (filter (λ (edge : OutEdge). edge.0 == n) edges)
 
 -- Out-edges stand at the picks of the last Dones and at what first open calls have discovered, and nowhere else.
 pub record EdgesAreKept (s : Core) : Type 0 where

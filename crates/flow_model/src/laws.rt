@@ -1,8 +1,10 @@
 //! Laws of the machine. The functions do nothing when they run.
 
 ghost use Rattle.std.specs.Prelude.{◌≡◌, ℕ, IsTrue, ◌↔◌};
-ghost use Rattle.flow_model.specs.State.{Core, precedes};
+ghost use Rattle.signal_graph.specs.Graph.{Graph, IsGraph};
+ghost use Rattle.flow_model.specs.State.{Core, precedes, opening};
 ghost use Rattle.flow_model.specs.Order.{IsBefore};
+ghost use Rattle.flow_model.specs.Lawful.{IsLawful};
 ghost use Rattle.flow_model.specs.Examples.{PlaysOut, retrofit_log_with};
 ghost use Rattle.flow_model.specs.Examples.{retrofit_graph, retrofit_scripts, retrofit_schedule, retrofit_moves, retrofit_log, retrofit_finals};
 ghost use Rattle.flow_model.specs.Examples.{other_order_graph, other_order_scripts, other_order_schedule, other_order_moves, other_order_log, other_order_finals};
@@ -15,6 +17,11 @@ ghost use Rattle.flow_model.specs.Examples.{two_selectors_graph, two_selectors_s
 /// The test of the order decides whether one call is before another.
 pub fn order_is_decided()
     ensures { (s : Core) (u v : ℕ) → IsTrue (precedes s u v) ↔ IsBefore s u v }
+{}
+
+/// The opening state of every graph is lawful.
+pub fn opening_is_lawful()
+    ensures { (graph : Graph) → IsGraph graph → (callers limit : ℕ) → IsLawful graph (opening graph callers limit) }
 {}
 
 /// The worked examples: what each schedule makes of its deck.
