@@ -3,3 +3,9 @@ pub mod OrderDecides
 pub mod Truths
 pub mod Openings
 pub mod OpeningLawful
+pub mod Lists
+pub mod Readers
+pub mod States
+pub mod OrderLemmas
+pub mod Enter
+pub mod KeepsOrder

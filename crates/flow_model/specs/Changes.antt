@@ -15,8 +15,11 @@ use Rattle.flow_model.specs.State.{Core, Cell, LiveCall, call, live, executes, f
 
 -- The call's place is before the first entry that stops it: the call is before that entry's, or executes while that one
 -- frames.
+abbrev pub stops_call : Core → ℕ → ℕ → Bool
+stops_call s t u = precedes s t u || (executes s t && frames s u)
+
 abbrev pub stops : Core → ℕ → Entry → Bool
-stops s t e = precedes s t e.version || (executes s t && frames s e.version)
+stops s t e = stops_call s t e.version
 
 abbrev pub first_version : List Entry → Option ℕ
 first_version [] = None
