@@ -51,7 +51,7 @@ same-list s old es h = h
 
 -- ---- The steps
 
-same_list-Standing : (s : Core) (old : ℕ → ℕ → Bool) (n : ℕ) (f : Cell → Cell) → ((c : Cell) → (f c).entries ≡ c.entries) → Standing s old → Standing (with_cell s n f) old
+pub same_list-Standing : (s : Core) (old : ℕ → ℕ → Bool) (n : ℕ) (f : Cell → Cell) → ((c : Cell) → (f c).entries ≡ c.entries) → Standing s old → Standing (with_cell s n f) old
 same_list-Standing s old n f same h = with_cell-Standing s old n f (λ es. es) same (λ es k. k) h
 
 set_state-Standing : (s : Core) (old : ℕ → ℕ → Bool) (t n : ℕ) (state : State) → Standing s old → Standing (with_cell s n (set_state t state)) old

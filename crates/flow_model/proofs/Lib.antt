@@ -9,3 +9,6 @@ pub mod States
 pub mod OrderLemmas
 pub mod Enter
 pub mod KeepsOrder
+pub mod Versions
+pub mod Allowed
+pub mod OrderOfSteps

@@ -267,7 +267,7 @@ opening-lawful graph g callers limit = record {
   work_is_kept = work graph callers limit g;
   entries_are_kept = entered graph callers limit;
   one_entry = unique graph callers limit;
-  versions_are_fresh = record { distinct = tt; fit = λ u h. absurd (true≢false (sym h)); count = refl };
+  versions_are_fresh = record { distinct = λ u. omega arith; fit = λ u h. absurd (true≢false (sym h)); count = refl };
   wants_are_free = λ u n h. absurd (true≢false (sym h));
   picks_fit = fitting graph callers limit;
   edges_fit = edges_fitting graph callers limit;

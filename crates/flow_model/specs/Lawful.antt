@@ -228,9 +228,12 @@ pub record EntriesAreKept (graph : Graph) (s : Core) : Type 0 where
 abbrev pub versions : Core → List ℕ
 versions s = map (λ c. c.version) s.calls ++ versions_in s.log
 
+-- how often a number stands in a list
+abbrev pub times : ℕ → List ℕ → ℕ
+times x xs = length (filter (λ y. y == x) xs)
+
 abbrev pub AreDistinct : List ℕ → Type 0
-AreDistinct [] = Unit {0}
-AreDistinct (x ∷ xs) = (is_in x xs ≡ false) × AreDistinct xs
+AreDistinct xs = (x : ℕ) → times x xs ≤ 1
 
 -- Versions count from 1, each is of one call, and the next one is of none.
 pub record VersionsAreFresh (s : Core) : Type 0 where

@@ -1,10 +1,13 @@
 //! Laws of the machine. The functions do nothing when they run.
 
-ghost use Rattle.std.specs.Prelude.{◌≡◌, ℕ, IsTrue, ◌↔◌};
+ghost use Rattle.std.specs.Prelude.{◌≡◌, ℕ, true, IsTrue, ◌↔◌};
+ghost use Rattle.signal_graph.specs.declared.call.Call.{Call};
 ghost use Rattle.signal_graph.specs.Graph.{Graph, IsGraph};
 ghost use Rattle.flow_model.specs.State.{Core, precedes, opening};
 ghost use Rattle.flow_model.specs.Order.{IsBefore};
-ghost use Rattle.flow_model.specs.Lawful.{IsLawful};
+ghost use Rattle.flow_model.specs.declared.step.Step.{Step};
+ghost use Rattle.flow_model.specs.Steps.{allowed, apply, can_begin, begin};
+ghost use Rattle.flow_model.specs.Lawful.{IsLawful, OrderIsKept};
 ghost use Rattle.flow_model.specs.Examples.{PlaysOut, retrofit_log_with};
 ghost use Rattle.flow_model.specs.Examples.{retrofit_graph, retrofit_scripts, retrofit_schedule, retrofit_moves, retrofit_log, retrofit_finals};
 ghost use Rattle.flow_model.specs.Examples.{other_order_graph, other_order_scripts, other_order_schedule, other_order_moves, other_order_log, other_order_finals};
@@ -22,6 +25,12 @@ pub fn order_is_decided()
 /// The opening state of every graph is lawful.
 pub fn opening_is_lawful()
     ensures { (graph : Graph) → IsGraph graph → (callers limit : ℕ) → IsLawful graph (opening graph callers limit) }
+{}
+
+/// Each step keeps the order: it has no cycle, and the calls of each list stand in it.
+pub fn order_stays()
+    ensures step { (graph : Graph) (s : Core) (step : Step) → IsLawful graph s → allowed graph s step ≡ true → OrderIsKept (apply graph s step) }
+    ensures begin { (graph : Graph) (s : Core) (caller : ℕ) (call : Call) → IsLawful graph s → OrderIsKept (begin graph s caller call) }
 {}
 
 /// The worked examples: what each schedule makes of its deck.
