@@ -136,7 +136,7 @@ start-Standing s old t h lt none = subst (λ (l : ℕ → Bool). Stands s.pairs 
 
 -- ---- End
 
-reads_without : (reads : Option LiveCall → Bool) → reads None ≡ false → (t : ℕ) (cs : List LiveCall) (u : ℕ) → reads (call_of (without_call t cs) u) ≡ (not (u == t) && reads (call_of cs u))
+pub reads_without : (reads : Option LiveCall → Bool) → reads None ≡ false → (t : ℕ) (cs : List LiveCall) (u : ℕ) → reads (call_of (without_call t cs) u) ≡ (not (u == t) && reads (call_of cs u))
 reads_without reads none t cs u = go (true_or_false (u == t))
   where
     go : ((u == t) ≡ true) ⊎ ((u == t) ≡ false) → reads (call_of (without_call t cs) u) ≡ (not (u == t) && reads (call_of cs u))

@@ -12,3 +12,6 @@ pub mod KeepsOrder
 pub mod Versions
 pub mod Allowed
 pub mod OrderOfSteps
+pub mod ListSteps
+pub mod ListFacts
+pub mod PhasesOfSteps
