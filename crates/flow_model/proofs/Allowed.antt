@@ -1,14 +1,13 @@
 -- What an allowed step says of its call.
-use Rattle.std.proofs.Common.{◌≡◌, ℕ, Bool, true, false, ◌&&◌, ◌||◌, not, ◌⊎◌, inl, inr, refl, sym, ap, arith, List, [], ◌∷◌, true≢false, ◌∙◌, Option, Some, None}
-use Rattle.std.specs.List.{list_any}
-use Rattle.signal_graph.specs.Graph.{Graph, node_at, numbers, is_in, is_source, inputs_of, body_of}
+use Rattle.std.proofs.Common.{◌≡◌, ℕ, Bool, true, false, ◌&&◌, ◌||◌, not, refl, sym, ap, arith, List, [], ◌∷◌, true≢false, ◌∙◌, Option, Some, None}
+use Rattle.signal_graph.specs.Graph.{Graph, is_in}
 use Rattle.node_versions.specs.declared.entry.Entry.{Entry}
 use Rattle.node_versions.specs.declared.entry.State.{State}
 use Rattle.node_versions.specs.declared.entry.State.TheVariants.{Mark, Frame, Done}
 use Rattle.node_versions.specs.Entries.{has, at, is_mark, is_frame, is_done}
 use Rattle.flow_model.specs.declared.step.Step.TheVariants as steps
 use Rattle.flow_model.specs.State.{Core, LiveCall, call, call_of, call_or, some_call, live, executes, frames, entries, wants, opens}
-use Rattle.flow_model.specs.Words.{heads, at_front, turn, touched, due, is_idle}
+use Rattle.flow_model.specs.Words.{heads, at_front, turn, due, is_idle}
 use Rattle.flow_model.specs.Steps.{allowed}
 use Rattle.flow_model.proofs.Truths.{and_both, not_true}
 

@@ -15,3 +15,5 @@ pub mod OrderOfSteps
 pub mod ListSteps
 pub mod ListFacts
 pub mod PhasesOfSteps
+pub mod PartsOfSteps
+pub mod ListsOfSteps

@@ -1,14 +1,13 @@
 -- What lists show after an entry is placed, gets another state, or ended entries are collected.
-use Rattle.std.proofs.Common.{◌≡◌, ℕ, zero, suc, ◌+◌, ◌<◌, ◌≤◌, Bool, true, false, ◌&&◌, ◌||◌, not, ◌==◌, ◌⊎◌, ◌≢◌, inl, inr, refl, sym, ap, arith, List, [], ◌∷◌, ◌++◌, length, true≢false, ◌∙◌, subst, Option, Some, None}
+use Rattle.std.proofs.Common.{◌≡◌, ℕ, suc, ◌+◌, ◌≤◌, Bool, true, false, ◌&&◌, ◌||◌, not, ◌==◌, ◌⊎◌, ◌≢◌, inl, inr, refl, sym, ap, arith, List, [], ◌∷◌, ◌++◌, length, true≢false, ◌∙◌, subst, Option, Some, None}
 use Rattle.std.specs.Prelude.{filter, if◌then◌else◌}
 use Rattle.std.specs.List.{cons_option}
 use Rattle.std.specs.Option.{option_or}
 use Rattle.std.proofs.lemmas.Bool.Decides.{eqb_tells}
-use Rattle.std.proofs.lemmas.List.{length-append}
 use Rattle.node_versions.specs.declared.entry.State.{State}
 use Rattle.node_versions.specs.declared.entry.Entry.{Entry}
-use Rattle.node_versions.specs.Entries.{IsUnique, is_done, has, at, behind, front, rest, placed, with_state, only_done, last_done, collected}
-use Rattle.flow_model.proofs.Truths.{or_cases, or_left, or_right, same_number, equal_test, other_number, not_true, is_not_true, true_or_false}
+use Rattle.node_versions.specs.Entries.{IsUnique, is_done, has, at, front, rest, placed, with_state, only_done, last_done, collected}
+use Rattle.flow_model.proofs.Truths.{or_right, same_number, equal_test, not_true, is_not_true, true_or_false}
 use Rattle.flow_model.proofs.Lists.{on_calls, has-append, front-rest, filter-has, with_state-has, last_done-has}
 use Rattle.flow_model.proofs.States.{more-has, more-at, more-at_it}
 

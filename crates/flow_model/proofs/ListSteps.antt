@@ -1,19 +1,17 @@
 -- What a step does to one node's list.
-use Rattle.std.proofs.Common.{◌≡◌, ℕ, zero, suc, ◌+◌, ◌<◌, ◌≤◌, Bool, true, false, ◌&&◌, ◌||◌, not, ◌==◌, ◌⊎◌, ◌≢◌, inl, inr, refl, sym, ap, arith, List, [], ◌∷◌, ◌++◌, length, true≢false, ◌∙◌, subst, Option, Some, None}
+use Rattle.std.proofs.Common.{◌≡◌, ℕ, Bool, true, false, ◌||◌, ◌⊎◌, inl, inr, refl, sym, ap, arith, List, ◌∙◌, subst, Option}
 use Rattle.script_tree.specs.declared.value.Value.{Value}
 use Rattle.signal_graph.specs.Graph.{Graph}
-use Rattle.node_versions.specs.declared.entry.State.{State}
 use Rattle.node_versions.specs.declared.entry.State.TheVariants.{Mark, Frame, Done}
 use Rattle.node_versions.specs.declared.entry.Entry.{Entry}
 use Rattle.node_versions.specs.Entries.{has, at, is_mark, placed, with_state, collected}
 use Rattle.flow_model.specs.declared.step.Step.{Step}
 use Rattle.flow_model.specs.declared.step.Step.TheVariants as steps
-use Rattle.flow_model.specs.State.{Core, LiveCall, Cell, cell, live, ended, executes, wants, entries, with_cell, with_call}
-use Rattle.flow_model.specs.Words.{at_front, due, has_room, value_now, found_picks}
-use Rattle.flow_model.specs.Changes.{stops, new_entry, place_entry, set_state, enter, raise, ensure_mark, finish, clear, add_edge, drop_edge}
+use Rattle.flow_model.specs.State.{Core, Cell, ended, executes, wants, entries, with_cell}
+use Rattle.flow_model.specs.Words.{at_front, has_room, value_now, found_picks}
+use Rattle.flow_model.specs.Changes.{stops, new_entry, place_entry, set_state, enter, raise, ensure_mark, finish, add_edge, drop_edge}
 use Rattle.flow_model.specs.Steps.{allowed, apply, open_node, frame, has_room_for, is_change, collect}
 use Rattle.flow_model.specs.Lawful.{IsLawful}
-use Rattle.flow_model.proofs.Truths.{true_or_false, is_not_true}
 use Rattle.flow_model.proofs.Allowed.{and_left, and_right, frame-wants, skip-turn, resolve-turn, turn-at_front, at_front-executes, due-turn, discover-due, drop-due, mark-executes, mark-no_entry}
 use Rattle.flow_model.proofs.Enter.{with_cell-entries}
 use Rattle.flow_model.proofs.OrderOfSteps.{wanted-fresh}

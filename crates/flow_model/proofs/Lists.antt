@@ -6,7 +6,7 @@ use Rattle.std.specs.Option.{option_or}
 use Rattle.std.proofs.lemmas.Bool.Decides.{eqb_tells}
 use Rattle.node_versions.specs.declared.entry.State.{State}
 use Rattle.node_versions.specs.declared.entry.Entry.{Entry}
-use Rattle.node_versions.specs.Entries.{IsUnique, has, behind, front, rest, placed, with_state, is_done, last_done, only_done, collected}
+use Rattle.node_versions.specs.Entries.{has, behind, front, rest, placed, with_state, is_done, last_done, only_done, collected}
 use Rattle.flow_model.specs.Changes.{first_version, last_version}
 use Rattle.flow_model.proofs.Truths.{or_cases, or_left, or_right, same_number, equal_test, true_or_false}
 

@@ -1,5 +1,5 @@
 -- The closure of the recorded pairs.
-use Rattle.std.proofs.Common.{◌≡◌, ℕ, Bool, true, false, not, ◌&&◌, ◌||◌, ◌==◌, ◌⊎◌, ◌≢◌, inl, inr, refl, sym, arith, List, [], ◌∷◌, true≢false, ◌∙◌, subst}
+use Rattle.std.proofs.Common.{◌≡◌, ℕ, true, false, not, ◌&&◌, ◌||◌, ◌==◌, ◌⊎◌, ◌≢◌, inl, inr, refl, arith, List, [], ◌∷◌, subst}
 use Rattle.std.proofs.lemmas.Bool.Decides.{eqb_tells}
 use Rattle.order_graph.specs.declared.pair.Pair.{Pair}
 use Rattle.order_graph.specs.Order.{Precedes, is_recorded, reaches, linked, retired}

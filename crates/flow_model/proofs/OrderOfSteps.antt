@@ -1,26 +1,25 @@
 -- Each step keeps the order: no cycle, lists in order, framing calls last, and the ended ones first in the log's order.
-use Rattle.std.proofs.Common.{◌≡◌, ℕ, zero, suc, ◌+◌, ◌≤◌, Bool, true, false, ◌&&◌, ◌||◌, not, ◌==◌, ◌⊎◌, ◌≢◌, inl, inr, refl, sym, ap, arith, List, [], ◌∷◌, ◌++◌, true≢false, ◌∙◌, subst, Option, Some, None}
-use Rattle.std.proofs.lemmas.Bool.Decides.{eqb_tells}
+use Rattle.std.proofs.Common.{◌≡◌, ℕ, suc, Bool, true, false, ◌&&◌, ◌||◌, not, ◌==◌, ◌⊎◌, inl, inr, refl, sym, arith, List, [], ◌∷◌, ◌++◌, true≢false, ◌∙◌, subst}
 use Rattle.signal_graph.specs.declared.call.Call.{Call}
 use Rattle.signal_graph.specs.declared.log.Logged.{Logged}
 use Rattle.signal_graph.specs.Graph.{Graph}
-use Rattle.order_graph.specs.Order.{is_recorded, reaches}
+use Rattle.order_graph.specs.Order.{reaches}
 use Rattle.node_versions.specs.declared.entry.State.TheVariants.{Mark, Frame}
 use Rattle.node_versions.specs.declared.entry.Entry.{Entry}
 use Rattle.node_versions.specs.Entries.{IsUnique, has, at, behind, is_mark}
 use Rattle.flow_model.specs.declared.step.Step.{Step}
 use Rattle.flow_model.specs.declared.step.Step.TheVariants as steps
-use Rattle.flow_model.specs.State.{Core, LiveCall, Cell, call, live, executes, frames, entries, with_cell, with_call, precedes, wants}
-use Rattle.flow_model.specs.Changes.{enter, raise, ensure_mark, finish, clear, add_edge, drop_edge}
-use Rattle.flow_model.specs.Steps.{allowed, apply, can_begin, begin, any_before, framing_before, logged, keep_found, keep_body, gather, counted, with_look, open_node, frame, is_change}
-use Rattle.flow_model.specs.Words.{found_now, found_picks, value_now, is_idle, due}
+use Rattle.flow_model.specs.State.{Core, call, live, executes, frames, entries, with_cell, precedes, wants}
+use Rattle.flow_model.specs.Changes.{enter, raise, ensure_mark, finish, clear, add_edge}
+use Rattle.flow_model.specs.Steps.{allowed, apply, begin, logged, keep_found, counted, open_node, frame, is_change}
+use Rattle.flow_model.specs.Words.{found_now, found_picks, value_now, due}
 use Rattle.flow_model.specs.Lawful.{IsLawful, OrderIsKept, log_has, ended_before}
-use Rattle.flow_model.proofs.Truths.{and_both, and_make, or_cases, or_left, or_right, same_number, equal_test, not_true, is_not_true, true_or_false}
-use Rattle.flow_model.proofs.Allowed.{and_left, and_right, not_is, executes-live, wants-live, frames-live, at_front-executes, turn-at_front, due-turn, idle-executes, frame-wants, start-frames, discover-due, drop-due, mark-executes, mark-no_entry, end-idle, no_states-none}
-use Rattle.flow_model.proofs.Lists.{Ascends, Ascends-behind, Each}
+use Rattle.flow_model.proofs.Truths.{and_make, same_number, equal_test, not_true, is_not_true}
+use Rattle.flow_model.proofs.Allowed.{and_right, not_is, executes-live, wants-live, frames-live, at_front-executes, turn-at_front, due-turn, idle-executes, frame-wants, start-frames, discover-due, drop-due, mark-executes, mark-no_entry, end-idle, no_states-none}
+use Rattle.flow_model.proofs.Lists.{Ascends, Ascends-behind}
 use Rattle.flow_model.proofs.States.{behind-has}
 use Rattle.flow_model.proofs.OrderLemmas.{first_pair, last_pair}
-use Rattle.flow_model.proofs.Enter.{Stands, Standing, Comes, comes_by, Apart, enter-Standing}
+use Rattle.flow_model.proofs.Enter.{Standing, Comes, comes_by, enter-Standing}
 use Rattle.flow_model.proofs.KeepsOrder
 use Rattle.flow_model.proofs.Versions.{not_begun-live, not_begun-logged, ended_before-trans, ended_before-more, ended_before-last, call-version, end-VersionsAreFresh}
 
@@ -158,16 +157,17 @@ step-Standing graph s (steps.Look t) h a = KeepsOrder.with_call-Standing s (ende
 step-Standing graph s (steps.End t) h a = end-Standing graph s t h a
 step-Standing graph s (steps.Collect n) h a = KeepsOrder.collect-Standing s (ended_before s.log) n (lawful-Standing graph s h)
 
-pub begin-Stood : (graph : Graph) (s : Core) (caller : ℕ) (c : Call) → IsLawful graph s → Stood (begin graph s caller c)
-begin-Stood graph s caller c h = KeepsOrder.begin-Standing graph s (ended_before s.log) caller c (lawful-Standing graph s h) (not_begun-live s h.versions_are_fresh) no_entry
+-- The next version has no entry.
+pub not_begun-entry : (graph : Graph) (s : Core) → IsLawful graph s → (n : ℕ) → has (entries s n) (suc s.begun) ≡ false
+not_begun-entry graph s h n = not_true _ (λ k. go (h.entries_are_kept.versions n (suc s.begun) k))
   where
-    no_entry : (n : ℕ) → has (entries s n) (suc s.begun) ≡ false
-    no_entry n = not_true _ (λ k. go (h.entries_are_kept.versions n (suc s.begun) k))
-      where
-        go : (suc s.begun ≡ 0) ⊎ ((live s (suc s.begun) ≡ true) ⊎ (log_has s.log (suc s.begun) ≡ true)) → ⊥
-        go (inl e) = omega (arith, e)
-        go (inr (inl e)) = is_not_true _ (not_begun-live s h.versions_are_fresh) e
-        go (inr (inr e)) = is_not_true _ (not_begun-logged s h.versions_are_fresh) e
+    go : (suc s.begun ≡ 0) ⊎ ((live s (suc s.begun) ≡ true) ⊎ (log_has s.log (suc s.begun) ≡ true)) → ⊥
+    go (inl e) = omega (arith, e)
+    go (inr (inl e)) = is_not_true _ (not_begun-live s h.versions_are_fresh) e
+    go (inr (inr e)) = is_not_true _ (not_begun-logged s h.versions_are_fresh) e
+
+pub begin-Stood : (graph : Graph) (s : Core) (caller : ℕ) (c : Call) → IsLawful graph s → Stood (begin graph s caller c)
+begin-Stood graph s caller c h = KeepsOrder.begin-Standing graph s (ended_before s.log) caller c (lawful-Standing graph s h) (not_begun-live s h.versions_are_fresh) (not_begun-entry graph s h)
 
 -- ---- said of the facts
 

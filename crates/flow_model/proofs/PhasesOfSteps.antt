@@ -1,17 +1,15 @@
 -- Which calls live, execute and frame after a step.
-use Rattle.std.proofs.Common.{◌≡◌, ℕ, zero, suc, Bool, true, false, ◌&&◌, ◌||◌, not, ◌==◌, ◌⊎◌, inl, inr, refl, sym, ap, arith, List, [], ◌∷◌, true≢false, ◌∙◌, subst, Option, Some, None, map}
-use Rattle.std.proofs.lemmas.Bool.Decides.{eqb_tells}
+use Rattle.std.proofs.Common.{◌≡◌, ℕ, Bool, true, false, ◌&&◌, ◌||◌, not, ◌==◌, refl, sym, arith, ◌∙◌, subst, Option}
 use Rattle.signal_graph.specs.Graph.{Graph}
 use Rattle.node_versions.specs.declared.entry.State.TheVariants.{Mark, Frame, Done}
 use Rattle.node_versions.specs.Entries.{has, at, is_mark, value_before, picks_before}
 use Rattle.flow_model.specs.declared.step.Step.{Step}
 use Rattle.flow_model.specs.declared.step.Step.TheVariants as steps
-use Rattle.flow_model.specs.State.{Core, LiveCall, Cell, call_of, call_or, some_call, live, executes, frames, entries, with_cell, with_call}
-use Rattle.flow_model.specs.Words.{found_now, value_now, found_picks}
-use Rattle.flow_model.specs.Changes.{enter, raise, ensure_mark, set_state, closed, opened, tell_call, add_edge}
-use Rattle.flow_model.specs.Steps.{allowed, apply, open_node, frame, started, counted, with_look, keep_found, is_change}
-use Rattle.flow_model.proofs.Truths.{same_number, equal_test, not_true, is_not_true, true_or_false}
-use Rattle.flow_model.proofs.Allowed.{frames-live, start-frames}
+use Rattle.flow_model.specs.State.{Core, LiveCall, call_or, some_call, live, executes, frames, entries, with_cell, with_call}
+use Rattle.flow_model.specs.Words.{is_idle, found_now, value_now, found_picks}
+use Rattle.flow_model.specs.Changes.{enter, raise, ensure_mark, set_state, closed, tell_call, add_edge}
+use Rattle.flow_model.specs.Steps.{allowed, apply, open_node, frame, started, counted, keep_found, is_change}
+use Rattle.flow_model.proofs.Allowed.{frames-live, start-frames, end-idle}
 use Rattle.flow_model.proofs.Readers.{KeepsPhase, with_call-live, with_call-executes, map_call-live, map_call-executes, started-executes}
 use Rattle.flow_model.proofs.KeepsOrder.{reads_without}
 
@@ -59,7 +57,7 @@ discover-same graph s t n c =
 pub data PhaseStep (s q : Core) : Type 0 where
   stays : SamePhases s q → PhaseStep s q
   starts : (t : ℕ) → frames s t ≡ true → live q ≡ live s → ((u : ℕ) → executes q u ≡ ((u == t) || executes s u)) → PhaseStep s q
-  ends : (t : ℕ) → ((u : ℕ) → live q u ≡ (not (u == t) && live s u)) → ((u : ℕ) → executes q u ≡ (not (u == t) && executes s u)) → PhaseStep s q
+  ends : (t : ℕ) → is_idle s t ≡ true → ((n : ℕ) → entries q n ≡ entries s n) → ((u : ℕ) → live q u ≡ (not (u == t) && live s u)) → ((u : ℕ) → executes q u ≡ (not (u == t) && executes s u)) → PhaseStep s q
 
 pub step-phases : (graph : Graph) (s : Core) (step : Step) → allowed graph s step ≡ true → PhaseStep s (apply graph s step)
 step-phases graph s (steps.Frame t n) a = stays (frame-same graph s t n)
@@ -73,7 +71,7 @@ step-phases graph s (steps.Discover t n c) a = stays (discover-same graph s t n 
 step-phases graph s (steps.Drop t n o) a = stays (let e = ensure_mark-same s t o in record { lives = e.lives; executing = e.executing })
 step-phases graph s (steps.Mark t m) a = stays (record { lives = refl; executing = refl })
 step-phases graph s (steps.Look t) a = stays (with_call-same s s t _ (record { version = λ c. refl; executing = λ c. refl }) (same s))
-step-phases graph s (steps.End t) a = ends t (reads_without some_call refl t s.calls) (reads_without (λ (o : Option LiveCall). (call_or o).executing) refl t s.calls)
+step-phases graph s (steps.End t) a = ends t (end-idle graph s t a) (λ n. refl) (reads_without some_call refl t s.calls) (reads_without (λ (o : Option LiveCall). (call_or o).executing) refl t s.calls)
 step-phases graph s (steps.Collect n) a = stays (record { lives = refl; executing = refl })
 
 -- Whoever frames after a step framed before it.
@@ -83,10 +81,10 @@ phase-frames s q (starts t ft l e) u f =
     let a = subst (λ (l : ℕ → Bool). (l u && not (executes q u)) ≡ true) l f in
     let b = e u in
     grind (arith, a, b)
-phase-frames s q (ends t l e) u f = let a = l u in let b = e u in grind (arith, a, b, f)
+phase-frames s q (ends t i n l e) u f = let a = l u in let b = e u in grind (arith, a, b, f)
 
 -- Whoever has ended before a step has ended after it.
 pub phase-ended : (s q : Core) → PhaseStep s q → (u : ℕ) → live s u ≡ false → live q u ≡ false
 phase-ended s q (stays h) u f = subst (λ (l : ℕ → Bool). l u ≡ false) (sym h.lives) f
 phase-ended s q (starts t ft l e) u f = subst (λ (l : ℕ → Bool). l u ≡ false) (sym l) f
-phase-ended s q (ends t l e) u f = let a = l u in grind (arith, a, f)
+phase-ended s q (ends t i n l e) u f = let a = l u in grind (arith, a, f)

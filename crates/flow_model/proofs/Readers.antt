@@ -103,3 +103,11 @@ with_call-field {A} read s t f k u lt = go (u == t) refl
     go : (b : Bool) → (u == t) ≡ b → read (call (with_call s t f) u) ≡ elim b as (λ _. A) [ true ↦ read (f (call s t)) | false ↦ read (call s u) ]
     go true e = ap (λ (w : ℕ). read (call (with_call s t f) w)) (same_number u t e) ∙ ap (λ (o : Option LiveCall). read (call_or o)) (change_call-same t f k s.calls) ∙ ap read (changed (call_of s.calls t) lt)
     go false e = ap (λ (o : Option LiveCall). read (call_or o)) (change_call-other t u f k s.calls (λ x. is_not_true _ e (equal_test u t x)))
+
+-- The last call of a longer list is read as before under any other version.
+pub last_call-other : (o : Option LiveCall) (c : LiveCall) (u : ℕ) → (c.version == u) ≡ false → last_call o c u ≡ o
+last_call-other (Some x) c u h = refl
+last_call-other None c u h = rw (h, last_call) refl
+
+pub last_call-it : (o : Option LiveCall) (c : LiveCall) → o ≡ None → last_call o c c.version ≡ Some c
+last_call-it o c h = let e = equal_test c.version c.version refl in rw (h, last_call, e) refl

@@ -1,7 +1,6 @@
 -- The versions of live and logged calls.
-use Rattle.std.proofs.Common.{◌≡◌, ℕ, zero, suc, ◌+◌, ◌<◌, ◌≤◌, Bool, true, false, ◌&&◌, ◌||◌, not, ◌==◌, ◌⊎◌, ◌≢◌, inl, inr, refl, sym, ap, ap₂, arith, List, [], ◌∷◌, ◌++◌, map, length, true≢false, ◌∙◌, subst, Option, Some, None}
+use Rattle.std.proofs.Common.{◌≡◌, ℕ, zero, suc, ◌+◌, ◌≤◌, Bool, true, false, ◌&&◌, ◌||◌, ◌==◌, ◌⊎◌, inl, inr, refl, sym, ap, ap₂, arith, List, [], ◌∷◌, ◌++◌, map, length, true≢false, ◌∙◌, subst}
 use Rattle.std.specs.Prelude.{filter}
-use Rattle.std.specs.List.{list_any}
 use Rattle.std.proofs.lemmas.Bool.Decides.{eqb_tells}
 use Rattle.std.proofs.lemmas.List.{map-append, length-append}
 use Rattle.std.proofs.lemmas.List.Elements.{filter-append}
@@ -10,7 +9,7 @@ use Rattle.signal_graph.specs.declared.call.Call.{Call}
 use Rattle.signal_graph.specs.declared.log.Logged.{Logged}
 use Rattle.signal_graph.specs.Graph.{Graph, is_in}
 use Rattle.call_log.specs.Made.{versions_in}
-use Rattle.flow_model.specs.State.{Core, LiveCall, call, call_of, call_or, some_call, live, change_call, with_call}
+use Rattle.flow_model.specs.State.{Core, LiveCall, call, call_of, call_or, some_call, live, change_call}
 use Rattle.flow_model.specs.Steps.{begin, new_call, without_call, logged}
 use Rattle.flow_model.specs.Lawful.{times, versions, AreDistinct, VersionsAreFresh, log_has, ended_first, ended_before}
 use Rattle.flow_model.proofs.Truths.{or_cases, or_left, or_right, same_number, equal_test, not_true, is_not_true, true_or_false}

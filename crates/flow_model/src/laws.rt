@@ -7,7 +7,7 @@ ghost use Rattle.flow_model.specs.State.{Core, precedes, opening};
 ghost use Rattle.flow_model.specs.Order.{IsBefore};
 ghost use Rattle.flow_model.specs.declared.step.Step.{Step};
 ghost use Rattle.flow_model.specs.Steps.{allowed, apply, can_begin, begin};
-ghost use Rattle.flow_model.specs.Lawful.{IsLawful, OrderIsKept};
+ghost use Rattle.flow_model.specs.Lawful.{IsLawful, OrderIsKept, FramingComesLast, EndedIsPrefix};
 ghost use Rattle.flow_model.specs.Examples.{PlaysOut, retrofit_log_with};
 ghost use Rattle.flow_model.specs.Examples.{retrofit_graph, retrofit_scripts, retrofit_schedule, retrofit_moves, retrofit_log, retrofit_finals};
 ghost use Rattle.flow_model.specs.Examples.{other_order_graph, other_order_scripts, other_order_schedule, other_order_moves, other_order_log, other_order_finals};
@@ -31,6 +31,19 @@ pub fn opening_is_lawful()
 pub fn order_stays()
     ensures step { (graph : Graph) (s : Core) (step : Step) → IsLawful graph s → allowed graph s step ≡ true → OrderIsKept (apply graph s step) }
     ensures begin { (graph : Graph) (s : Core) (caller : ℕ) (call : Call) → IsLawful graph s → OrderIsKept (begin graph s caller call) }
+{}
+
+/// Each step keeps that no framing call is before an executing one, and that a framing call has no Marks and no Dones.
+pub fn framing_stays_last()
+    ensures step { (graph : Graph) (s : Core) (step : Step) → IsLawful graph s → allowed graph s step ≡ true → FramingComesLast (apply graph s step) }
+    ensures begin { (graph : Graph) (s : Core) (caller : ℕ) (call : Call) → IsLawful graph s → FramingComesLast (begin graph s caller call) }
+{}
+
+/// Each step keeps that in each list the entries of ended calls come first, in the order of the log, with a Done and no
+/// Frame among them.
+pub fn ended_stay_first()
+    ensures step { (graph : Graph) (s : Core) (step : Step) → IsLawful graph s → allowed graph s step ≡ true → EndedIsPrefix (apply graph s step) }
+    ensures begin { (graph : Graph) (s : Core) (caller : ℕ) (call : Call) → IsLawful graph s → EndedIsPrefix (begin graph s caller call) }
 {}
 
 /// The worked examples: what each schedule makes of its deck.
