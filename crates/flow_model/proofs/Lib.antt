@@ -17,3 +17,7 @@ pub mod ListFacts
 pub mod PhasesOfSteps
 pub mod PartsOfSteps
 pub mod ListsOfSteps
+pub mod Sets
+pub mod FramesLast
+pub mod OpenNodes
+pub mod VersionsOfSteps

@@ -6,7 +6,7 @@ use Rattle.std.specs.Option.{option_or}
 use Rattle.std.proofs.lemmas.Bool.Decides.{eqb_tells}
 use Rattle.node_versions.specs.declared.entry.State.{State}
 use Rattle.node_versions.specs.declared.entry.Entry.{Entry}
-use Rattle.node_versions.specs.Entries.{IsUnique, is_done, has, at, front, rest, placed, with_state, only_done, last_done, collected}
+use Rattle.node_versions.specs.Entries.{IsUnique, behind, is_done, has, at, front, rest, placed, with_state, only_done, last_done, collected}
 use Rattle.flow_model.proofs.Truths.{or_right, same_number, equal_test, not_true, is_not_true, true_or_false}
 use Rattle.flow_model.proofs.Lists.{on_calls, has-append, front-rest, filter-has, with_state-has, last_done-has}
 use Rattle.flow_model.proofs.States.{more-has, more-at, more-at_it}
@@ -181,3 +181,40 @@ collected-done ended es u x d = go (last_done (filter (on_calls ended) es)) refl
     go : (o : Option Entry) → last_done (filter (on_calls ended) es) ≡ o → (v : ℕ) × (ended v ≡ true) × (at is_done (cons_option o (filter (on_calls (λ v. not (ended v))) es)) v ≡ true)
     go None e = let f = filter-at is_done ended es u in absurd (there (filter (on_calls ended) es) e (grind (arith, f, x, d)))
     go (Some y) e = (y.version, (filter-has ended es y.version (last_done-has (filter (on_calls ended) es) y e)).1, (let w = equal_test y.version y.version refl in rw (w, at) (last_done-done (filter (on_calls ended) es) y e)))
+
+-- ---- in which order a collected list stands
+
+pub filter-has_both : (p : ℕ → Bool) (es : List Entry) (v : ℕ) → has (filter (on_calls p) es) v ≡ (p v && has es v)
+filter-has_both p [] v = grind arith
+filter-has_both p (e ∷ es) v = let r = filter-has_both p es v in grind (arith, eqb_tells, r)
+
+pub filter-behind : (p : ℕ → Bool) (es : List Entry) (u v : ℕ) → behind (filter (on_calls p) es) u v ≡ ((p u && p v) && behind es u v)
+filter-behind p [] u v = grind arith
+filter-behind p (e ∷ es) u v = let r = filter-behind p es u v in let h = filter-has_both p es v in grind (arith, eqb_tells, r, h)
+
+-- Of a call that has not ended, a collected list shows what the list showed.
+pub collected-at_live : (test : State → Bool) (ended : ℕ → Bool) (es : List Entry) (u : ℕ) → ended u ≡ false → at test (collected (on_calls ended) es) u ≡ at test es u
+collected-at_live test ended es u h = go (last_done (filter (on_calls ended) es)) refl
+  where
+    shown : at test (filter (on_calls (λ v. not (ended v))) es) u ≡ at test es u
+    shown = let f = filter-at test (λ v. not (ended v)) es u in grind (arith, f, h)
+
+    go : (o : Option Entry) → last_done (filter (on_calls ended) es) ≡ o → at test (cons_option o (filter (on_calls (λ v. not (ended v))) es)) u ≡ at test es u
+    go None e = shown
+    go (Some x) e =
+        let hx = (filter-has ended es x.version (last_done-has (filter (on_calls ended) es) x e)).1 in
+        let ne : (x.version == u) ≡ false = not_true _ (λ w. is_not_true _ h (subst (λ (v : ℕ). ended v ≡ true) (same_number x.version u w) hx)) in
+        rw (ne, at) shown
+
+pub collected-behind_live : (ended : ℕ → Bool) (es : List Entry) (u v : ℕ) → ended u ≡ false → behind (collected (on_calls ended) es) u v ≡ true → behind es u v ≡ true
+collected-behind_live ended es u v h k = go (last_done (filter (on_calls ended) es)) refl k
+  where
+    shown : behind (filter (on_calls (λ v. not (ended v))) es) u v ≡ true → behind es u v ≡ true
+    shown j = let f = filter-behind (λ v. not (ended v)) es u v in grind (arith, f, j)
+
+    go : (o : Option Entry) → last_done (filter (on_calls ended) es) ≡ o → behind (cons_option o (filter (on_calls (λ v. not (ended v))) es)) u v ≡ true → behind es u v ≡ true
+    go None e j = shown j
+    go (Some x) e j =
+        let hx = (filter-has ended es x.version (last_done-has (filter (on_calls ended) es) x e)).1 in
+        let ne : (x.version == u) ≡ false = not_true _ (λ w. is_not_true _ h (subst (λ (v : ℕ). ended v ≡ true) (same_number x.version u w) hx)) in
+        shown (rw (ne, behind) at j)

@@ -105,11 +105,11 @@ step-FramingComesLast graph s step h a =
 
 -- ---- ended calls
 
-live-other : (s : Core) (u : ℕ) → live s u ≡ false → (t : ℕ) → live s t ≡ true → t ≢ u
+pub live-other : (s : Core) (u : ℕ) → live s u ≡ false → (t : ℕ) → live s t ≡ true → t ≢ u
 live-other s u e t l k = is_not_true _ e (subst (λ (v : ℕ). live s v ≡ true) k l)
 
 -- An idle call has no open node, and so no Frame.
-idle-no_frame : (graph : Graph) (s : Core) → IsLawful graph s → (t n : ℕ) → is_idle s t ≡ true → at is_frame (entries s n) t ≡ false
+pub idle-no_frame : (graph : Graph) (s : Core) → IsLawful graph s → (t n : ℕ) → is_idle s t ≡ true → at is_frame (entries s n) t ≡ false
 idle-no_frame graph s h t n i = sym (h.frames_are_open.opens_frames t n) ∙ none (call s t).open_nodes (and_right _ _ i)
   where
     none : (ns : List ℕ) → is_empty ns ≡ true → is_in n ns ≡ false

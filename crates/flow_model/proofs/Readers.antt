@@ -111,3 +111,18 @@ last_call-other None c u h = rw (h, last_call) refl
 
 pub last_call-it : (o : Option LiveCall) (c : LiveCall) → o ≡ None → last_call o c c.version ≡ Some c
 last_call-it o c h = let e = equal_test c.version c.version refl in rw (h, last_call, e) refl
+
+-- A field that a change keeps is read as before.
+option_call-field : {A : Type 0} (read : LiveCall → A) (f : LiveCall → LiveCall) → ((c : LiveCall) → read (f c) ≡ read c) → (o : Option LiveCall) → read (call_or (option_call f o)) ≡ read (call_or o)
+option_call-field read f k None = refl
+option_call-field read f k (Some c) = k c
+
+pub with_call-keeps : {A : Type 0} (read : LiveCall → A) (s : Core) (t : ℕ) (f : LiveCall → LiveCall) → ((c : LiveCall) → (f c).version ≡ c.version) → ((c : LiveCall) → read (f c) ≡ read c) → (u : ℕ) → read (call (with_call s t f) u) ≡ read (call s u)
+with_call-keeps {A} read s t f v k u = go (true_or_false (u == t))
+  where
+    go : ((u == t) ≡ true) ⊎ ((u == t) ≡ false) → read (call (with_call s t f) u) ≡ read (call s u)
+    go (inl e) = subst (λ (w : ℕ). read (call (with_call s t f) w) ≡ read (call s w)) (sym (same_number u t e)) (ap (λ (o : Option LiveCall). read (call_or o)) (change_call-same t f v s.calls) ∙ option_call-field read f k (call_of s.calls t))
+    go (inr e) = ap (λ (o : Option LiveCall). read (call_or o)) (change_call-other t u f v s.calls (λ x. is_not_true _ e (equal_test u t x)))
+
+pub map_call-keeps : {A : Type 0} (read : LiveCall → A) (s : Core) (f : LiveCall → LiveCall) → ((c : LiveCall) → (f c).version ≡ c.version) → ((c : LiveCall) → read (f c) ≡ read c) → (u : ℕ) → read (call (record s { calls = map f s.calls }) u) ≡ read (call s u)
+map_call-keeps read s f v k u = ap (λ (o : Option LiveCall). read (call_or o)) (map_call-reads f v s.calls u) ∙ option_call-field read f k (call_of s.calls u)

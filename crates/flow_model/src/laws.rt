@@ -1,13 +1,14 @@
 //! Laws of the machine. The functions do nothing when they run.
 
-ghost use Rattle.std.specs.Prelude.{◌≡◌, ℕ, true, IsTrue, ◌↔◌};
+ghost use Rattle.std.specs.Prelude.{◌≡◌, ℕ, ◌+◌, ◌≤◌, length, true, IsTrue, ◌↔◌};
+ghost use Rattle.node_versions.specs.Entries.{IsUnique};
 ghost use Rattle.signal_graph.specs.declared.call.Call.{Call};
 ghost use Rattle.signal_graph.specs.Graph.{Graph, IsGraph};
-ghost use Rattle.flow_model.specs.State.{Core, precedes, opening};
+ghost use Rattle.flow_model.specs.State.{Core, precedes, opening, entries};
 ghost use Rattle.flow_model.specs.Order.{IsBefore};
 ghost use Rattle.flow_model.specs.declared.step.Step.{Step};
 ghost use Rattle.flow_model.specs.Steps.{allowed, apply, can_begin, begin};
-ghost use Rattle.flow_model.specs.Lawful.{IsLawful, OrderIsKept, FramingComesLast, EndedIsPrefix};
+ghost use Rattle.flow_model.specs.Lawful.{IsLawful, OrderIsKept, FramingComesLast, EndedIsPrefix, FramesAreOpen, VersionsAreFresh};
 ghost use Rattle.flow_model.specs.Examples.{PlaysOut, retrofit_log_with};
 ghost use Rattle.flow_model.specs.Examples.{retrofit_graph, retrofit_scripts, retrofit_schedule, retrofit_moves, retrofit_log, retrofit_finals};
 ghost use Rattle.flow_model.specs.Examples.{other_order_graph, other_order_scripts, other_order_schedule, other_order_moves, other_order_log, other_order_finals};
@@ -44,6 +45,26 @@ pub fn framing_stays_last()
 pub fn ended_stay_first()
     ensures step { (graph : Graph) (s : Core) (step : Step) → IsLawful graph s → allowed graph s step ≡ true → EndedIsPrefix (apply graph s step) }
     ensures begin { (graph : Graph) (s : Core) (caller : ℕ) (call : Call) → IsLawful graph s → EndedIsPrefix (begin graph s caller call) }
+{}
+
+/// Each step keeps that no Frame stands before a Done, and that the open nodes of a call are those with its Frame.
+pub fn frames_stay_open()
+    ensures step { (graph : Graph) (s : Core) (step : Step) → IsLawful graph s → allowed graph s step ≡ true → FramesAreOpen (apply graph s step) }
+    ensures begin { (graph : Graph) (s : Core) (caller : ℕ) (call : Call) → IsLawful graph s → FramesAreOpen (begin graph s caller call) }
+{}
+
+/// Each step keeps each version of one call, and the next one of none.
+pub fn versions_stay_fresh()
+    ensures step { (graph : Graph) (s : Core) (step : Step) → IsLawful graph s → allowed graph s step ≡ true → VersionsAreFresh (apply graph s step) }
+    ensures begin { (graph : Graph) (s : Core) (caller : ℕ) (call : Call) → IsLawful graph s → VersionsAreFresh (begin graph s caller call) }
+{}
+
+/// Each step keeps one entry a call in each list, as many lists as nodes, and each list within its room. A beginning changes
+/// no list.
+pub fn lists_stay()
+    ensures entries { (graph : Graph) (s : Core) (step : Step) → IsLawful graph s → allowed graph s step ≡ true → (n : ℕ) → IsUnique (entries (apply graph s step) n) }
+    ensures lists { (graph : Graph) (s : Core) (step : Step) → IsLawful graph s → length (apply graph s step).cells ≡ length graph.nodes }
+    ensures room { (graph : Graph) (s : Core) (step : Step) → IsLawful graph s → allowed graph s step ≡ true → (n : ℕ) → length (entries (apply graph s step) n) ≤ (apply graph s step).callers + 9 }
 {}
 
 /// The worked examples: what each schedule makes of its deck.
