@@ -21,3 +21,5 @@ pub mod Sets
 pub mod FramesLast
 pub mod OpenNodes
 pub mod VersionsOfSteps
+pub mod CallsOfSteps
+pub mod Beginnings

@@ -4,11 +4,11 @@ ghost use Rattle.std.specs.Prelude.{◌≡◌, ℕ, ◌+◌, ◌≤◌, length, 
 ghost use Rattle.node_versions.specs.Entries.{IsUnique};
 ghost use Rattle.signal_graph.specs.declared.call.Call.{Call};
 ghost use Rattle.signal_graph.specs.Graph.{Graph, IsGraph};
-ghost use Rattle.flow_model.specs.State.{Core, precedes, opening, entries};
+ghost use Rattle.flow_model.specs.State.{Core, precedes, opening, entries, call, live};
 ghost use Rattle.flow_model.specs.Order.{IsBefore};
 ghost use Rattle.flow_model.specs.declared.step.Step.{Step};
 ghost use Rattle.flow_model.specs.Steps.{allowed, apply, can_begin, begin};
-ghost use Rattle.flow_model.specs.Lawful.{IsLawful, OrderIsKept, FramingComesLast, EndedIsPrefix, FramesAreOpen, VersionsAreFresh};
+ghost use Rattle.flow_model.specs.Lawful.{IsLawful, OrderIsKept, FramingComesLast, EndedIsPrefix, FramesAreOpen, VersionsAreFresh, IsCallRight};
 ghost use Rattle.flow_model.specs.Examples.{PlaysOut, retrofit_log_with};
 ghost use Rattle.flow_model.specs.Examples.{retrofit_graph, retrofit_scripts, retrofit_schedule, retrofit_moves, retrofit_log, retrofit_finals};
 ghost use Rattle.flow_model.specs.Examples.{other_order_graph, other_order_scripts, other_order_schedule, other_order_moves, other_order_log, other_order_finals};
@@ -65,6 +65,12 @@ pub fn lists_stay()
     ensures entries { (graph : Graph) (s : Core) (step : Step) → IsLawful graph s → allowed graph s step ≡ true → (n : ℕ) → IsUnique (entries (apply graph s step) n) }
     ensures lists { (graph : Graph) (s : Core) (step : Step) → IsLawful graph s → length (apply graph s step).cells ≡ length graph.nodes }
     ensures room { (graph : Graph) (s : Core) (step : Step) → IsLawful graph s → allowed graph s step ≡ true → (n : ℕ) → length (entries (apply graph s step) n) ≤ (apply graph s step).callers + 9 }
+{}
+
+/// Each step keeps what live calls set and look at: what they name, within the limits.
+pub fn calls_stay_right()
+    ensures step { (graph : Graph) (s : Core) (step : Step) → IsLawful graph s → allowed graph s step ≡ true → (u : ℕ) → live (apply graph s step) u ≡ true → IsCallRight graph (call (apply graph s step) u) }
+    ensures begin { (graph : Graph) (s : Core) (caller : ℕ) (made : Call) → IsLawful graph s → can_begin graph s caller made ≡ true → (u : ℕ) → live (begin graph s caller made) u ≡ true → IsCallRight graph (call (begin graph s caller made) u) }
 {}
 
 /// The worked examples: what each schedule makes of its deck.
