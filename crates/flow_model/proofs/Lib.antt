@@ -23,3 +23,5 @@ pub mod OpenNodes
 pub mod VersionsOfSteps
 pub mod CallsOfSteps
 pub mod Beginnings
+pub mod SetsOfSteps
+pub mod Pigeons

@@ -182,7 +182,7 @@ end-versions s t x h lt =
         let z : times x (map (λ (c : LiveCall). c.version) (without_call t s.calls)) ≡ times x (map (λ (c : LiveCall). c.version) s.calls) = rw e at e3 in
         omega (arith, e1, e2, e4, o, z)
 
-in-times : (x : ℕ) (xs : List ℕ) → 1 ≤ times x xs → is_in x xs ≡ true
+pub in-times : (x : ℕ) (xs : List ℕ) → 1 ≤ times x xs → is_in x xs ≡ true
 in-times x xs h = go (true_or_false (is_in x xs))
   where
     absent : (ys : List ℕ) → is_in x ys ≡ false → times x ys ≡ 0
@@ -228,14 +228,14 @@ ended_first-logged (x ∷ xs) u v h = let r = ended_first-logged xs u v in grind
 pub ended_before-logged : (log : List Logged) (u v : ℕ) → ended_before log u v ≡ true → log_has log v ≡ true
 ended_before-logged log u v h = let r = ended_first-logged log u v in grind (arith, r)
 
-tail-distinct : (x : ℕ) (xs : List ℕ) → AreDistinct (x ∷ xs) → AreDistinct xs
+pub tail-distinct : (x : ℕ) (xs : List ℕ) → AreDistinct (x ∷ xs) → AreDistinct xs
 tail-distinct x xs h y = let r = h y in go (true_or_false (x == y)) r
   where
     go : ((x == y) ≡ true) ⊎ ((x == y) ≡ false) → times y (x ∷ xs) ≤ 1 → times y xs ≤ 1
     go (inl e) r = let q : suc (times y xs) ≤ 1 = rw e at r in omega (arith, q)
     go (inr e) r = rw e at r
 
-head-distinct : (x : ℕ) (xs : List ℕ) → AreDistinct (x ∷ xs) → is_in x xs ≡ false
+pub head-distinct : (x : ℕ) (xs : List ℕ) → AreDistinct (x ∷ xs) → is_in x xs ≡ false
 head-distinct x xs h =
     let e = equal_test x x refl in
     let q : suc (times x xs) ≤ 1 = (let r = h x in rw e at r) in

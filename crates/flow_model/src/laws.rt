@@ -8,7 +8,7 @@ ghost use Rattle.flow_model.specs.State.{Core, precedes, opening, entries, call,
 ghost use Rattle.flow_model.specs.Order.{IsBefore};
 ghost use Rattle.flow_model.specs.declared.step.Step.{Step};
 ghost use Rattle.flow_model.specs.Steps.{allowed, apply, can_begin, begin};
-ghost use Rattle.flow_model.specs.Lawful.{IsLawful, OrderIsKept, FramingComesLast, EndedIsPrefix, FramesAreOpen, VersionsAreFresh, IsCallRight};
+ghost use Rattle.flow_model.specs.Lawful.{IsLawful, OrderIsKept, FramingComesLast, EndedIsPrefix, FramesAreOpen, VersionsAreFresh, IsCallRight, SetsAreSets, RoomIsKept};
 ghost use Rattle.flow_model.specs.Examples.{PlaysOut, retrofit_log_with};
 ghost use Rattle.flow_model.specs.Examples.{retrofit_graph, retrofit_scripts, retrofit_schedule, retrofit_moves, retrofit_log, retrofit_finals};
 ghost use Rattle.flow_model.specs.Examples.{other_order_graph, other_order_scripts, other_order_schedule, other_order_moves, other_order_log, other_order_finals};
@@ -71,6 +71,18 @@ pub fn lists_stay()
 pub fn calls_stay_right()
     ensures step { (graph : Graph) (s : Core) (step : Step) → IsLawful graph s → allowed graph s step ≡ true → (u : ℕ) → live (apply graph s step) u ≡ true → IsCallRight graph (call (apply graph s step) u) }
     ensures begin { (graph : Graph) (s : Core) (caller : ℕ) (made : Call) → IsLawful graph s → can_begin graph s caller made ≡ true → (u : ℕ) → live (begin graph s caller made) u ≡ true → IsCallRight graph (call (begin graph s caller made) u) }
+{}
+
+/// Each step keeps the sets of a call sets: ascending, with no node twice.
+pub fn sets_stay_sets()
+    ensures step { (graph : Graph) (s : Core) (step : Step) → IsLawful graph s → SetsAreSets (apply graph s step) }
+    ensures begin { (graph : Graph) (s : Core) (caller : ℕ) (made : Call) → IsLawful graph s → SetsAreSets (begin graph s caller made) }
+{}
+
+/// Each step keeps that lists have room, and that live calls have callers and slots of their own.
+pub fn room_stays()
+    ensures step { (graph : Graph) (s : Core) (step : Step) → IsLawful graph s → allowed graph s step ≡ true → RoomIsKept (apply graph s step) }
+    ensures begin { (graph : Graph) (s : Core) (caller : ℕ) (call : Call) → IsLawful graph s → can_begin graph s caller call ≡ true → RoomIsKept (begin graph s caller call) }
 {}
 
 /// The worked examples: what each schedule makes of its deck.
