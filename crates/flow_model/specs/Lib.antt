@@ -1,0 +1,13 @@
+pub mod Sets
+pub mod State
+pub mod Order
+pub mod Words
+pub mod Changes
+pub mod Steps
+pub mod Histories
+pub mod Next
+pub mod Schedules
+pub mod Keys
+pub mod Runs
+pub mod Lawful
+pub mod Examples

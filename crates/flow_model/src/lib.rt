@@ -1,0 +1,8 @@
+//! The machine of interleaved calls: what its steps are, when each is allowed and what it changes, and what every state
+//! that they reach keeps.
+#![tactic(auto)]
+
+pub use step::{Cause, Step, Turn};
+
+pub mod laws;
+mod step;
