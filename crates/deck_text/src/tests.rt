@@ -179,131 +179,76 @@ fn the_first_faulty_line_is_answered(rt: HostRuntime) {
     }
 }
 
+// At a limit, and beyond it: the deck with the text so many times, and once more.
+fn judged_at(
+    alloc: Global,
+    before: &str,
+    text: &str,
+    most: u32,
+    between: &str,
+    after: &str,
+) -> Result<(Option<DeckFault>, Option<DeckFault>), AllocError> {
+    let within = repeated(alloc, before, text, most, between, after)?;
+    let beyond = repeated(alloc, before, text, most.saturating_add(1), between, after)?;
+    Ok((
+        judged(alloc, within.as_bytes()),
+        judged(alloc, beyond.as_bytes()),
+    ))
+}
+
 #[test]
-fn decks_at_their_limits(rt: HostRuntime) -> Result<(), Fail> {
-    let alloc = rt.alloc();
-    let unknown = DeckFault::UnknownInput(1);
-    for (before, text, most, between, after, within, beyond) in [
-        // Threads.
-        (
-            "",
-            "thread\n",
-            256,
-            "",
-            "",
-            None,
-            DeckFault::TooMany(257, What::Threads),
-        ),
-        // Bytes of a line.
-        (
-            "source a = 1",
-            " ",
-            4084,
-            "",
-            "\nthread",
-            None,
-            DeckFault::LineTooLong(1),
-        ),
-        (
-            "#",
-            "#",
-            4094,
-            "",
-            "\r\nthread",
-            None,
-            DeckFault::LineTooLong(1),
-        ),
-        // Looks and sets of a call.
-        (
-            "thread\nread ",
-            "n",
-            64,
-            ",",
-            "",
-            None,
-            DeckFault::TooMany(2, What::Looks),
-        ),
-        (
-            "thread\nfire a=1 look ",
-            "n",
-            64,
-            ",",
-            "",
-            None,
-            DeckFault::TooMany(2, What::Looks),
-        ),
-        (
-            "thread\nfire ",
-            "a=",
-            64,
-            ",",
-            " look a",
-            None,
-            DeckFault::TooMany(2, What::Sets),
-        ),
-        (
-            "thread\nfire ",
-            "a=",
-            64,
-            ",",
-            " look 1",
-            Some(DeckFault::Syntax(2)),
-            DeckFault::Syntax(2),
-        ),
-        // Levels, inputs, candidates and selectors of a declaration.
-        (
-            "signal b = ",
-            "!",
-            64,
-            "",
-            "true\nthread",
-            None,
-            DeckFault::TooMany(1, What::Levels),
-        ),
-        (
-            "signal b = ",
-            "n",
-            64,
-            "+",
-            "",
-            Some(unknown),
-            DeckFault::TooMany(1, What::Inputs),
-        ),
-        (
-            "choose b = 1 among ",
-            "n",
-            64,
-            ",",
-            "",
-            Some(unknown),
-            DeckFault::TooMany(1, What::Candidates),
-        ),
+fn long_lines_and_many_threads(rt: HostRuntime) -> Result<(), Fail> {
+    let long = DeckFault::LineTooLong(1);
+    let many = DeckFault::TooMany(257, What::Threads);
+    for (before, text, most, after, beyond) in [
+        ("", "thread\n", 256, "", many),
+        ("source a = 1", " ", 4084, "\nthread", long),
+        ("#", "#", 4094, "\r\nthread", long),
+    ] {
+        let judged = judged_at(rt.alloc(), before, text, most, "", after)?;
+        assert_eq!(rt; judged, (None, Some(beyond)), "{before}{text}");
+    }
+    Ok(())
+}
+
+#[test]
+fn calls_at_their_limits(rt: HostRuntime) -> Result<(), Fail> {
+    let looks = DeckFault::TooMany(2, What::Looks);
+    let sets = DeckFault::TooMany(2, What::Sets);
+    for (before, text, after, beyond) in [
+        ("thread\nread ", "n", "", looks),
+        ("thread\nfire a=1 look ", "n", "", looks),
+        ("thread\nfire ", "a=", " look a", sets),
+    ] {
+        let judged = judged_at(rt.alloc(), before, text, 64, ",", after)?;
+        assert_eq!(rt; judged, (None, Some(beyond)), "{before}{text}");
+    }
+    Ok(())
+}
+
+// Their names are declared nowhere, which is the last reason of a line.
+#[test]
+fn declarations_at_their_limits(rt: HostRuntime) -> Result<(), Fail> {
+    let inputs = What::Inputs;
+    for (before, text, most, between, after, what) in [
+        ("signal b = x + ", "!", 64, "", "true", What::Levels),
+        ("signal b = ", "n", 64, "+", "", inputs),
         (
             "choose b = x among y : ",
             "n",
             63,
             "+",
             " among y : pick1",
-            Some(unknown),
-            DeckFault::TooMany(1, What::Inputs),
+            inputs,
         ),
+        ("choose b = 1 among ", "n", 64, ",", "", What::Candidates),
         (
             "choose b = ",
             "1 among y : ",
             4,
             "",
             "pick4",
-            Some(unknown),
-            DeckFault::TooMany(1, What::Selectors),
-        ),
-        (
-            "choose b = ",
-            "1 among y : ",
-            4,
-            "",
-            "pick5",
-            Some(DeckFault::Syntax(1)),
-            DeckFault::Syntax(1),
+            What::Selectors,
         ),
         (
             "choose b = 1 among y : ",
@@ -311,14 +256,47 @@ fn decks_at_their_limits(rt: HostRuntime) -> Result<(), Fail> {
             64,
             "",
             "pick1",
-            Some(unknown),
-            DeckFault::TooMany(1, What::Levels),
+            What::Levels,
         ),
     ] {
-        let deck = repeated(alloc, before, text, most, between, after)?;
-        assert_eq!(rt; judged(alloc, deck.as_bytes()), within, "{deck}");
-        let deck = repeated(alloc, before, text, most.saturating_add(1), between, after)?;
-        assert_eq!(rt; judged(alloc, deck.as_bytes()), Some(beyond), "{deck}");
+        let judged = judged_at(rt.alloc(), before, text, most, between, after)?;
+        let within = Some(DeckFault::UnknownInput(1));
+        let beyond = Some(DeckFault::TooMany(1, what));
+        assert_eq!(rt; judged, (within, beyond), "{before}{text}");
+    }
+    Ok(())
+}
+
+// Lines with two reasons, of which the first is answered.
+#[test]
+fn the_first_reason_of_a_line_is_answered(rt: HostRuntime) -> Result<(), Fail> {
+    let alloc = rt.alloc();
+    let syntax = DeckFault::Syntax(2);
+    let double = DeckFault::DoubleName(2);
+    for (before, text, count, between, after, fault) in [
+        // Too long, and of no form.
+        ("thread\n", "?", 4097, "", "", DeckFault::LineTooLong(2)),
+        // In the wrong part, and beyond a limit or of a name that is there.
+        ("thread\nsignal b = ", "!", 65, "", "true", syntax),
+        ("thread\nchoose b = 1 among ", "n", 65, ",", "", syntax),
+        ("source a=1\nread ", "a", 65, ",", "\nthread", syntax),
+        ("source a=1\nfire ", "a=", 65, ",", "\nthread", syntax),
+        ("thread\nsignal b = ", "b", 1, "", "", syntax),
+        // Beyond a limit, and of a name that is there.
+        (
+            "source a=1\nsignal a = ",
+            "!",
+            65,
+            "",
+            "a",
+            DeckFault::TooMany(2, What::Levels),
+        ),
+        // Of a name that is there, and over a name that is not.
+        ("source a=1\nsignal a = ", "b", 1, "", "", double),
+        ("source a=1\nchoose a = a among ", "b", 1, "", "", double),
+    ] {
+        let deck = repeated(alloc, before, text, count, between, after)?;
+        assert_eq!(rt; judged(alloc, deck.as_bytes()), Some(fault), "{deck}");
     }
     Ok(())
 }
