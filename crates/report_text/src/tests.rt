@@ -1,7 +1,6 @@
 // Reports that are read and those that are not, and a run as a report and as JSON.
 
-ghost use Rattle.std.specs.Prelude.{◌≡◌, ◌<◌, ◌∷◌, [], length, IfOk, IsTrue};
-ghost use Rattle.script_tree.specs.Names.{is_name};
+ghost use Rattle.std.specs.Prelude.{◌≡◌, length, IfOk};
 ghost use Rattle.report_text.specs.Report.{Answers, AreAnswered};
 
 use crate::data::{CallLine, Report};
@@ -10,7 +9,6 @@ use crate::reading::{ReportFault, read_report};
 use crate::whole::report;
 use call_log::{Finished, Log, Logged, Refused, Why};
 use script_tree::items::Items;
-use script_tree::memory::OutOfMemory;
 use script_tree::name::{Name, NameList};
 use script_tree::value::{Fault, Value};
 use signal_graph::builder::{DeclKind, GraphBuilder};
@@ -167,5 +165,95 @@ fn a_report_is_its_data(rt: HostRuntime) -> Result<(), Fail> {
     assert_eq!(rt; finals.get(1).1, Value::Int(6));
     assert_eq!(rt; accepted, 2);
     assert_eq!(rt; refusals, 0);
+    Ok(())
+}
+
+fn named(text: &str) -> Result<Name, Fail> {
+    Ok(Name::of(text).ok_or("no name")?)
+}
+
+// A graph of one source.
+fn one_source(alloc: Global) -> Result<Graph, Fail>
+    ensures { IfOk result (λ graph. length graph.nodes ≡ 1) }
+{
+    let mut builder = GraphBuilder::new(alloc);
+    match builder.add(named("a")?, DeclKind::Source(Value::Bool(true))) {
+        Ok(_) => Ok(builder.build()?),
+        Err(_) => Err(Fail::from("no node")),
+    }
+}
+
+// A read of the source.
+fn a_read(alloc: Global) -> Result<Logged, Fail>
+    ensures { IfOk result (λ entry. Answers entry.call entry.reply) }
+{
+    let mut looks = NameList::new(alloc);
+    let mut values = ValueList::new(alloc);
+    looks.push(named("a")?)?;
+    values.push(Value::Fault(Fault::NoChoice))?;
+    Ok(Logged {
+        caller: 2,
+        version: 1,
+        call: Call::Read { looks },
+        reply: Reply::Read { looks: values },
+    })
+}
+
+fn log_of(alloc: Global, entry: Logged) -> Result<Log, Fail>
+    requires { Answers entry.call entry.reply }
+    ensures { IfOk result (λ log. AreAnswered log.entries) }
+{
+    let mut log = Log::new(alloc);
+    log.reserve_one()?;
+    log.append(entry);
+    Ok(log)
+}
+
+// A run with one call, a refusal of each kind, and one last value.
+fn small_run(alloc: Global) -> Result<Finished, Fail>
+    ensures finals { IfOk result (λ run. length run.finals ≡ 1) }
+    ensures replies { IfOk result (λ run. AreAnswered run.log.entries) }
+{
+    let log = log_of(alloc, a_read(alloc)?)?;
+    let mut finals = ValueList::new(alloc);
+    let mut refused = Items::new(alloc);
+    finals.push(Value::Bool(true))?;
+    refused.push(Refused {
+        caller: 1,
+        number: 1,
+        why: Why::UnknownName(2),
+    })?;
+    refused.push(Refused {
+        caller: 2,
+        number: 2,
+        why: Why::VersionsUsedUp(1),
+    })?;
+    Ok(Finished {
+        log,
+        finals,
+        refused,
+    })
+}
+
+const SMALL_REPORT: &str = "call 1 thread 2 read a=fault no-choice
+refused thread 1 call 1 unknown name 2
+refused thread 2 call 2 versions used up 1
+final a=true
+done 1 accepted 2 refused
+";
+
+const SMALL_JSON: &str =
+    "{\"accepted\":1,\"calls\":[{\"kind\":\"read\",\"looks\":[{\"name\":\"a\",\"value\":{\"fault\":\"no-choice\"}}],\"thread\":2,\"version\":1}],\"finals\":[{\"name\":\"a\",\"value\":true}],\"refused\":[{\"call\":1,\"place\":2,\"reason\":\"unknown name\",\"thread\":1},{\"call\":2,\"limit\":1,\"reason\":\"versions used up\",\"thread\":2}]}\n";
+
+#[test]
+fn a_run_is_a_report_and_json(rt: HostRuntime) -> Result<(), Fail> {
+    let alloc = rt.alloc();
+    let graph = one_source(alloc)?;
+    let run = small_run(alloc)?;
+    let text = report(alloc, &graph, &run)?;
+    assert!(rt; text.as_slice() == SMALL_REPORT.as_bytes());
+    assert_eq!(rt; judged(alloc, SMALL_REPORT), None);
+    let json = report_json(alloc, &graph, &run)?;
+    assert!(rt; json.as_slice() == SMALL_JSON.as_bytes());
     Ok(())
 }
