@@ -23,7 +23,7 @@ none-is : (o : Option ℕ) → is_none o ≡ true → o ≡ None
 none-is None h = refl
 none-is (Some x) h = absurd (true≢false (sym h))
 
-length-map : {A B : Type 0} (f : A → B) (xs : List A) → length (map f xs) ≡ length xs
+pub length-map : {A B : Type 0} (f : A → B) (xs : List A) → length (map f xs) ≡ length xs
 length-map f [] = refl
 length-map f (x ∷ xs) = ap suc (length-map f xs)
 
@@ -72,7 +72,7 @@ reads-in test (c ∷ cs) v h k = go (true_or_false (c.version == v)) (reads-in t
     go (inl e) f = or_left _ _ (rw (e, call_of) at k)
     go (inr e) f = or_right _ _ (f (rw (e, call_of) at h) (rw (e, call_of) at k))
 
-calls-distinct : (s : Core) → VersionsAreFresh s → AreDistinct (map (λ (c : LiveCall). c.version) s.calls)
+pub calls-distinct : (s : Core) → VersionsAreFresh s → AreDistinct (map (λ (c : LiveCall). c.version) s.calls)
 calls-distinct s h x = let r = h.distinct x in let e = times-append x (map (λ (c : LiveCall). c.version) s.calls) (versions_in s.log) in omega (arith, r, e)
 
 -- There are fewer live calls than callers.

@@ -25,3 +25,5 @@ pub mod CallsOfSteps
 pub mod Beginnings
 pub mod SetsOfSteps
 pub mod Pigeons
+pub mod FullLists
+pub mod NextIsAllowed

@@ -68,7 +68,7 @@ pub filter-at : (test : State → Bool) (p : ℕ → Bool) (es : List Entry) (u 
 filter-at test p [] u = grind arith
 filter-at test p (e ∷ es) u = let r = filter-at test p es u in grind (arith, eqb_tells, r)
 
-filter-unique : (p : ℕ → Bool) (es : List Entry) → IsUnique es → IsUnique (filter (on_calls p) es)
+pub filter-unique : (p : ℕ → Bool) (es : List Entry) → IsUnique es → IsUnique (filter (on_calls p) es)
 filter-unique p [] q = tt
 filter-unique p (e ∷ es) q = go (p e.version) (filter-unique p es q.1)
   where

@@ -21,10 +21,10 @@ times-cons x y ys = go (true_or_false (y == x))
     go (inl e) = rw e refl
     go (inr e) = rw e refl
 
-times-it : (x y : ℕ) (ys : List ℕ) → y ≡ x → times x (y ∷ ys) ≡ suc (times x ys)
+pub times-it : (x y : ℕ) (ys : List ℕ) → y ≡ x → times x (y ∷ ys) ≡ suc (times x ys)
 times-it x y ys e = let k = equal_test y x e in times-cons x y ys ∙ rw k refl
 
-times-other : (x y : ℕ) (ys : List ℕ) → y ≢ x → times x (y ∷ ys) ≡ times x ys
+pub times-other : (x y : ℕ) (ys : List ℕ) → y ≢ x → times x (y ∷ ys) ≡ times x ys
 times-other x y ys e = let k : (y == x) ≡ false = not_true _ (λ z. e (same_number y x z)) in times-cons x y ys ∙ rw k refl
 
 total-below : (y : ℕ) (ys : List ℕ) (from k : ℕ) → y < from → total (y ∷ ys) from k ≡ total ys from k
@@ -93,7 +93,7 @@ pub record Holder (f : LiveCall → ℕ) (cs : List LiveCall) (x : ℕ) : Type 0
   pub known : some_call (call_of cs version) ≡ true
   pub value : f (call_or (call_of cs version)) ≡ x
 
-read-tail : (c : LiveCall) (cs : List LiveCall) (v : ℕ) → AreDistinct (map (λ (c : LiveCall). c.version) (c ∷ cs)) → some_call (call_of cs v) ≡ true → call_of (c ∷ cs) v ≡ call_of cs v
+pub read-tail : (c : LiveCall) (cs : List LiveCall) (v : ℕ) → AreDistinct (map (λ (c : LiveCall). c.version) (c ∷ cs)) → some_call (call_of cs v) ≡ true → call_of (c ∷ cs) v ≡ call_of cs v
 read-tail c cs v d k =
     let n = head-distinct c.version (map (λ (c : LiveCall). c.version) cs) d in
     let i = live-in cs v k in

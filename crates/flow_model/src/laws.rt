@@ -7,6 +7,8 @@ ghost use Rattle.signal_graph.specs.Graph.{Graph, IsGraph};
 ghost use Rattle.flow_model.specs.State.{Core, precedes, opening, entries, call, live};
 ghost use Rattle.flow_model.specs.Order.{IsBefore};
 ghost use Rattle.flow_model.specs.declared.step.Step.{Step};
+ghost use Rattle.flow_model.specs.declared.step.Turn.TheVariants as Turn;
+ghost use Rattle.flow_model.specs.Next.{next, next_at};
 ghost use Rattle.flow_model.specs.Steps.{allowed, apply, can_begin, begin};
 ghost use Rattle.flow_model.specs.Lawful.{IsLawful, OrderIsKept, FramingComesLast, EndedIsPrefix, FramesAreOpen, VersionsAreFresh, IsCallRight, SetsAreSets, RoomIsKept};
 ghost use Rattle.flow_model.specs.Examples.{PlaysOut, retrofit_log_with};
@@ -83,6 +85,11 @@ pub fn sets_stay_sets()
 pub fn room_stays()
     ensures step { (graph : Graph) (s : Core) (step : Step) → IsLawful graph s → allowed graph s step ≡ true → RoomIsKept (apply graph s step) }
     ensures begin { (graph : Graph) (s : Core) (caller : ℕ) (call : Call) → IsLawful graph s → can_begin graph s caller call ≡ true → RoomIsKept (begin graph s caller call) }
+{}
+
+/// In a lawful state, a step that comes next for a live call at a node is allowed.
+pub fn next_at_is_allowed()
+    ensures { (graph : Graph) (s : Core) → IsLawful graph s → (t n : ℕ) → live s t ≡ true → (step : Step) → next_at graph s t n ≡ Turn.Step step → allowed graph s step ≡ true }
 {}
 
 /// The worked examples: what each schedule makes of its deck.
