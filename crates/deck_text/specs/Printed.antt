@@ -90,12 +90,16 @@ abbrev pub with_body : List ℕ → Option Scripted → List ℕ
 with_body text None = text
 with_body text (Some body) = (text ++ 58 ∷ []) ++ printed body
 
--- the line of a declaration
+-- a declaration
+abbrev pub with_declaration : Graph → List ℕ → List ℕ → Node → List ℕ
+with_declaration graph text name (Source start) = with_head text (codes "source") name ++ value_text start
+with_declaration graph text name (Signal script inputs) = with_head text (codes "signal") name ++ printed script
+with_declaration graph text name (Fold start script inputs) = ((with_head text (codes "fold") name ++ value_text start) ++ 58 ∷ []) ++ printed script
+with_declaration graph text name (Choose selectors body inputs) = with_body (with_selectors graph (with_head text (codes "choose") name) selectors) body
+
+-- its line
 abbrev pub with_node : Graph → List ℕ → List ℕ → Node → List ℕ
-with_node graph text name (Source start) = (with_head text (codes "source") name ++ value_text start) ++ 10 ∷ []
-with_node graph text name (Signal script inputs) = (with_head text (codes "signal") name ++ printed script) ++ 10 ∷ []
-with_node graph text name (Fold start script inputs) = (((with_head text (codes "fold") name ++ value_text start) ++ 58 ∷ []) ++ printed script) ++ 10 ∷ []
-with_node graph text name (Choose selectors body inputs) = with_body (with_selectors graph (with_head text (codes "choose") name) selectors) body ++ 10 ∷ []
+with_node graph text name node = with_declaration graph text name node ++ 10 ∷ []
 
 -- the lines of nodes whose numbers count from n
 abbrev pub with_nodes : Graph → List ℕ → ℕ → List Node → List ℕ

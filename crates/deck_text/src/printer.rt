@@ -4,7 +4,8 @@ ghost use Rattle.std.specs.Prelude.{◌≡◌, ◌<◌, codes, ◌∷◌, ◌++�
 ghost use Rattle.signal_graph.specs.Graph.{name_at, node_at};
 ghost use Rattle.expr_script.specs.Printed.{printed};
 ghost use Rattle.script_tree.specs.Names.{is_word};
-ghost use Rattle.deck_text.specs.Printed.{ends_with_word, with_word, with_head, with_names, with_more_names, with_set, with_sets, with_more_sets, with_looks, with_call, with_calls, with_threads, with_selector, with_selectors, with_more_selectors, with_body, with_node, with_nodes, CandidatesBelow, canonical};
+ghost use Rattle.script_tree.specs.Printed.{value_text};
+ghost use Rattle.deck_text.specs.Printed.{ends_with_word, with_word, with_head, with_names, with_more_names, with_set, with_sets, with_more_sets, with_looks, with_call, with_calls, with_threads, with_selector, with_selectors, with_more_selectors, with_body, with_declaration, with_node, with_nodes, CandidatesBelow, canonical};
 
 use crate::deck::Deck;
 use expr_script::print_script_to;
@@ -253,6 +254,76 @@ fn push_body(alloc: Global, text: &mut Text, body: &Option<Script>) -> Result<()
     }
 }
 
+fn push_source(text: &mut Text, name: &Name, start: Value) -> Result<(), OutOfMemory>
+    ensures { OnOk result (text.new ≡ with_head text.old (codes "source") name.now ++ value_text start) }
+{
+    push_head(text, b"source", name)?;
+    print_value(text, start)
+}
+
+fn push_signal(
+    alloc: Global,
+    text: &mut Text,
+    name: &Name,
+    script: &Script,
+) -> Result<(), OutOfMemory>
+    ensures { OnOk result (text.new ≡ with_head text.old (codes "signal") name.now ++ printed script.now) }
+{
+    push_head(text, b"signal", name)?;
+    print_script_to(alloc, script, text)
+}
+
+fn push_fold(
+    alloc: Global,
+    text: &mut Text,
+    name: &Name,
+    start: Value,
+    script: &Script,
+) -> Result<(), OutOfMemory>
+    ensures { OnOk result (text.new ≡ ((with_head text.old (codes "fold") name.now ++ value_text start) ++ 58 ∷ []) ++ printed script.now) }
+{
+    push_head(text, b"fold", name)?;
+    print_value(text, start)?;
+    text.push(b':')?;
+    print_script_to(alloc, script, text)
+}
+
+fn push_choose(
+    alloc: Global,
+    text: &mut Text,
+    graph: &Graph,
+    name: &Name,
+    selectors: &[Selector],
+    body: &Option<Script>,
+) -> Result<(), OutOfMemory>
+    requires { All (λ s. All (λ m. m < length graph.now.nodes) s.candidates) selectors.now }
+    ensures { OnOk result (text.new ≡ with_body (with_selectors graph.now (with_head text.old (codes "choose") name.now) selectors.now) body.now) }
+{
+    push_head(text, b"choose", name)?;
+    push_selectors(alloc, text, graph, selectors)?;
+    push_body(alloc, text, body)
+}
+
+fn push_declaration(
+    alloc: Global,
+    text: &mut Text,
+    graph: &Graph,
+    name: &Name,
+    node: &Node,
+) -> Result<(), OutOfMemory>
+    requires { CandidatesBelow (length graph.now.nodes) node.now }
+    ensures { OnOk result (text.new ≡ with_declaration graph.now text.old name.now node.now) }
+{
+    match node {
+        Node::Source(start) => push_source(text, name, *start),
+        Node::Signal(script, _) => push_signal(alloc, text, name, script),
+        Node::Fold(start, script, _) => push_fold(alloc, text, name, *start, script),
+        Node::Choose(selectors, body, _) => {
+            push_choose(alloc, text, graph, name, selectors.as_slice(), body)
+        }
+    }
+}
+
 // The line of a declaration.
 fn push_node(
     alloc: Global,
@@ -264,27 +335,7 @@ fn push_node(
     requires { CandidatesBelow (length graph.now.nodes) node.now }
     ensures { OnOk result (text.new ≡ with_node graph.now text.old name.now node.now) }
 {
-    match node {
-        Node::Source(start) => {
-            push_head(text, b"source", name)?;
-            print_value(text, *start)?;
-        }
-        Node::Signal(script, _) => {
-            push_head(text, b"signal", name)?;
-            print_script_to(alloc, script, text)?;
-        }
-        Node::Fold(start, script, _) => {
-            push_head(text, b"fold", name)?;
-            print_value(text, *start)?;
-            text.push(b':')?;
-            print_script_to(alloc, script, text)?;
-        }
-        Node::Choose(selectors, body, _) => {
-            push_head(text, b"choose", name)?;
-            push_selectors(alloc, text, graph, selectors.as_slice())?;
-            push_body(alloc, text, body)?;
-        }
-    }
+    push_declaration(alloc, text, graph, name, node)?;
     text.push(b'\n')
 }
 
