@@ -1,9 +1,10 @@
 // What texts are read as.
 
 use crate::limits::LINE_BYTES;
+use crate::pieces::Piece;
 use crate::{
-    Fault, Script, ScriptFault, Text, Value, parse_body, parse_script, parse_script_bytes,
-    print_script, print_script_to,
+    Fault, Script, ScriptFault, Text, Value, parse_body, parse_body_pieces, parse_script,
+    parse_script_bytes, parse_script_pieces, print_script, print_script_to,
 };
 use std::alloc::{AllocError, Global};
 use std::test::Fail;
@@ -272,6 +273,67 @@ fn a_long_sum(rt: HostRuntime) -> Result<(), Fail> {
     Ok(())
 }
 
+// A long text, and what became of it: its value, and the bytes of its canonical text.
+#[derive(Drop)]
+struct Long {
+    alloc: Global,
+    text: Vec<u8>,
+    value: Option<Value>,
+    printed: usize,
+}
+
+fn long_of(alloc: Global, text: Vec<u8>) -> Long {
+    Long {
+        alloc,
+        text,
+        value: None,
+        printed: 0,
+    }
+}
+
+// Reads a long text, evaluates it, prints it and drops it.
+fn take_through(long: &mut Long) {
+    if long.text.len() > LINE_BYTES {
+        return;
+    }
+    let Ok(script) = parse_script_bytes(long.alloc, &long.text, false) else {
+        return;
+    };
+    if script.inputs().len() > 0 {
+        return;
+    }
+    let Ok(printed) = print_script(long.alloc, &script) else {
+        return;
+    };
+    long.value = Some(script.eval(&[], Value::Int(0)));
+    long.printed = printed.len();
+}
+
+// So many times one text, another, and so many times a third.
+fn nested(alloc: Global, open: &[u8], middle: &[u8], close: &[u8]) -> Result<Vec<u8>, AllocError> {
+    let mut bytes = repeated(alloc, open, 64, middle)?;
+    bytes.extend_from_slice(&repeated(alloc, close, 64, b"")?)?;
+    Ok(bytes)
+}
+
+#[test]
+fn the_longest_scripts(rt: HostRuntime) -> Result<(), Fail> {
+    let alloc = rt.alloc();
+    let mut sum = long_of(alloc, repeated(alloc, b"1+", 2047, b"1")?);
+    take_through(&mut sum);
+    assert_eq!(rt; (sum.value, sum.printed), (Some(Value::Int(2048)), 4095));
+    let mut bangs = long_of(alloc, repeated(alloc, b"!", 64, b"true")?);
+    take_through(&mut bangs);
+    assert_eq!(rt; (bangs.value, bangs.printed), (Some(Value::Bool(true)), 68));
+    let mut round = long_of(alloc, nested(alloc, b"(", b"1", b")")?);
+    take_through(&mut round);
+    assert_eq!(rt; (round.value, round.printed), (Some(Value::Int(1)), 1));
+    let mut last = long_of(alloc, repeated(alloc, b"if false then 1 else ", 64, b"2")?);
+    take_through(&mut last);
+    assert_eq!(rt; (last.value, last.printed), (Some(Value::Int(2)), 1345));
+    Ok(())
+}
+
 // A sum of so many different names.
 fn sum_of_names(alloc: Global, names: usize) -> Result<Vec<u8>, AllocError> {
     let mut bytes = Vec::new(alloc);
@@ -308,5 +370,34 @@ fn added_text(rt: HostRuntime) -> Result<(), Fail> {
     print_script_to(alloc, &script, &mut text)?;
     print_script_to(alloc, &script, &mut text)?;
     assert_eq!(rt; text.as_slice(), b"aa".as_slice());
+    Ok(())
+}
+
+#[test]
+fn a_part_of_a_line(rt: HostRuntime) -> Result<(), Fail> {
+    let line = b"f = 0 : acc + a , pick1";
+    let script = [
+        Piece { from: 8, len: 3 },
+        Piece { from: 12, len: 1 },
+        Piece { from: 14, len: 1 },
+    ];
+    let read = parse_script_pieces(rt.alloc(), line, &script, true)?;
+    assert_eq!(rt; read.inputs().len(), 1);
+    assert!(rt;
+        matches!(
+            parse_script_pieces(rt.alloc(), line, &script, false),
+            Err(ScriptFault::Syntax(8))
+        )
+    );
+    let begun = [Piece { from: 14, len: 1 }, Piece { from: 12, len: 1 }];
+    assert!(rt;
+        matches!(
+            parse_script_pieces(rt.alloc(), line, &begun, false),
+            Err(ScriptFault::Syntax(23))
+        )
+    );
+    let body = [Piece { from: 18, len: 5 }];
+    let read = parse_body_pieces(rt.alloc(), line, &body, 1)?;
+    assert_eq!(rt; read.eval_body(&[Value::Int(4)]), Value::Int(4));
     Ok(())
 }
