@@ -1,7 +1,6 @@
 -- A call that begins names what it has to, within the limits.
-use Rattle.std.proofs.Common.{◌≡◌, ℕ, zero, suc, ◌+◌, ◌<◌, ◌≤◌, Bool, true, false, ◌&&◌, ◌||◌, not, ◌==◌, ◌⊎◌, inl, inr, refl, sym, ap, arith, List, [], ◌∷◌, length, map, true≢false, ◌∙◌, subst, Option, Some, None}
+use Rattle.std.proofs.Common.{◌≡◌, ℕ, zero, suc, ◌+◌, ◌<◌, ◌≤◌, Bool, true, false, ◌||◌, ◌==◌, ◌⊎◌, inl, inr, refl, sym, ap, arith, List, [], ◌∷◌, length, map, true≢false, ◌∙◌, subst, Option, Some, None}
 use Rattle.std.specs.Prelude.{is_none, nat_le}
-use Rattle.std.proofs.lemmas.Bool.Decides.{eqb_tells}
 use Rattle.script_tree.specs.declared.limits.TheConstants.{SETS, LOOKS}
 use Rattle.signal_graph.specs.declared.call.Call.{Call}
 use Rattle.script_tree.specs.declared.value.Value.{Value}
@@ -11,11 +10,11 @@ use Rattle.flow_model.specs.State.{Core, LiveCall, call, call_of, call_or, some_
 use Rattle.std.specs.List.{list_any}
 use Rattle.signal_graph.specs.Graph.{is_in}
 use Rattle.call_log.specs.Made.{versions_in}
-use Rattle.flow_model.specs.Steps.{can_begin, begin, new_call, sets_in, looks_in, has_call, uses_slot, free_slot}
+use Rattle.flow_model.specs.Steps.{can_begin, begin, new_call, has_call, uses_slot, free_slot}
 use Rattle.flow_model.specs.Lawful.{IsLawful, IsCallRight, RoomIsKept, VersionsAreFresh, AreDistinct, times}
-use Rattle.flow_model.proofs.Truths.{or_left, or_right, same_number, equal_test, not_true, is_not_true, true_or_false}
+use Rattle.flow_model.proofs.Truths.{or_left, or_right, same_number, equal_test, is_not_true, true_or_false}
 use Rattle.flow_model.proofs.Allowed.{and_left, and_right, not_is}
-use Rattle.flow_model.proofs.Readers.{call_of-append, last_call, last_call-other, last_call-it}
+use Rattle.flow_model.proofs.Readers.{call_of-append, last_call-other, last_call-it}
 use Rattle.flow_model.proofs.Versions.{not_begun-live, times-append, times-in, in-times}
 use Rattle.flow_model.proofs.Pigeons.{total-missing, total-all, total-ones, total-length, field-distinct, Holder, holder, any-field, IsFreeSlot, find-slot}
 

@@ -1,7 +1,6 @@
 -- What no step changes of a live call.
-use Rattle.std.proofs.Common.{◌≡◌, ℕ, zero, suc, ◌+◌, ◌<◌, ◌≤◌, Bool, true, false, ◌&&◌, ◌||◌, not, ◌==◌, ◌⊎◌, inl, inr, refl, sym, ap, arith, List, [], ◌∷◌, length, map, true≢false, ◌∙◌, subst, Option, Some, None}
+use Rattle.std.proofs.Common.{◌≡◌, ℕ, ◌<◌, ◌≤◌, Bool, true, false, ◌==◌, ◌⊎◌, inl, inr, refl, sym, ap, arith, List, length, ◌∙◌, subst, Option}
 use Rattle.script_tree.specs.declared.value.Value.{Value}
-use Rattle.signal_graph.specs.declared.call.Call.{Call}
 use Rattle.signal_graph.specs.Graph.{Graph}
 use Rattle.signal_graph.specs.Machine.{misnamed}
 use Rattle.script_tree.specs.declared.limits.TheConstants.{SETS, LOOKS}
@@ -10,9 +9,9 @@ use Rattle.node_versions.specs.declared.entry.State.TheVariants.{Mark, Frame, Do
 use Rattle.node_versions.specs.Entries.{has, at, is_mark, value_before, picks_before}
 use Rattle.flow_model.specs.declared.step.Step.{Step}
 use Rattle.flow_model.specs.declared.step.Step.TheVariants as steps
-use Rattle.flow_model.specs.State.{Core, LiveCall, Cell, call, call_of, call_or, some_call, live, entries, with_cell, with_call}
+use Rattle.flow_model.specs.State.{Core, LiveCall, call, call_or, some_call, live, entries, with_cell}
 use Rattle.flow_model.specs.Words.{active_outs, found_now, value_now, found_picks, next_look}
-use Rattle.flow_model.specs.Changes.{enter, raise, ensure_mark, set_state, opened, closed, tell_call, add_edge, drop_edge, finish}
+use Rattle.flow_model.specs.Changes.{enter, raise, ensure_mark, set_state, opened, closed, tell_call, add_edge}
 use Rattle.flow_model.specs.Steps.{allowed, apply, open_node, frame, started, counted, with_look, is_change, keep_found, look_value, sets_in, looks_in}
 use Rattle.flow_model.specs.Lawful.{IsLawful, RoomIsKept, IsCallRight}
 use Rattle.flow_model.proofs.Truths.{same_number, equal_test, is_not_true, true_or_false}

@@ -1,23 +1,22 @@
 -- No Frame stands before a Done, and the open nodes of a call are those with its Frame.
-use Rattle.std.proofs.Common.{◌≡◌, ℕ, zero, suc, ◌+◌, Bool, true, false, ◌&&◌, ◌||◌, not, ◌==◌, ◌⊎◌, ◌≢◌, inl, inr, refl, sym, ap, ap₂, arith, List, [], ◌∷◌, ◌++◌, true≢false, ◌∙◌, subst, Option, Some, None, length, ◌<◌}
-use Rattle.std.proofs.lemmas.Bool.Decides.{eqb_tells}
-use Rattle.signal_graph.specs.Graph.{Graph, is_in}
+use Rattle.std.proofs.Common.{◌≡◌, ℕ, Bool, true, false, ◌||◌, not, ◌==◌, ◌⊎◌, ◌≢◌, inl, inr, refl, sym, ap, arith, List, [], ◌∷◌, true≢false, ◌∙◌, subst, Option, Some, None}
+use Rattle.signal_graph.specs.Graph.{Graph}
 use Rattle.order_graph.specs.Order.{reaches}
 use Rattle.node_versions.specs.declared.entry.State.{State}
-use Rattle.node_versions.specs.declared.entry.State.TheVariants.{Mark, Frame, Done}
+use Rattle.node_versions.specs.declared.entry.State.TheVariants.{Mark, Frame}
 use Rattle.node_versions.specs.declared.entry.Entry.{Entry}
-use Rattle.node_versions.specs.Entries.{IsUnique, has, at, is_mark, is_frame, is_done, behind, front, rest, placed, with_state, collected, first_open}
-use Rattle.flow_model.specs.State.{Core, LiveCall, Cell, call, live, ended, executes, frames, entries, precedes, opens, wants}
-use Rattle.flow_model.specs.Words.{heads, is_some_of, at_front}
+use Rattle.node_versions.specs.Entries.{has, at, is_mark, is_frame, is_done, behind, front, rest, placed, collected, first_open}
+use Rattle.flow_model.specs.State.{Core, live, ended, executes, frames, entries, precedes, opens, wants}
+use Rattle.flow_model.specs.Words.{is_some_of}
 use Rattle.flow_model.specs.Changes.{stops, stops_call, new_entry, first_version}
 use Rattle.flow_model.specs.Lawful.{IsLawful, FramingComesLast, FramesAreOpen, WantsAreCovered, ended_before}
-use Rattle.flow_model.proofs.Truths.{or_cases, same_number, equal_test, other_number, not_true, not_false, is_not_true, true_or_false}
+use Rattle.flow_model.proofs.Truths.{or_cases, same_number, other_number, not_true, not_false, is_not_true, true_or_false}
 use Rattle.flow_model.proofs.OrderLemmas.{reaches-trans}
 use Rattle.flow_model.proofs.Lists.{Ascends, Ascends-right, front-rest, rest-stops, has-append}
 use Rattle.flow_model.proofs.Enter.{Standing, Comes, stop-live}
-use Rattle.flow_model.proofs.Allowed.{opens-live, wants-live, executes-live, at_front-heads}
-use Rattle.flow_model.proofs.States.{FramesLast, more-FramesLast, raise-FramesLast, finish-FramesLast, across-behind, at-has, behind-has, behind-total, behind-trans, behind-not_both, first_open-none}
-use Rattle.flow_model.proofs.ListFacts.{collected-at, collected-behind_live, collected-at_live}
+use Rattle.flow_model.proofs.Allowed.{opens-live, wants-live, at_front-heads}
+use Rattle.flow_model.proofs.States.{FramesLast, more-FramesLast, raise-FramesLast, finish-FramesLast, across-behind, at-has, behind-total, behind-trans, first_open-none}
+use Rattle.flow_model.proofs.ListFacts.{collected-at, collected-behind_live}
 use Rattle.flow_model.proofs.ListSteps.{ListStep, stays, marks, frames as frames_new, raises, finishes, collects}
 use Rattle.flow_model.proofs.OrderOfSteps.{lawful-Standing}
 

@@ -1,17 +1,16 @@
 -- A full list has entries of ended calls to collect.
-use Rattle.std.proofs.Common.{◌≡◌, ℕ, zero, suc, ◌+◌, ◌<◌, ◌≤◌, Bool, true, false, not, ◌||◌, ◌==◌, ◌⊎◌, inl, inr, refl, sym, ap, arith, List, [], ◌∷◌, length, map, true≢false, ◌∙◌, subst, Option, Some, None}
+use Rattle.std.proofs.Common.{◌≡◌, ℕ, zero, suc, ◌+◌, ◌<◌, ◌≤◌, Bool, true, false, not, ◌||◌, ◌==◌, ◌⊎◌, inl, inr, refl, sym, ap, arith, List, [], ◌∷◌, length, map, ◌∙◌, subst, Option, Some, None}
 use Rattle.std.specs.Prelude.{filter, nat_lt}
 use Rattle.std.specs.List.{cons_option}
-use Rattle.std.proofs.lemmas.Bool.Decides.{eqb_tells}
 use Rattle.signal_graph.specs.Graph.{Graph, is_in}
 use Rattle.node_versions.specs.declared.entry.Entry.{Entry}
 use Rattle.node_versions.specs.Entries.{IsUnique, has, last_done}
 use Rattle.flow_model.specs.declared.step.Step.TheVariants as steps
-use Rattle.flow_model.specs.State.{Core, LiveCall, call, live, ended, entries}
+use Rattle.flow_model.specs.State.{Core, LiveCall, live, ended, entries}
 use Rattle.flow_model.specs.Words.{has_room}
 use Rattle.flow_model.specs.Steps.{allowed, collected_at}
 use Rattle.flow_model.specs.Lawful.{IsLawful, AreDistinct, times}
-use Rattle.flow_model.proofs.Truths.{same_number, equal_test, other_number, not_true, is_not_true, true_or_false}
+use Rattle.flow_model.proofs.Truths.{same_number, other_number, is_not_true, true_or_false}
 use Rattle.flow_model.proofs.Lists.{on_calls, filter-has}
 use Rattle.flow_model.proofs.ListFacts.{filter-unique}
 use Rattle.flow_model.proofs.Versions.{times-in, in-times, live-in, live-version}

@@ -25,5 +25,6 @@ pub mod CallsOfSteps
 pub mod Beginnings
 pub mod SetsOfSteps
 pub mod Pigeons
+pub mod Earlier
 pub mod FullLists
 pub mod NextIsAllowed

@@ -118,7 +118,7 @@ collected-unique ended es q = go (last_done (filter (on_calls ended) es)) refl
     go (Some x) e = (not_true _ (λ y. live x.version (filter-has (λ v. not (ended v)) es x.version y).1 (filter-has ended es x.version (last_done-has (filter (on_calls ended) es) x e)).1), filter-unique (λ v. not (ended v)) es q)
 
 -- the last Done is an entry of the list, and a Done
-only_done-is : (e x : Entry) → only_done e ≡ Some x → (x ≡ e) × (is_done e.state ≡ true)
+pub only_done-is : (e x : Entry) → only_done e ≡ Some x → (x ≡ e) × (is_done e.state ≡ true)
 only_done-is e x h = go (is_done e.state) refl h
   where
     go : (b : Bool) → is_done e.state ≡ b → elim b as (λ _. Option Entry) [ true ↦ Some e | false ↦ None ] ≡ Some x → (x ≡ e) × (is_done e.state ≡ true)

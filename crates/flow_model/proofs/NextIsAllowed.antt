@@ -1,34 +1,34 @@
 -- A step that comes next is allowed.
-use Rattle.std.proofs.Common.{◌≡◌, ℕ, zero, suc, ◌+◌, ◌<◌, ◌≤◌, Bool, true, false, ◌&&◌, ◌||◌, not, ◌==◌, ◌⊎◌, inl, inr, refl, sym, ap, arith, List, [], ◌∷◌, ◌++◌, length, map, true≢false, ◌∙◌, subst, Option, Some, None}
-use Rattle.std.specs.Prelude.{find, filter, is_none, is_some, nat_lt, slice_get}
-use Rattle.std.specs.List.{list_any, list_all, cons_option}
+use Rattle.std.proofs.Common.{◌≡◌, ℕ, ◌+◌, ◌<◌, ◌≤◌, Bool, true, false, ◌&&◌, ◌||◌, not, ◌==◌, ◌⊎◌, inl, inr, refl, sym, ap, arith, List, [], ◌∷◌, ◌++◌, length, map, true≢false, ◌∙◌, subst, Option, Some, None}
+use Rattle.std.specs.Prelude.{find, is_none, is_some, nat_lt, slice_get}
+use Rattle.std.specs.List.{list_any, list_all, AllByRecursion}
 use Rattle.std.proofs.lemmas.Bool.Decides.{eqb_tells}
 use Rattle.std.proofs.lemmas.List.Folds.{list_any-append}
-use Rattle.signal_graph.specs.Graph.{Graph, node_at, numbers, numbers_from, is_in, is_source, inputs_of, body_of}
+use Rattle.signal_graph.specs.Graph.{Graph, IsGraph, node_at, numbers, numbers_from, is_in, is_source, inputs_of, body_of}
 use Rattle.signal_graph.specs.declared.node.Node.{Node}
 use Rattle.node_versions.specs.declared.entry.Entry.{Entry}
-use Rattle.node_versions.specs.declared.entry.State.{State}
-use Rattle.node_versions.specs.Entries.{IsUnique, has, at, is_mark, is_frame, behind, first_open, served, last_done, has_out, has_node}
+use Rattle.node_versions.specs.Entries.{IsUnique, has, at, is_mark, is_frame, behind, first_open, served, has_out, has_node}
 use Rattle.flow_model.specs.declared.step.Step.{Step}
 use Rattle.flow_model.specs.declared.step.Step.TheVariants as steps
 use Rattle.flow_model.specs.declared.step.Turn.{Turn}
 use Rattle.flow_model.specs.declared.step.Turn.TheVariants as turns
-use Rattle.flow_model.specs.Sets.{is_empty, least}
-use Rattle.flow_model.specs.State.{Core, LiveCall, call, call_of, call_or, some_call, live, ended, executes, frames, wants, opens, entries, outs, cell, precedes}
+use Rattle.flow_model.specs.Sets.{is_empty, least, IsSet}
+use Rattle.flow_model.specs.State.{Core, LiveCall, call, call_of, call_or, some_call, live, executes, wants, opens, entries, outs, cell}
 use Rattle.flow_model.specs.Words.{deps, prior_picks, is_gathered, is_found, found_candidates, is_prior, is_candidate, heads, at_front, turn, touched, due, presses, pressed, has_room, next_look, is_some_of, is_idle}
-use Rattle.flow_model.specs.Steps.{allowed, asks_for, has_room_for, all_gathered, frames_before, framing_before, has_body_value, is_worked_out, is_discovered, is_released, served_look, collected_at}
+use Rattle.flow_model.specs.Steps.{allowed, asks_for, all_gathered, frames_before, has_body_value, is_worked_out, is_discovered, is_released, served_look}
 use Rattle.flow_model.specs.Next
 use Rattle.flow_model.specs.Runs.{runs, Run, read_all, nothing_read, last_run, dropper, discovered}
 use Rattle.flow_model.specs.declared.step.Cause.TheVariants.{InputOpen, NotOpen}
-use Rattle.flow_model.specs.Lawful.{IsLawful, AreDistinct, times}
+use Rattle.flow_model.specs.Lawful.{IsLawful, AreDistinct}
 use Rattle.flow_model.proofs.Truths.{or_cases, or_left, or_right, and_make, same_number, equal_test, other_number, not_true, not_false, is_not_true, true_or_false}
-use Rattle.flow_model.proofs.Allowed.{and_left, and_right, not_is, executes-live, opens-live, wants-live}
-use Rattle.flow_model.proofs.States.{at-has, behind-has}
+use Rattle.flow_model.proofs.Allowed.{and_left, and_right, not_is, executes-live}
+use Rattle.flow_model.proofs.States.{at-has}
 use Rattle.flow_model.proofs.OpenNodes.{entry-there}
 use Rattle.flow_model.proofs.Versions.{tail-distinct}
 use Rattle.flow_model.proofs.Pigeons.{read-tail}
 use Rattle.flow_model.proofs.Beginnings.{calls-distinct}
 use Rattle.flow_model.proofs.FullLists.{full-collects}
+use Rattle.flow_model.proofs.Earlier.{dep-earlier}
 
 -- A turn is no step, or an allowed one.
 abbrev pub Allows : Graph → Core → Turn → Type 0
@@ -466,3 +466,65 @@ next_at-ok graph s h t n l = framed_first-ok graph s (full-collects graph s h) t
 
 pub next_at-allowed : (graph : Graph) (s : Core) → IsLawful graph s → (t n : ℕ) → live s t ≡ true → (step : Step) → Next.next_at graph s t n ≡ turns.Step step → allowed graph s step ≡ true
 next_at-allowed graph s h t n l step e = subst (Allows graph s) e (next_at-ok graph s h t n l)
+
+-- ---- at the least open node
+
+-- The least node of a set is at most each of its nodes.
+least-below : (xs : List ℕ) (n m : ℕ) → IsSet xs → least xs ≡ Some n → is_in m xs ≡ true → n ≤ m
+least-below [] n m q h k = cc
+least-below (x ∷ xs) n m q h k = go (some-same x n h) (or_cases _ _ k)
+  where
+    above : (ys : List ℕ) → AllByRecursion (λ y. x < y) ys → is_in m ys ≡ true → x < m
+    above [] a i = absurd (true≢false (sym i))
+    above (y ∷ ys) a i = more (or_cases _ _ i) (above ys a.1)
+      where
+        more : ((y == m) ≡ true) ⊎ (is_in m ys ≡ true) → (is_in m ys ≡ true → x < m) → x < m
+        more (inl e) f = subst (λ (z : ℕ). x < z) (same_number y m e) a.0
+        more (inr e) f = f e
+
+    go : x ≡ n → ((x == m) ≡ true) ⊎ (is_in m xs ≡ true) → n ≤ m
+    go e (inl i) = let j = same_number x m i in omega (arith, e, j)
+    go e (inr i) = let j = above xs q.0 i in omega (arith, e, j)
+
+any-false : (test : ℕ → Bool) (xs : List ℕ) → ((m : ℕ) → is_in m xs ≡ true → test m ≡ false) → list_any test xs ≡ false
+any-false test [] f = refl
+any-false test (x ∷ xs) f =
+    let a = f x (or_left _ _ (equal_test x x refl)) in
+    let b = any-false test xs (λ m i. f m (or_right _ _ i)) in
+    grind (arith, a, b)
+
+deps-closed : (graph : Graph) → IsGraph graph → (s : Core) → IsLawful graph s → (t n : ℕ) → least (call s t).open_nodes ≡ Some n → list_any (opens s t) (deps graph s t n) ≡ false
+deps-closed graph g s h t n e = any-false (opens s t) (deps graph s t n) (λ m i. not_true (opens s t m) (λ o.
+    let a = least-below (call s t).open_nodes n m (h.sets_are_sets.open_nodes t) e o in
+    let b = dep-earlier graph g s h t n m there i in
+    omega (arith, a, b)))
+  where
+    frame_there : at is_frame (entries s n) t ≡ true
+    frame_there = sym (h.frames_are_open.opens_frames t n) ∙ least-in (call s t).open_nodes n e
+
+    there : n < length graph.nodes
+    there = let a = entry-there s n t (at-has is_frame (entries s n) t frame_there) in let l = h.lists in omega (arith, a, l)
+
+looking-ok : (graph : Graph) (s : Core) → IsLawful graph s → Collects graph s → (t : ℕ) → is_idle s t ≡ true → (o : Option ℕ) → next_look s t ≡ o → Allows graph s (Next.looking s t o)
+looking-ok graph s h col t i None e = tt
+looking-ok graph s h col t i (Some m) e = reading-ok graph s col t m (steps.Look t)
+    (λ a b. and_make _ _ i (ap (served_look s t) e ∙ served-from (entries s m) t (h.one_entry m) a (not_frame graph s h t m (closed (call s t).open_nodes (and_right _ _ i))) b))
+    (λ a r. and_make _ _ (and_make _ _ (and_make _ _ (and_left _ _ (and_left _ _ i)) (ap not a)) r) (or_right _ _ (and_make _ _ i (ap (λ (o : Option ℕ). is_some_of o m) e ∙ equal_test m m refl))))
+  where
+    closed : (ns : List ℕ) → is_empty ns ≡ true → is_in m ns ≡ false
+    closed [] k = refl
+    closed (x ∷ xs) k = absurd (true≢false (sym k))
+
+next-ok : (graph : Graph) → IsGraph graph → (s : Core) → IsLawful graph s → (t : ℕ) → live s t ≡ true → Allows graph s (Next.next graph s t)
+next-ok graph g s h t l = framed_first-ok graph s (full-collects graph s h) t l _ (λ w x. work (least (call s t).open_nodes) refl w x) (least (call s t).wanted) refl
+  where
+    others : (n : ℕ) (o : Option ℕ) → Next.other_than t (first_open (entries s n)) ≡ o → least (call s t).open_nodes ≡ Some n → is_empty (call s t).wanted ≡ true → executes s t ≡ true → Allows graph s (Next.unless_blocked n o (Next.at_node graph s t n))
+    others n (Some v) e k w x = tt
+    others n None e k w x = at_node-ok graph s h (full-collects graph s h) t n (and_make _ _ w (and_make _ _ (and_make _ _ x (head-of_open graph s h t n (least-in (call s t).open_nodes n k) e)) (ap not (deps-closed graph g s h t n k))))
+
+    work : (o : Option ℕ) → least (call s t).open_nodes ≡ o → is_empty (call s t).wanted ≡ true → executes s t ≡ true → Allows graph s (Next.open_or_look graph s t o)
+    work None e w x = looking-ok graph s h (full-collects graph s h) t (and_make _ _ (and_make _ _ x w) (least-empty (call s t).open_nodes e)) (next_look s t) refl
+    work (Some n) e w x = others n (Next.other_than t (first_open (entries s n))) refl e w x
+
+pub next-allowed : (graph : Graph) → IsGraph graph → (s : Core) → IsLawful graph s → (t : ℕ) → live s t ≡ true → (step : Step) → Next.next graph s t ≡ turns.Step step → allowed graph s step ≡ true
+next-allowed graph g s h t l step e = subst (Allows graph s) e (next-ok graph g s h t l)

@@ -1,27 +1,25 @@
 -- The open nodes of a call are those with its Frame, after each step.
-use Rattle.std.proofs.Common.{◌≡◌, ℕ, zero, suc, ◌+◌, Bool, true, false, ◌&&◌, ◌||◌, not, ◌==◌, ◌⊎◌, ◌≢◌, inl, inr, refl, sym, ap, ap₂, arith, List, [], ◌∷◌, ◌++◌, true≢false, ◌∙◌, subst, Option, Some, None, length, ◌<◌, map, slice_index_or}
-use Rattle.std.proofs.lemmas.Bool.Decides.{eqb_tells}
+use Rattle.std.proofs.Common.{◌≡◌, ℕ, zero, suc, Bool, true, false, ◌&&◌, ◌||◌, not, ◌==◌, ◌⊎◌, inl, inr, refl, sym, ap, arith, List, [], ◌∷◌, true≢false, ◌∙◌, subst, Option, Some, None, length, ◌<◌, slice_index_or}
 use Rattle.signal_graph.specs.declared.call.Call.{Call}
 use Rattle.signal_graph.specs.Graph.{Graph, is_in}
 use Rattle.script_tree.specs.declared.value.Value.{Value}
 use Rattle.node_versions.specs.declared.entry.State.{State}
 use Rattle.node_versions.specs.declared.entry.State.TheVariants.{Mark, Frame, Done}
 use Rattle.node_versions.specs.declared.entry.Entry.{Entry}
-use Rattle.node_versions.specs.Entries.{IsUnique, has, at, is_mark, is_frame, is_done, placed, with_state, collected, first_open, value_before, picks_before}
+use Rattle.node_versions.specs.Entries.{has, at, is_mark, is_frame, collected}
 use Rattle.flow_model.specs.declared.step.Step.{Step}
 use Rattle.flow_model.specs.declared.step.Step.TheVariants as steps
-use Rattle.flow_model.specs.Sets.{put, take_out, is_empty}
-use Rattle.flow_model.specs.State.{Core, LiveCall, Cell, call, call_of, call_or, some_call, cell, no_cell, live, ended, executes, entries, opens, wants, change_cell, with_cell, with_call}
-use Rattle.flow_model.specs.Words.{heads, is_idle, at_front, has_room, found_now, value_now, found_picks}
-use Rattle.flow_model.specs.Changes.{stops, stops_call, new_entry, place_entry, set_state, enter, raise, ensure_mark, opened, closed, finish, tell_call, add_edge, drop_edge, cleared}
-use Rattle.flow_model.specs.Steps.{allowed, apply, begin, new_call, open_node, frame, started, counted, with_look, keep_found, is_change, collect, without_call}
+use Rattle.flow_model.specs.State.{Core, LiveCall, Cell, call, call_of, call_or, some_call, cell, no_cell, live, ended, entries, opens, wants, change_cell, with_cell, with_call}
+use Rattle.flow_model.specs.Words.{is_idle, at_front, found_now, value_now, found_picks}
+use Rattle.flow_model.specs.Changes.{stops_call, new_entry, place_entry, set_state, enter, raise, ensure_mark, opened, closed, finish, tell_call, add_edge, drop_edge, cleared}
+use Rattle.flow_model.specs.Steps.{allowed, apply, begin, new_call, open_node, frame, started, counted, keep_found, is_change, collect}
 use Rattle.flow_model.specs.Lawful.{IsLawful, FramesAreOpen}
-use Rattle.flow_model.proofs.Truths.{same_number, equal_test, other_number, not_true, not_false, is_not_true, true_or_false}
-use Rattle.flow_model.proofs.Allowed.{and_left, and_right, executes-live, wants-live, frame-wants, skip-turn, resolve-turn, turn-at_front, at_front-executes, at_front-heads, discover-due, drop-due, mark-no_entry, end-idle}
+use Rattle.flow_model.proofs.Truths.{same_number, equal_test, other_number, not_true, is_not_true, true_or_false}
+use Rattle.flow_model.proofs.Allowed.{executes-live, wants-live, frame-wants, skip-turn, resolve-turn, turn-at_front, at_front-executes, at_front-heads, mark-no_entry, end-idle}
 use Rattle.flow_model.proofs.Sets.{in-put, in-take_out}
 use Rattle.flow_model.proofs.States.{with_state-at, at-has, first_open-frame}
 use Rattle.flow_model.proofs.ListFacts.{placed-at_other, placed-at, collected-at, collected-at_live}
-use Rattle.flow_model.proofs.Readers.{with_call-field, with_call-keeps, map_call-keeps, call_of-append, last_call, last_call-other, last_call-it, without_call-other, without_call-same}
+use Rattle.flow_model.proofs.Readers.{with_call-field, with_call-keeps, map_call-keeps, call_of-append, last_call-other, last_call-it, without_call-other, without_call-same}
 use Rattle.flow_model.proofs.Enter.{with_cell-cell}
 use Rattle.flow_model.proofs.FramesLast.{list-last, head-first}
 use Rattle.flow_model.proofs.ListSteps.{step-list}

@@ -205,7 +205,7 @@ passes-has_node test k (x ∷ xs) n a b t = let further = λ (e : (k == n) ≡ f
 
 -- ---- candidates are earlier nodes
 
-in-below : (n m : ℕ) (cs : List ℕ) → AllByRecursion (λ c. c < n) cs → is_in m cs ≡ true → m < n
+pub in-below : (n m : ℕ) (cs : List ℕ) → AllByRecursion (λ c. c < n) cs → is_in m cs ≡ true → m < n
 in-below n m [] a h = absurd (true≢false (sym h))
 in-below n m (c ∷ cs) a h = go (or_cases _ _ h) (in-below n m cs a.1)
   where
@@ -227,7 +227,7 @@ node-listed names n m (Signal script inputs) a h = absurd (true≢false (sym h))
 node-listed names n m (Fold v script inputs) a h = absurd (true≢false (sym h))
 node-listed names n m (Choose selectors body inputs) a h = listed-below names n m selectors a.2 h
 
-nodes-at : (names : List (List ℕ)) (k : ℕ) (nodes : List Node) (n : ℕ) (d : Node) → AreNodes names k nodes → n < length nodes → IsNode names (k + n) (slice_index_or nodes n d)
+pub nodes-at : (names : List (List ℕ)) (k : ℕ) (nodes : List Node) (n : ℕ) (d : Node) → AreNodes names k nodes → n < length nodes → IsNode names (k + n) (slice_index_or nodes n d)
 nodes-at names k [] n d a h = absurd (omega arith)
 nodes-at names k (x ∷ xs) zero d a h = subst (λ (j : ℕ). IsNode names j x) (omega arith) a.0
 nodes-at names k (x ∷ xs) (suc n) d a h = subst (λ (j : ℕ). IsNode names j (slice_index_or xs n d)) (omega arith) (nodes-at names (k + 1) xs n d a.1 (omega arith))

@@ -1,13 +1,12 @@
 -- How many different numbers a list can have.
-use Rattle.std.proofs.Common.{◌≡◌, ℕ, zero, suc, ◌+◌, ◌<◌, ◌≤◌, Bool, true, false, ◌||◌, not, ◌==◌, ◌⊎◌, ◌≢◌, inl, inr, refl, sym, ap, arith, List, [], ◌∷◌, length, map, true≢false, ◌∙◌, subst, Option, Some, None}
+use Rattle.std.proofs.Common.{◌≡◌, ℕ, zero, suc, ◌+◌, ◌<◌, ◌≤◌, Bool, true, false, ◌||◌, ◌==◌, ◌⊎◌, ◌≢◌, inl, inr, refl, sym, ap, arith, List, [], ◌∷◌, length, map, true≢false, ◌∙◌, subst, Option, Some}
 use Rattle.std.specs.List.{list_any}
-use Rattle.std.proofs.lemmas.Bool.Decides.{eqb_tells}
 use Rattle.signal_graph.specs.Graph.{is_in}
-use Rattle.flow_model.specs.State.{Core, LiveCall, call_of, call_or, some_call}
+use Rattle.flow_model.specs.State.{LiveCall, call_of, call_or, some_call}
 use Rattle.flow_model.specs.Steps.{uses_slot, free_slot}
 use Rattle.flow_model.specs.Lawful.{times, AreDistinct}
-use Rattle.flow_model.proofs.Truths.{or_cases, or_left, or_right, same_number, equal_test, other_number, not_true, is_not_true, true_or_false}
-use Rattle.flow_model.proofs.Versions.{times-in, times-none, live-in, tail-distinct, head-distinct, in-times}
+use Rattle.flow_model.proofs.Truths.{or_left, or_right, same_number, equal_test, other_number, not_true, is_not_true, true_or_false}
+use Rattle.flow_model.proofs.Versions.{live-in, tail-distinct, head-distinct, in-times}
 
 -- how often the numbers from one on stand in a list, k of them
 abbrev pub total : List ℕ → ℕ → ℕ → ℕ

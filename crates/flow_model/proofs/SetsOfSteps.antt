@@ -1,18 +1,17 @@
 -- Each step keeps the sets of a call sets.
-use Rattle.std.proofs.Common.{◌≡◌, ℕ, zero, suc, Bool, true, false, ◌==◌, ◌⊎◌, inl, inr, refl, sym, ap, arith, List, [], ◌∷◌, map, true≢false, ◌∙◌, subst, Option, Some, None}
+use Rattle.std.proofs.Common.{◌≡◌, ℕ, suc, Bool, true, false, ◌==◌, ◌⊎◌, inl, inr, refl, sym, List, [], subst, Option, Some, None}
 use Rattle.signal_graph.specs.declared.call.Call.{Call}
 use Rattle.signal_graph.specs.Graph.{Graph}
-use Rattle.script_tree.specs.declared.value.Value.{Value}
 use Rattle.node_versions.specs.declared.entry.Entry.{Entry}
 use Rattle.node_versions.specs.declared.entry.State.TheVariants.{Mark, Frame, Done}
 use Rattle.node_versions.specs.Entries.{has, at, is_mark, value_before, picks_before}
 use Rattle.flow_model.specs.declared.step.Step.{Step}
 use Rattle.flow_model.specs.declared.step.Step.TheVariants as steps
-use Rattle.flow_model.specs.Sets.{IsSet, put, put_all, take_out, without}
-use Rattle.flow_model.specs.State.{Core, LiveCall, Cell, call, call_of, call_or, no_call, live, entries, with_cell, with_call}
+use Rattle.flow_model.specs.Sets.{IsSet, put, take_out, without}
+use Rattle.flow_model.specs.State.{Core, LiveCall, call, call_of, call_or, no_call, entries, with_cell, with_call}
 use Rattle.flow_model.specs.Words.{active_outs, found_now, value_now, found_picks, next_look}
 use Rattle.flow_model.specs.Changes.{enter, raise, ensure_mark, set_state, opened, closed, tell_call, is_told, add_edge}
-use Rattle.flow_model.specs.Steps.{allowed, apply, begin, new_call, open_node, frame, started, counted, with_look, is_change, keep_found, look_value, nodes_set, sets_in, without_call}
+use Rattle.flow_model.specs.Steps.{apply, begin, new_call, open_node, frame, started, counted, with_look, is_change, keep_found, look_value, nodes_set, sets_in, without_call}
 use Rattle.flow_model.specs.Lawful.{IsLawful, SetsAreSets}
 use Rattle.flow_model.proofs.Truths.{same_number, equal_test, is_not_true, true_or_false}
 use Rattle.flow_model.proofs.Sets.{put-IsSet, take_out-IsSet, put_all-IsSet}

@@ -1,15 +1,15 @@
 -- Each step keeps the versions apart, the lists as many as the nodes, and each list within its room.
-use Rattle.std.proofs.Common.{◌≡◌, ℕ, zero, suc, ◌+◌, ◌≤◌, Bool, true, false, refl, sym, ap, arith, List, [], ◌∷◌, length, map, ◌∙◌, subst, Option, Some, None}
+use Rattle.std.proofs.Common.{◌≡◌, ℕ, ◌+◌, ◌≤◌, Bool, true, false, refl, sym, length, ◌∙◌, subst}
 use Rattle.signal_graph.specs.declared.call.Call.{Call}
 use Rattle.signal_graph.specs.Graph.{Graph}
-use Rattle.node_versions.specs.declared.entry.State.TheVariants.{Mark, Frame, Done}
-use Rattle.node_versions.specs.Entries.{IsUnique, has, at, is_mark}
+use Rattle.node_versions.specs.declared.entry.State.TheVariants.{Mark, Frame}
+use Rattle.node_versions.specs.Entries.{has, at, is_mark}
 use Rattle.flow_model.specs.declared.step.Step.{Step}
 use Rattle.flow_model.specs.declared.step.Step.TheVariants as steps
-use Rattle.flow_model.specs.State.{Core, LiveCall, Cell, entries, change_cell, with_cell, with_call}
+use Rattle.flow_model.specs.State.{Core, LiveCall, entries, with_cell, with_call}
 use Rattle.flow_model.specs.Changes.{enter, raise, ensure_mark, opened, closed, tell_call, add_edge}
 use Rattle.flow_model.specs.Words.{active_outs}
-use Rattle.flow_model.specs.Steps.{allowed, apply, begin, open_node, frame, started, counted, with_look, is_change}
+use Rattle.flow_model.specs.Steps.{allowed, apply, begin, open_node, frame, started, counted, is_change}
 use Rattle.flow_model.specs.Lawful.{IsLawful, VersionsAreFresh}
 use Rattle.flow_model.proofs.Allowed.{executes-live, idle-executes, end-idle}
 use Rattle.flow_model.proofs.PartsOfSteps.{step-parts}

@@ -87,7 +87,12 @@ pub fn room_stays()
     ensures begin { (graph : Graph) (s : Core) (caller : ℕ) (call : Call) → IsLawful graph s → can_begin graph s caller call ≡ true → RoomIsKept (begin graph s caller call) }
 {}
 
-/// In a lawful state, a step that comes next for a live call at a node is allowed.
+/// In a lawful state, a step that comes next for a live call is allowed.
+pub fn next_is_allowed()
+    ensures { (graph : Graph) → IsGraph graph → (s : Core) → IsLawful graph s → (t : ℕ) → live s t ≡ true → (step : Step) → next graph s t ≡ Turn.Step step → allowed graph s step ≡ true }
+{}
+
+/// In a lawful state, a step that comes next for a live call at a given node is allowed.
 pub fn next_at_is_allowed()
     ensures { (graph : Graph) (s : Core) → IsLawful graph s → (t n : ℕ) → live s t ≡ true → (step : Step) → next_at graph s t n ≡ Turn.Step step → allowed graph s step ≡ true }
 {}
