@@ -28,3 +28,5 @@ pub mod Pigeons
 pub mod Earlier
 pub mod FullLists
 pub mod NextIsAllowed
+pub mod Readings
+pub mod FramedWith
