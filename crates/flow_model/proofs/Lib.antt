@@ -30,3 +30,5 @@ pub mod FullLists
 pub mod NextIsAllowed
 pub mod Readings
 pub mod FramedWith
+pub mod Places
+pub mod WantsOfSteps
