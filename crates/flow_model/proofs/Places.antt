@@ -1,16 +1,16 @@
 -- Which out-edges are active for a call that enters a list, or has its Mark raised there.
-use Rattle.std.proofs.Common.{◌≡◌, ℕ, ◌<◌, Bool, true, false, ◌&&◌, ◌||◌, not, ◌==◌, ◌⊎◌, inl, inr, refl, sym, ap, arith, List, [], ◌∷◌, ◌++◌, length, true≢false, ◌∙◌, subst, Option, Some, None}
+use Rattle.std.proofs.Common.{◌≡◌, ℕ, Bool, true, false, ◌||◌, not, ◌==◌, refl, arith, List, [], ◌∷◌, ◌++◌}
 use Rattle.std.proofs.lemmas.Bool.Decides.{eqb_tells}
 use Rattle.signal_graph.specs.Graph.{Graph}
 use Rattle.node_versions.specs.declared.entry.State.{State}
-use Rattle.node_versions.specs.declared.entry.State.TheVariants.{Mark, Frame}
+use Rattle.node_versions.specs.declared.entry.State.TheVariants.{Frame}
 use Rattle.node_versions.specs.declared.entry.Entry.{Entry}
 use Rattle.node_versions.specs.Entries.{has, behind, up_to, is_active, with_state, front, rest, placed}
 use Rattle.flow_model.specs.State.{Core, live, entries, precedes}
 use Rattle.flow_model.specs.Changes.{stops, stops_call, new_entry}
 use Rattle.flow_model.specs.Lawful.{IsLawful}
 use Rattle.flow_model.proofs.Truths.{not_true, is_not_true}
-use Rattle.flow_model.proofs.Lists.{on_calls, with_state-has, front-rest, front-goes, front-has}
+use Rattle.flow_model.proofs.Lists.{with_state-has, front-goes, front-has}
 use Rattle.flow_model.proofs.ListFacts.{placed-has}
 use Rattle.flow_model.proofs.FramedWith.{before-not_after}
 
