@@ -32,3 +32,4 @@ pub mod Readings
 pub mod FramedWith
 pub mod Places
 pub mod WantsOfSteps
+pub mod Covering
