@@ -33,3 +33,4 @@ pub mod FramedWith
 pub mod Places
 pub mod WantsOfSteps
 pub mod Covering
+pub mod SpreadOfSteps

@@ -1,0 +1,136 @@
+-- Where a call has a Frame, all that reacts is open for it or wanted by it, after each step.
+use Rattle.std.proofs.Common.{◌≡◌, ℕ, zero, suc, Bool, true, false, ◌&&◌, ◌||◌, not, ◌==◌, ◌⊎◌, inl, inr, refl, sym, ap, arith, List, [], ◌∷◌, ◌++◌, true≢false, ◌∙◌, subst, Option, Some, None}
+use Rattle.std.specs.Prelude.{slice_get}
+use Rattle.std.specs.List.{list_any}
+use Rattle.std.proofs.lemmas.Bool.Decides.{eqb_tells}
+use Rattle.std.proofs.lemmas.List.Folds.{list_any-append}
+use Rattle.script_tree.specs.declared.value.Value.{Value}
+use Rattle.signal_graph.specs.declared.call.Call.{Call}
+use Rattle.signal_graph.specs.Graph.{Graph, is_in, static_outs}
+use Rattle.node_versions.specs.declared.entry.State.TheVariants.{Mark, Frame, Done}
+use Rattle.node_versions.specs.declared.entry.Entry.{Entry}
+use Rattle.node_versions.specs.Entries.{OutEdge, has, at, is_frame, behind, first_open, is_active, is_edge, has_out, has_node, placed}
+use Rattle.flow_model.specs.declared.step.Step.{Step}
+use Rattle.flow_model.specs.declared.step.Step.TheVariants as steps
+use Rattle.flow_model.specs.Sets.{is_empty}
+use Rattle.flow_model.specs.State.{Core, LiveCall, Cell, call, call_of, call_or, cell, live, executes, entries, outs, opens, wants, with_call, with_cell}
+use Rattle.flow_model.specs.Words.{is_idle, found_now, next_look}
+use Rattle.flow_model.specs.Changes.{stops, stops_call, new_entry, place_entry, enter, ensure_mark, remove_first, drop_edge}
+use Rattle.flow_model.specs.Steps.{allowed, apply, begin, started, counted, with_look, look_value, keep_found}
+use Rattle.flow_model.specs.Runs.{Run, Reading, read_all, nothing_read, last_run, discovered, runs, is_from, is_until, covers, reacts}
+use Rattle.flow_model.specs.Lawful.{IsLawful, FramesAreOpen, FramesSpread}
+use Rattle.flow_model.proofs.Truths.{or_cases, or_left, or_right, same_number, equal_test, not_true, is_not_true, true_or_false}
+use Rattle.flow_model.proofs.Allowed.{and_left, and_right, end-idle, mark-no_entry}
+use Rattle.flow_model.proofs.States.{at-has, behind-has}
+use Rattle.flow_model.proofs.Readers.{with_call-keeps, with_call-live, without_call-other, without_call-same}
+use Rattle.flow_model.proofs.Enter.{with_cell-cell}
+use Rattle.flow_model.proofs.ListSteps.{same_cell}
+use Rattle.flow_model.proofs.KeepsOrder.{reads_without}
+use Rattle.flow_model.proofs.OpenNodes.{cell-other, same_opens, step-FramesAreOpen}
+use Rattle.flow_model.proofs.ListFacts.{placed-has}
+use Rattle.flow_model.proofs.CallsOfSteps.{ensured}
+use Rattle.flow_model.proofs.FramedWith.{opens-frame}
+use Rattle.flow_model.proofs.Covering.{dropper_in, runs_in, same-runs, any-map, reacts-back, Covers, covers-parts, parts-covers, from-back, until-back, kept-reacts, same_lists-covers, marked-runs, placed-active, placed-behind}
+
+-- ---- steps that leave open and wanted nodes as they are
+
+-- What reacts after the step to a node that is open for the call reacted before it.
+pub spread-kept : (graph : Graph) (s : Core) → IsLawful graph s → (q : Core) → FramesAreOpen q → ((u n : ℕ) → opens q u n ≡ opens s u n) → ((u n : ℕ) → wants q u n ≡ wants s u n)
+    → ((u m n : ℕ) → opens s u m ≡ true → reacts graph q u m n ≡ true → reacts graph s u m n ≡ true) → FramesSpread graph q
+spread-kept graph s h q f os ws back u m n k r =
+    let o : opens s u m ≡ true = sym (os u m) ∙ f.opens_frames u m ∙ k in
+    let d = h.frames_spread u m n (opens-frame graph s h u m o) (back u m n o r) in
+    ap (λ (x : Bool). x || wants q u n) (os u n) ∙ ap (λ (x : Bool). opens s u n || x) (ws u n) ∙ d
+
+-- the same lists and out-edges, and no call lives that did not
+pub same_lists-reacts : (graph : Graph) (s q : Core) → ((n : ℕ) → entries q n ≡ entries s n) → ((n : ℕ) → outs q n ≡ outs s n) → ((z : ℕ) → live q z ≡ true → live s z ≡ true)
+    → (u m n : ℕ) → reacts graph q u m n ≡ true → reacts graph s u m n ≡ true
+same_lists-reacts graph s q es os l u m n = kept-reacts graph s q u m n (same-runs s q n m (es n) (os m)) (λ i r e. same_lists-covers s q m u (es m) l r)
+
+same_outs : (s : Core) (n : ℕ) (f : Cell → Cell) → ((c : Cell) → (f c).outs ≡ c.outs) → (m : ℕ) → outs (with_cell s n f) m ≡ outs s m
+same_outs s n f k m = go (with_cell-cell s n f m)
+  where
+    go : (cell (with_cell s n f) m ≡ cell s m) ⊎ ((m ≡ n) × (cell (with_cell s n f) m ≡ f (cell s m))) → outs (with_cell s n f) m ≡ outs s m
+    go (inl e) = ap (λ (c : Cell). c.outs) e
+    go (inr e) = ap (λ (c : Cell). c.outs) e.1 ∙ k (cell s m)
+
+-- a cell's work changes, and neither its list nor its out-edges
+worked-reacts : (graph : Graph) (s : Core) (n0 : ℕ) (f : Cell → Cell) → ((c : Cell) → (f c).entries ≡ c.entries) → ((c : Cell) → (f c).outs ≡ c.outs) → (u m n : ℕ) → reacts graph (with_cell s n0 f) u m n ≡ true → reacts graph s u m n ≡ true
+worked-reacts graph s n0 f k j = same_lists-reacts graph s (with_cell s n0 f) (same_cell graph s n0 f k) (same_outs s n0 f j) (λ z l. l)
+
+-- one call changes, and lives on
+call-reacts : (graph : Graph) (s : Core) (t : ℕ) (f : LiveCall → LiveCall) → ((c : LiveCall) → (f c).version ≡ c.version) → (u m n : ℕ) → reacts graph (with_call s t f) u m n ≡ true → reacts graph s u m n ≡ true
+call-reacts graph s t f k = same_lists-reacts graph s (with_call s t f) (λ n. refl) (λ n. refl) (λ z l. subst (λ (x : ℕ → Bool). x z ≡ true) (with_call-live s t f k) l)
+
+-- ---- a Mark more
+
+-- A call without an entry gets a Mark: no run of another call's covers more.
+marked-covers : (graph : Graph) (s : Core) → IsLawful graph s → (t c u m n : ℕ) → has (entries s c) t ≡ false → (t == u) ≡ false → (i : ℕ) (r : Run) → slice_get (runs s n m) i ≡ Some r → covers (enter s t c Mark) m u r ≡ true → covers s m u r ≡ true
+marked-covers graph s h t c u m n fresh ne i r e k = go (with_cell-cell s c (place_entry s t Mark) m)
+  where
+    q : Core
+    q = enter s t c Mark
+
+    k2 : Covers q m u r
+    k2 = covers-parts q m u r k
+
+    moved : m ≡ c → entries q m ≡ placed (stops s t) (new_entry s t Mark) (entries s m) → covers s m u r ≡ true
+    moved j g = parts-covers s m u r (record {
+      has_it = let b = k2.has_it in subst (λ (x : Bool). x ≡ true) (has-same) b;
+      from = from-back s q m u r.begins (λ b _ a. placed-active (stops_call s t) (new_entry s t Mark) (entries s m) u b none ne (subst (λ (es : List Entry). is_active es b u ≡ true) g a)) k2.from;
+      until = until-back s q m u r.ends (λ z x l b. (l, still z x l (subst (λ (es : List Entry). behind es u z ≡ true) g b))) k2.until;
+    })
+      where
+        none : has (entries s m) t ≡ false
+        none = subst (λ (x : ℕ). has (entries s x) t ≡ false) (sym j) fresh
+
+        has-same : has (entries q m) u ≡ has (entries s m) u
+        has-same = ap (λ (es : List Entry). has es u) g ∙ placed-has (stops_call s t) (new_entry s t Mark) (entries s m) u ∙ ap (λ (x : Bool). x || has (entries s m) u) ne
+
+        still : (z : ℕ) → r.ends ≡ Some z → live s z ≡ true → behind (placed (stops s t) (new_entry s t Mark) (entries s m)) u z ≡ true → behind (entries s m) u z ≡ true
+        still z x l b = cases (true_or_false (t == z))
+          where
+            cases : ((t == z) ≡ true) ⊎ ((t == z) ≡ false) → behind (entries s m) u z ≡ true
+            cases (inl w) = absurd (is_not_true _ none (subst (λ (v : ℕ). has (entries s m) v ≡ true) (sym (same_number t z w)) (h.edges_are_kept.ends_entered n m i r z e x l)))
+            cases (inr w) = sym (placed-behind (stops_call s t) (new_entry s t Mark) (entries s m) u z ne w) ∙ b
+
+    go : (cell q m ≡ cell s m) ⊎ ((m ≡ c) × (cell q m ≡ place_entry s t Mark (cell s m))) → covers s m u r ≡ true
+    go (inl j) = same_lists-covers s q m u (ap (λ (x : Cell). x.entries) j) (λ z l. l) r k
+    go (inr j) = moved j.0 (ap (λ (x : Cell). x.entries) j.1)
+
+entered-runs : (s : Core) (t c n m : ℕ) → runs (enter s t c Mark) n m ≡ runs s n m
+entered-runs s t c n m = go (with_cell-cell s c (place_entry s t Mark) n)
+  where
+    q : Core
+    q = enter s t c Mark
+
+    edges : outs q m ≡ outs s m
+    edges = same_outs s c (place_entry s t Mark) (λ x. refl) m
+
+    go : (cell q n ≡ cell s n) ⊎ ((n ≡ c) × (cell q n ≡ place_entry s t Mark (cell s n))) → runs q n m ≡ runs s n m
+    go (inl e) = same-runs s q n m (ap (λ (x : Cell). x.entries) e) edges
+    go (inr e) = ap (λ (os : List OutEdge). runs_in (entries q n) os n m) edges ∙ ap (λ (es : List Entry). runs_in es (outs s m) n m) (ap (λ (x : Cell). x.entries) e.1) ∙ marked-runs (stops_call s t) (new_entry s t Mark) (entries s n) (outs s m) n m refl
+
+marked-reacts : (graph : Graph) (s : Core) → IsLawful graph s → (t c : ℕ) → has (entries s c) t ≡ false → (u m n : ℕ) → opens s u m ≡ true → reacts graph (enter s t c Mark) u m n ≡ true → reacts graph s u m n ≡ true
+marked-reacts graph s h t c fresh u m n o k = go (true_or_false (t == u))
+  where
+    q : Core
+    q = enter s t c Mark
+
+    go : ((t == u) ≡ true) ⊎ ((t == u) ≡ false) → reacts graph s u m n ≡ true
+    go (inr ne) = kept-reacts graph s q u m n (entered-runs s t c n m) (marked-covers graph s h t c u m n fresh ne) k
+    go (inl e) = kept-reacts graph s q u m n (entered-runs s t c n m) (λ i r _ x. same_lists-covers s q m u other (λ z l. l) r x) k
+      where
+        -- the call has the node open, so it is another than the one that it enters
+        apart : (m == c) ≡ false
+        apart = not_true _ (λ x. is_not_true _ fresh (subst (λ (w : ℕ). has (entries s w) t ≡ true) (same_number m c x) (subst (λ (v : ℕ). has (entries s m) v ≡ true) (sym (same_number t u e)) (at-has is_frame (entries s m) u (opens-frame graph s h u m o)))))
+
+        other : entries q m ≡ entries s m
+        other = ap (λ (x : Cell). x.entries) (cell-other s c m (place_entry s t Mark) apart)
+
+ensured-reacts : (graph : Graph) (s : Core) → IsLawful graph s → (t c : ℕ) → (u m n : ℕ) → opens s u m ≡ true → reacts graph (ensure_mark s t c) u m n ≡ true → reacts graph s u m n ≡ true
+ensured-reacts graph s h t c u m n o k = go (has (entries s c) t) refl k
+  where
+    go : (b : Bool) → has (entries s c) t ≡ b → reacts graph (elim b as (λ _. Core) [ true ↦ s | false ↦ enter s t c Mark ]) u m n ≡ true → reacts graph s u m n ≡ true
+    go true e r = r
+    go false e r = marked-reacts graph s h t c e u m n o r
