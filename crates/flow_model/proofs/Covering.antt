@@ -15,7 +15,7 @@ use Rattle.flow_model.specs.Runs.{Run, Reading, read_state, read_all, nothing_re
 use Rattle.flow_model.specs.Lawful.{IsLawful}
 use Rattle.flow_model.proofs.Truths.{or_cases, or_left, or_right, and_both, and_make, same_number, equal_test, not_true, is_not_true, true_or_false}
 use Rattle.flow_model.proofs.Lists.{on_calls, front-rest}
-use Rattle.flow_model.proofs.States.{more-has, more-behind, at-has}
+use Rattle.flow_model.proofs.States.{more-has, more-behind, behind-has}
 
 -- the runs by a list and the out-edges at the candidate
 abbrev pub dropper_in : List Entry → List OutEdge → ℕ → Option ℕ
@@ -40,6 +40,25 @@ any-map test test2 (r ∷ rs) f h = go (or_cases _ _ h) (any-map test test2 rs (
     go : (test r ≡ true) ⊎ (list_any test rs ≡ true) → (list_any test rs ≡ true → list_any test2 rs ≡ true) → list_any test2 (r ∷ rs) ≡ true
     go (inl k) further = or_left _ _ (f 0 r refl k)
     go (inr k) further = or_right _ _ (further k)
+
+-- The runs are those that have ended, the one in which the list ends, and the one that the first open call has begun.
+pub any-parts : (test : Run → Bool) (es : List Entry) (os : List OutEdge) (n m : ℕ) → list_any test (runs_in es os n m)
+    ≡ ((list_any test (read_all m es nothing_read).closed || list_any test (last_run (read_all m es nothing_read).current (dropper_in es os n))) || list_any test (discovered (first_open es) n os))
+any-parts test es os n m =
+    let q = read_all m es nothing_read in
+    list_any-append test (q.closed ++ last_run q.current (dropper_in es os n)) (discovered (first_open es) n os)
+    ∙ ap (λ (x : Bool). x || list_any test (discovered (first_open es) n os)) (list_any-append test q.closed (last_run q.current (dropper_in es os n)))
+
+-- other out-edges, with the same ones of the node
+pub same-edges : (es : List Entry) (os os2 : List OutEdge) (n m : ℕ) → has_node os2 n ≡ has_node os n → ((t : ℕ) → has_out os2 n t ≡ has_out os n t) → runs_in es os2 n m ≡ runs_in es os n m
+same-edges es os os2 n m e f =
+    let q = read_all m es nothing_read in
+    ap (λ (b : Bool). q.closed ++ last_run q.current (elim b as (λ _. Option ℕ) [ true ↦ None | false ↦ first_open es ]) ++ discovered (first_open es) n os2) e
+    ∙ ap (λ (rs : List Run). q.closed ++ last_run q.current (dropper_in es os n) ++ rs) (found (first_open es))
+  where
+    found : (o : Option ℕ) → discovered o n os2 ≡ discovered o n os
+    found None = refl
+    found (Some t) = ap (λ (b : Bool). elim b as (λ _. List Run) [ true ↦ record { begins = Some t; ends = None } ∷ [] | false ↦ [] ]) (f t)
 
 -- A node that reacts after a change reacted before it: by its scripts, or by a run.
 pub reacts-back : (graph : Graph) (s q : Core) (u m n : ℕ) → (list_any (covers q m u) (runs q n m) ≡ true → list_any (covers s m u) (runs s n m) ≡ true) → reacts graph q u m n ≡ true → reacts graph s u m n ≡ true
@@ -78,13 +97,13 @@ pub kept-reacts : (graph : Graph) (s q : Core) (u m n : ℕ) → runs q n m ≡ 
 kept-reacts graph s q u m n e f h = reacts-back graph s q u m n (λ k. any-map (covers q m u) (covers s m u) (runs s n m) f (subst (λ (rs : List Run). list_any (covers q m u) rs ≡ true) e k)) h
 
 -- the same lists, and no call lives that did not
-pub same_lists-covers : (s q : Core) (m u : ℕ) → entries q m ≡ entries s m → ((z : ℕ) → live q z ≡ true → live s z ≡ true) → (r : Run) → covers q m u r ≡ true → covers s m u r ≡ true
+pub same_lists-covers : (s q : Core) (m u : ℕ) → entries q m ≡ entries s m → ((z : ℕ) → has (entries s m) z ≡ true → live q z ≡ true → live s z ≡ true) → (r : Run) → covers q m u r ≡ true → covers s m u r ≡ true
 same_lists-covers s q m u e l r h =
     let c = covers-parts q m u r h in
     parts-covers s m u r (record {
       has_it = subst (λ (es : List Entry). has es u ≡ true) e c.has_it;
       from = from-back s q m u r.begins (λ b k a. subst (λ (es : List Entry). is_active es b u ≡ true) e a) c.from;
-      until = until-back s q m u r.ends (λ z k x a. (l z x, subst (λ (es : List Entry). behind es u z ≡ true) e a)) c.until;
+      until = until-back s q m u r.ends (λ z k x a. let b = subst (λ (es : List Entry). behind es u z ≡ true) e a in (l z (behind-has (entries s m) u z b).1 x, b)) c.until;
     })
 
 -- ---- a Mark more in a list

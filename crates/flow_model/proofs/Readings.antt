@@ -1,5 +1,5 @@
 -- Where the run begins in which a list ends: at a Done that picks the candidate, after one that doesn't.
-use Rattle.std.proofs.Common.{◌≡◌, ℕ, Bool, true, false, ◌==◌, ◌⊎◌, inl, inr, refl, sym, ap, List, [], ◌∷◌, ◌∙◌, subst, Option, Some, None}
+use Rattle.std.proofs.Common.{true≢false, ◌≡◌, ℕ, Bool, true, false, ◌==◌, ◌⊎◌, inl, inr, refl, sym, ap, List, [], ◌∷◌, ◌∙◌, subst, Option, Some, None}
 use Rattle.std.specs.Prelude.{is_some}
 use Rattle.std.specs.Option.{option_or}
 use Rattle.script_tree.specs.declared.value.Value.{Value}
@@ -8,10 +8,12 @@ use Rattle.signal_graph.specs.Values.{nodes_in}
 use Rattle.node_versions.specs.declared.entry.State.{State}
 use Rattle.node_versions.specs.declared.entry.State.TheVariants.{Mark, Frame, Done}
 use Rattle.node_versions.specs.declared.entry.Entry.{Entry}
-use Rattle.node_versions.specs.Entries.{IsUnique, has, at, is_done, before, up_to, last_done, only_done, state_of, picks_of, picks_at, picks_before}
+use Rattle.node_versions.specs.Entries.{IsUnique, has, at, is_done, before, up_to, last_done, only_done, state_of, picks_of, picks_at, picks_before, is_frame, behind}
 use Rattle.flow_model.specs.Runs.{Run, Reading, begin_at, go_on, read_done, read_state, read_all, nothing_read}
-use Rattle.flow_model.proofs.Truths.{same_number, equal_test, not_true, is_not_true}
-use Rattle.flow_model.proofs.States.{at-has}
+use Rattle.flow_model.proofs.Truths.{true_or_false, same_number, equal_test, not_true, is_not_true}
+use Rattle.flow_model.proofs.States.{at-has, behind-has}
+use Rattle.flow_model.proofs.Lists.{last_done-has}
+use Rattle.flow_model.proofs.ListFacts.{last_done-at, last_done-done}
 
 -- The picks of a Done, where there is one, have the candidate.
 abbrev pub picked_in : ℕ → Option Entry → Bool
@@ -50,6 +52,43 @@ state_seen m e q o h = go e.state refl
     go Mark k = rw (k, only_done) h
     go Frame k = rw (k, only_done) h
     go (Done v c ps) k = rw (k, only_done) (done_seen m e.version ps q ∙ sym (ap (λ (x : State). is_in m (nodes_in (picks_of x))) k))
+
+-- what a whole list's reading has seen
+seen-from : (m : ℕ) (es : List Entry) (q : Reading) (o : Option Entry) → Seen m q o → Seen m (read_all m es q) (option_or (last_done es) o)
+seen-from m [] q o h = h
+seen-from m (e ∷ es) q o h = seen-from m es (read_state m e.version e.state q) (option_or (only_done e) o) (state_seen m e q o h) ∙ ap (picked_in m) (sym (or-or (last_done es) (only_done e) o))
+
+pub seen-all : (m : ℕ) (es : List Entry) → is_some (read_all m es nothing_read).current ≡ picked_in m (last_done es)
+seen-all m es = seen-from m es nothing_read None refl ∙ ap (picked_in m) (or-none (last_done es))
+
+-- ---- the last Done before the first Frame
+
+no_done-none : (es : List Entry) → IsUnique es → ((v : ℕ) → has es v ≡ true → at is_done es v ≡ false) → last_done es ≡ None
+no_done-none es u h = go (last_done es) refl
+  where
+    go : (o : Option Entry) → last_done es ≡ o → last_done es ≡ None
+    go None e = e
+    go (Some x) e = absurd (is_not_true _ (h x.version (last_done-has es x e)) (last_done-at is_done es x u e ∙ last_done-done es x e))
+
+-- Where no Done stands behind a call's Frame, the last Done before it is the last of all.
+pub before-last : (es : List Entry) (t : ℕ) → IsUnique es → at is_frame es t ≡ true → ((v : ℕ) → behind es t v ≡ true → at is_done es v ≡ false) → last_done (before es t) ≡ last_done es
+before-last [] t u f none = absurd (true≢false (sym f))
+before-last (e ∷ es) t u f none = go (true_or_false (e.version == t)) (before-last es t u.1)
+  where
+    later : (v : ℕ) → has es v ≡ true → (e.version == v) ≡ false
+    later v k = not_true _ (λ x. is_not_true _ u.0 (subst (λ (w : ℕ). has es w ≡ true) (sym (same_number e.version v x)) k))
+
+    frame_only : (x : State) → e.state ≡ x → is_frame x ≡ true → only_done e ≡ None
+    frame_only Mark a b = absurd (true≢false (sym b))
+    frame_only Frame a b = rw (a, only_done) refl
+    frame_only (Done v c ps) a b = absurd (true≢false (sym b))
+
+    go : ((e.version == t) ≡ true) ⊎ ((e.version == t) ≡ false) → (at is_frame es t ≡ true → ((v : ℕ) → behind es t v ≡ true → at is_done es v ≡ false) → last_done (before es t) ≡ last_done es) → last_done (before (e ∷ es) t) ≡ last_done (e ∷ es)
+    go (inl w) further =
+        let fe : is_frame e.state ≡ true = rw (w, at) at f in
+        let a : last_done es ≡ None = no_done-none es u.1 (λ v k. let n = none v (rw (w, behind) k) in rw (later v k, at) at n) in
+        rw (w, before) (sym (ap (λ (o : Option Entry). option_or o (only_done e)) a ∙ frame_only e.state refl fe))
+    go (inr w) further = rw (w, before) (ap (λ (o : Option Entry). option_or o (only_done e)) (further (rw (w, at) at f) (λ v k. let n = none v (rw (w, behind) k) in rw (later v (behind-has es t v k).1, at) at n)))
 
 -- one entry more before the list
 first-more : (m : ℕ) (e : Entry) (es : List Entry) (o : Option Entry) (b : ℕ) → has es e.version ≡ false → PicksFirst m es (option_or (only_done e) o) b → PicksFirst m (e ∷ es) o b

@@ -30,7 +30,7 @@ use Rattle.flow_model.proofs.OpenNodes.{cell-other, same_opens, step-FramesAreOp
 use Rattle.flow_model.proofs.ListFacts.{placed-has}
 use Rattle.flow_model.proofs.CallsOfSteps.{ensured}
 use Rattle.flow_model.proofs.FramedWith.{opens-frame}
-use Rattle.flow_model.proofs.Covering.{dropper_in, runs_in, same-runs, any-map, reacts-back, Covers, covers-parts, parts-covers, from-back, until-back, kept-reacts, same_lists-covers, marked-runs, placed-active, placed-behind}
+use Rattle.flow_model.proofs.Covering.{dropper_in, runs_in, any-parts, same-edges, same-runs, any-map, reacts-back, Covers, covers-parts, parts-covers, from-back, until-back, kept-reacts, same_lists-covers, marked-runs, placed-active, placed-behind}
 
 -- ---- steps that leave open and wanted nodes as they are
 
@@ -43,9 +43,9 @@ spread-kept graph s h q f os ws back u m n k r =
     ap (λ (x : Bool). x || wants q u n) (os u n) ∙ ap (λ (x : Bool). opens s u n || x) (ws u n) ∙ d
 
 -- the same lists and out-edges, and no call lives that did not
-pub same_lists-reacts : (graph : Graph) (s q : Core) → ((n : ℕ) → entries q n ≡ entries s n) → ((n : ℕ) → outs q n ≡ outs s n) → ((z : ℕ) → live q z ≡ true → live s z ≡ true)
+pub same_lists-reacts : (graph : Graph) (s q : Core) → ((n : ℕ) → entries q n ≡ entries s n) → ((n : ℕ) → outs q n ≡ outs s n) → ((m z : ℕ) → has (entries s m) z ≡ true → live q z ≡ true → live s z ≡ true)
     → (u m n : ℕ) → reacts graph q u m n ≡ true → reacts graph s u m n ≡ true
-same_lists-reacts graph s q es os l u m n = kept-reacts graph s q u m n (same-runs s q n m (es n) (os m)) (λ i r e. same_lists-covers s q m u (es m) l r)
+same_lists-reacts graph s q es os l u m n = kept-reacts graph s q u m n (same-runs s q n m (es n) (os m)) (λ i r e. same_lists-covers s q m u (es m) (l m) r)
 
 same_outs : (s : Core) (n : ℕ) (f : Cell → Cell) → ((c : Cell) → (f c).outs ≡ c.outs) → (m : ℕ) → outs (with_cell s n f) m ≡ outs s m
 same_outs s n f k m = go (with_cell-cell s n f m)
@@ -56,11 +56,11 @@ same_outs s n f k m = go (with_cell-cell s n f m)
 
 -- a cell's work changes, and neither its list nor its out-edges
 worked-reacts : (graph : Graph) (s : Core) (n0 : ℕ) (f : Cell → Cell) → ((c : Cell) → (f c).entries ≡ c.entries) → ((c : Cell) → (f c).outs ≡ c.outs) → (u m n : ℕ) → reacts graph (with_cell s n0 f) u m n ≡ true → reacts graph s u m n ≡ true
-worked-reacts graph s n0 f k j = same_lists-reacts graph s (with_cell s n0 f) (same_cell graph s n0 f k) (same_outs s n0 f j) (λ z l. l)
+worked-reacts graph s n0 f k j = same_lists-reacts graph s (with_cell s n0 f) (same_cell graph s n0 f k) (same_outs s n0 f j) (λ m z k l. l)
 
 -- one call changes, and lives on
 call-reacts : (graph : Graph) (s : Core) (t : ℕ) (f : LiveCall → LiveCall) → ((c : LiveCall) → (f c).version ≡ c.version) → (u m n : ℕ) → reacts graph (with_call s t f) u m n ≡ true → reacts graph s u m n ≡ true
-call-reacts graph s t f k = same_lists-reacts graph s (with_call s t f) (λ n. refl) (λ n. refl) (λ z l. subst (λ (x : ℕ → Bool). x z ≡ true) (with_call-live s t f k) l)
+call-reacts graph s t f k = same_lists-reacts graph s (with_call s t f) (λ n. refl) (λ n. refl) (λ m z j l. subst (λ (x : ℕ → Bool). x z ≡ true) (with_call-live s t f k) l)
 
 -- ---- a Mark more
 
@@ -95,7 +95,7 @@ marked-covers graph s h t c u m n fresh ne i r e k = go (with_cell-cell s c (pla
             cases (inr w) = sym (placed-behind (stops_call s t) (new_entry s t Mark) (entries s m) u z ne w) ∙ b
 
     go : (cell q m ≡ cell s m) ⊎ ((m ≡ c) × (cell q m ≡ place_entry s t Mark (cell s m))) → covers s m u r ≡ true
-    go (inl j) = same_lists-covers s q m u (ap (λ (x : Cell). x.entries) j) (λ z l. l) r k
+    go (inl j) = same_lists-covers s q m u (ap (λ (x : Cell). x.entries) j) (λ z j l. l) r k
     go (inr j) = moved j.0 (ap (λ (x : Cell). x.entries) j.1)
 
 entered-runs : (s : Core) (t c n m : ℕ) → runs (enter s t c Mark) n m ≡ runs s n m
@@ -119,7 +119,7 @@ marked-reacts graph s h t c fresh u m n o k = go (true_or_false (t == u))
 
     go : ((t == u) ≡ true) ⊎ ((t == u) ≡ false) → reacts graph s u m n ≡ true
     go (inr ne) = kept-reacts graph s q u m n (entered-runs s t c n m) (marked-covers graph s h t c u m n fresh ne) k
-    go (inl e) = kept-reacts graph s q u m n (entered-runs s t c n m) (λ i r _ x. same_lists-covers s q m u other (λ z l. l) r x) k
+    go (inl e) = kept-reacts graph s q u m n (entered-runs s t c n m) (λ i r _ x. same_lists-covers s q m u other (λ z j l. l) r x) k
       where
         -- the call has the node open, so it is another than the one that it enters
         apart : (m == c) ≡ false
@@ -134,3 +134,78 @@ ensured-reacts graph s h t c u m n o k = go (has (entries s c) t) refl k
     go : (b : Bool) → has (entries s c) t ≡ b → reacts graph (elim b as (λ _. Core) [ true ↦ s | false ↦ enter s t c Mark ]) u m n ≡ true → reacts graph s u m n ≡ true
     go true e r = r
     go false e r = marked-reacts graph s h t c e u m n o r
+
+-- ---- an out-edge less
+
+removed-node : (n0 n : ℕ) (os : List OutEdge) → (n == n0) ≡ false → has_node (remove_first n0 os) n ≡ has_node os n
+removed-node n0 n [] ne = refl
+removed-node n0 n (edge ∷ os) ne = let r = removed-node n0 n os ne in grind (arith, eqb_tells, r, ne)
+
+removed-out : (n0 n t : ℕ) (os : List OutEdge) → (n == n0) ≡ false → has_out (remove_first n0 os) n t ≡ has_out os n t
+removed-out n0 n t [] ne = refl
+removed-out n0 n t (edge ∷ os) ne = let r = removed-out n0 n t os ne in grind (arith, eqb_tells, r, ne)
+
+removed-less : (n0 n t : ℕ) (os : List OutEdge) → has_out (remove_first n0 os) n t ≡ true → has_out os n t ≡ true
+removed-less n0 n t [] h = h
+removed-less n0 n t (edge ∷ os) h = let r = removed-less n0 n t os in grind (arith, eqb_tells, r, h)
+
+-- A run that ends at some call covers no more than one without an end.
+removed-any : (test : Run → Bool) → ((r : Run) (z : Option ℕ) → test (record r { ends = z }) ≡ true → test (record r { ends = None }) ≡ true) → (es : List Entry) (os : List OutEdge) (n0 n m : ℕ) → has_node os n0 ≡ true
+    → list_any test (runs_in es (remove_first n0 os) n m) ≡ true → list_any test (runs_in es os n m) ≡ true
+removed-any test longer es os n0 n m e h = go (true_or_false (n == n0))
+  where
+    q : Reading
+    q = read_all m es nothing_read
+
+    stands : (n == n0) ≡ true → dropper_in es os n ≡ None
+    stands x = let k = subst (λ (w : ℕ). has_node os w ≡ true) (sym (same_number n n0 x)) e in rw (k, dropper_in) refl
+
+    last : (c : Option Run) (z : Option ℕ) → list_any test (last_run c z) ≡ true → list_any test (last_run c None) ≡ true
+    last None z k = k
+    last (Some r) z k = or_left _ _ (longer r z (only _ k))
+      where
+        only : (a : Bool) → (a || false) ≡ true → a ≡ true
+        only true k = refl
+        only false k = k
+
+    new : (o : Option ℕ) → list_any test (discovered o n (remove_first n0 os)) ≡ true → list_any test (discovered o n os) ≡ true
+    new None k = k
+    new (Some t) k = cases (has_out (remove_first n0 os) n t) refl k
+      where
+        cases : (b : Bool) → has_out (remove_first n0 os) n t ≡ b → list_any test (elim b as (λ _. List Run) [ true ↦ record { begins = Some t; ends = None } ∷ [] | false ↦ [] ]) ≡ true → list_any test (discovered (Some t) n os) ≡ true
+        cases false x y = absurd (true≢false (sym y))
+        cases true x y = rw (removed-less n0 n t os x, discovered) y
+
+    go : ((n == n0) ≡ true) ⊎ ((n == n0) ≡ false) → list_any test (runs_in es os n m) ≡ true
+    go (inr x) = subst (λ (rs : List Run). list_any test rs ≡ true) (same-edges es os (remove_first n0 os) n m (removed-node n0 n os x) (λ t. removed-out n0 n t os x)) h
+    go (inl x) = any-parts test es os n m ∙ parts (or_cases _ _ (sym (any-parts test es (remove_first n0 os) n m) ∙ h))
+      where
+        two : (list_any test q.closed ≡ true) ⊎ (list_any test (last_run q.current (dropper_in es (remove_first n0 os) n)) ≡ true) → (list_any test q.closed || list_any test (last_run q.current (dropper_in es os n))) ≡ true
+        two (inl a) = or_left _ _ a
+        two (inr a) = or_right _ _ (subst (λ (z : Option ℕ). list_any test (last_run q.current z) ≡ true) (sym (stands x)) (last q.current (dropper_in es (remove_first n0 os) n) a))
+
+        parts : ((list_any test q.closed || list_any test (last_run q.current (dropper_in es (remove_first n0 os) n))) ≡ true) ⊎ (list_any test (discovered (first_open es) n (remove_first n0 os)) ≡ true)
+            → ((list_any test q.closed || list_any test (last_run q.current (dropper_in es os n))) || list_any test (discovered (first_open es) n os)) ≡ true
+        parts (inl a) = or_left _ _ (two (or_cases _ _ a))
+        parts (inr a) = or_right _ _ (new (first_open es) a)
+
+dropped-reacts : (graph : Graph) (s : Core) (o n0 : ℕ) → has_node (outs s o) n0 ≡ true → (u m n : ℕ) → reacts graph (with_cell s o (drop_edge n0)) u m n ≡ true → reacts graph s u m n ≡ true
+dropped-reacts graph s o n0 e u m n k = go (with_cell-cell s o (drop_edge n0) m)
+  where
+    q : Core
+    q = with_cell s o (drop_edge n0)
+
+    lists : (j : ℕ) → entries q j ≡ entries s j
+    lists = same_cell graph s o (drop_edge n0) (λ x. refl)
+
+    covered : (r : Run) → covers q m u r ≡ true → covers s m u r ≡ true
+    covered r x = same_lists-covers s q m u (lists m) (λ z j l. l) r x
+
+    longer : (r : Run) (z : Option ℕ) → covers s m u (record r { ends = z }) ≡ true → covers s m u (record r { ends = None }) ≡ true
+    longer r z x = let c = covers-parts s m u (record r { ends = z }) x in parts-covers s m u (record r { ends = None }) (record { has_it = c.has_it; from = c.from; until = refl })
+
+    go : (cell q m ≡ cell s m) ⊎ ((m ≡ o) × (cell q m ≡ drop_edge n0 (cell s m))) → reacts graph s u m n ≡ true
+    go (inl j) = kept-reacts graph s q u m n (same-runs s q n m (lists n) (ap (λ (c : Cell). c.outs) j)) (λ i r _ x. covered r x) k
+    go (inr j) = reacts-back graph s q u m n (λ x. removed-any (covers s m u) longer (entries s n) (outs s m) n0 n m (subst (λ (w : ℕ). has_node (outs s w) n0 ≡ true) (sym j.0) e)
+        (any-map (covers q m u) (covers s m u) (runs_in (entries s n) (remove_first n0 (outs s m)) n m) (λ i r _ y. covered r y)
+        (subst (λ (rs : List Run). list_any (covers q m u) rs ≡ true) (ap (λ (es : List Entry). runs_in es (outs q m) n m) (lists n) ∙ ap (λ (os : List OutEdge). runs_in (entries s n) os n m) (ap (λ (c : Cell). c.outs) j.1)) x))) k
