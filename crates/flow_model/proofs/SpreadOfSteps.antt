@@ -9,14 +9,14 @@ use Rattle.signal_graph.specs.declared.call.Call.{Call}
 use Rattle.signal_graph.specs.Graph.{Graph, is_in, static_outs}
 use Rattle.node_versions.specs.declared.entry.State.TheVariants.{Mark, Frame, Done}
 use Rattle.node_versions.specs.declared.entry.Entry.{Entry}
-use Rattle.node_versions.specs.Entries.{OutEdge, has, at, is_frame, behind, first_open, is_active, is_edge, has_out, has_node, placed}
+use Rattle.node_versions.specs.Entries.{OutEdge, has, at, is_frame, behind, first_open, is_active, is_edge, has_out, has_node, placed, value_at}
 use Rattle.flow_model.specs.declared.step.Step.{Step}
 use Rattle.flow_model.specs.declared.step.Step.TheVariants as steps
 use Rattle.flow_model.specs.Sets.{is_empty}
-use Rattle.flow_model.specs.State.{Core, LiveCall, Cell, call, call_of, call_or, cell, live, executes, entries, outs, opens, wants, with_call, with_cell}
-use Rattle.flow_model.specs.Words.{is_idle, found_now, next_look}
+use Rattle.flow_model.specs.State.{Core, LiveCall, Cell, call, call_of, call_or, cell, live, executes, entries, outs, opens, wants, with_call, with_cell, some_call}
+use Rattle.flow_model.specs.Words.{is_idle, found_now, next_look, body_now}
 use Rattle.flow_model.specs.Changes.{stops, stops_call, new_entry, place_entry, enter, ensure_mark, remove_first, drop_edge}
-use Rattle.flow_model.specs.Steps.{allowed, apply, begin, started, counted, with_look, look_value, keep_found}
+use Rattle.flow_model.specs.Steps.{allowed, apply, begin, started, counted, with_look, look_value, keep_found, gather, keep_body, new_call}
 use Rattle.flow_model.specs.Runs.{Run, Reading, read_all, nothing_read, last_run, discovered, runs, is_from, is_until, covers, reacts}
 use Rattle.flow_model.specs.Lawful.{IsLawful, FramesAreOpen, FramesSpread}
 use Rattle.flow_model.proofs.Truths.{or_cases, or_left, or_right, same_number, equal_test, not_true, is_not_true, true_or_false}
@@ -31,6 +31,8 @@ use Rattle.flow_model.proofs.ListFacts.{placed-has}
 use Rattle.flow_model.proofs.CallsOfSteps.{ensured}
 use Rattle.flow_model.proofs.FramedWith.{opens-frame}
 use Rattle.flow_model.proofs.Covering.{dropper_in, runs_in, any-parts, same-edges, same-runs, any-map, reacts-back, Covers, covers-parts, parts-covers, from-back, until-back, kept-reacts, same_lists-covers, marked-runs, placed-active, placed-behind}
+use Rattle.flow_model.proofs.Beginnings.{begin-call}
+use Rattle.flow_model.proofs.OrderOfSteps.{not_begun-entry}
 
 -- ---- steps that leave open and wanted nodes as they are
 
@@ -209,3 +211,89 @@ dropped-reacts graph s o n0 e u m n k = go (with_cell-cell s o (drop_edge n0) m)
     go (inr j) = reacts-back graph s q u m n (λ x. removed-any (covers s m u) longer (entries s n) (outs s m) n0 n m (subst (λ (w : ℕ). has_node (outs s w) n0 ≡ true) (sym j.0) e)
         (any-map (covers q m u) (covers s m u) (runs_in (entries s n) (remove_first n0 (outs s m)) n m) (λ i r _ y. covered r y)
         (subst (λ (rs : List Run). list_any (covers q m u) rs ≡ true) (ap (λ (es : List Entry). runs_in es (outs q m) n m) (lists n) ∙ ap (λ (os : List OutEdge). runs_in (entries s n) os n m) (ap (λ (c : Cell). c.outs) j.1)) x))) k
+
+-- ---- the steps that leave open and wanted nodes as they are
+
+pub started-spread : (graph : Graph) (s : Core) (t : ℕ) → IsLawful graph s → allowed graph s (steps.Start t) ≡ true → FramesSpread graph (apply graph s (steps.Start t))
+started-spread graph s t h a = spread-kept graph s h (apply graph s (steps.Start t)) (step-FramesAreOpen graph s (steps.Start t) h a) (λ u n. same_opens s t started (λ x. refl) (λ x. refl) u n)
+    (λ u n. with_call-keeps (λ x. is_in n x.wanted) s t started (λ x. refl) (λ x. refl) u) (λ u m n o. call-reacts graph s t started (λ x. refl) u m n)
+
+pub gathered-spread : (graph : Graph) (s : Core) (t n0 i : ℕ) → IsLawful graph s → allowed graph s (steps.Gather t n0 i) ≡ true → FramesSpread graph (apply graph s (steps.Gather t n0 i))
+gathered-spread graph s t n0 i h a = spread-kept graph s h (apply graph s (steps.Gather t n0 i)) (step-FramesAreOpen graph s (steps.Gather t n0 i) h a) (λ u n. refl) (λ u n. refl)
+    (λ u m n o. worked-reacts graph s n0 (gather i (value_at (entries s i) t)) (λ x. refl) (λ x. refl) u m n)
+
+pub evaluated-spread : (graph : Graph) (s : Core) (t n0 : ℕ) → IsLawful graph s → allowed graph s (steps.Evaluate t n0) ≡ true → FramesSpread graph (apply graph s (steps.Evaluate t n0))
+evaluated-spread graph s t n0 h a =
+    let q = with_cell s n0 (keep_found (found_now graph s t n0)) in
+    spread-kept graph s h (apply graph s (steps.Evaluate t n0)) (step-FramesAreOpen graph s (steps.Evaluate t n0) h a) (λ u n. same_opens q t counted (λ x. refl) (λ x. refl) u n)
+    (λ u n. with_call-keeps (λ x. is_in n x.wanted) q t counted (λ x. refl) (λ x. refl) u)
+    (λ u m n o k. worked-reacts graph s n0 (keep_found (found_now graph s t n0)) (λ x. refl) (λ x. refl) u m n (call-reacts graph q t counted (λ x. refl) u m n k))
+
+pub body-spread : (graph : Graph) (s : Core) (t n0 : ℕ) → IsLawful graph s → allowed graph s (steps.Body t n0) ≡ true → FramesSpread graph (apply graph s (steps.Body t n0))
+body-spread graph s t n0 h a = spread-kept graph s h (apply graph s (steps.Body t n0)) (step-FramesAreOpen graph s (steps.Body t n0) h a) (λ u n. refl) (λ u n. refl)
+    (λ u m n o. worked-reacts graph s n0 (keep_body (body_now graph s n0)) (λ x. refl) (λ x. refl) u m n)
+
+pub marked-spread : (graph : Graph) (s : Core) (t c : ℕ) → IsLawful graph s → allowed graph s (steps.Mark t c) ≡ true → FramesSpread graph (apply graph s (steps.Mark t c))
+marked-spread graph s t c h a = spread-kept graph s h (apply graph s (steps.Mark t c)) (step-FramesAreOpen graph s (steps.Mark t c) h a) (λ u n. refl) (λ u n. refl) (λ u m n o k. marked-reacts graph s h t c (mark-no_entry graph s t c a) u m n o k)
+
+pub looked-spread : (graph : Graph) (s : Core) (t : ℕ) → IsLawful graph s → allowed graph s (steps.Look t) ≡ true → FramesSpread graph (apply graph s (steps.Look t))
+looked-spread graph s t h a =
+    let f = with_look (look_value s t (next_look s t)) in
+    spread-kept graph s h (apply graph s (steps.Look t)) (step-FramesAreOpen graph s (steps.Look t) h a) (λ u n. same_opens s t f (λ x. refl) (λ x. refl) u n)
+    (λ u n. with_call-keeps (λ x. is_in n x.wanted) s t f (λ x. refl) (λ x. refl) u) (λ u m n o. call-reacts graph s t f (λ x. refl) u m n)
+
+ensured-edges : (s : Core) (t c m : ℕ) → outs (ensure_mark s t c) m ≡ outs s m
+ensured-edges s t c m = go (has (entries s c) t)
+  where
+    go : (b : Bool) → outs (elim b as (λ _. Core) [ true ↦ s | false ↦ enter s t c Mark ]) m ≡ outs s m
+    go true = refl
+    go false = same_outs s c (place_entry s t Mark) (λ x. refl) m
+
+pub dropped-spread : (graph : Graph) (s : Core) (t n0 o : ℕ) → IsLawful graph s → allowed graph s (steps.Drop t n0 o) ≡ true → FramesSpread graph (apply graph s (steps.Drop t n0 o))
+dropped-spread graph s t n0 o h a =
+    let p = ensure_mark s t o in
+    let e : has_node (outs s o) n0 ≡ true = and_right _ _ (and_left _ _ a) in
+    spread-kept graph s h (apply graph s (steps.Drop t n0 o)) (step-FramesAreOpen graph s (steps.Drop t n0 o) h a) (λ u n. ensured (λ x. is_in n x.open_nodes) s t o u) (λ u n. ensured (λ x. is_in n x.wanted) s t o u)
+    (λ u m n x k. ensured-reacts graph s h t o u m n x (dropped-reacts graph p o n0 (subst (λ (os : List OutEdge). has_node os n0 ≡ true) (sym (ensured-edges s t o o)) e) u m n k))
+
+-- A call that ends has nothing open and wants nothing.
+pub ended-spread : (graph : Graph) (s : Core) (t : ℕ) → IsLawful graph s → allowed graph s (steps.End t) ≡ true → FramesSpread graph (apply graph s (steps.End t))
+ended-spread graph s t h a = spread-kept graph s h q (step-FramesAreOpen graph s (steps.End t) h a) (λ u n. read (λ c. c.open_nodes) refl (and_right _ _ (end-idle graph s t a)) u n)
+    (λ u n. read (λ c. c.wanted) refl (and_right _ _ (and_left _ _ (end-idle graph s t a))) u n)
+    (λ u m n o. same_lists-reacts graph s q (λ j. refl) (λ j. refl) (λ j z k l. let r = reads_without some_call refl t s.calls z in grind (arith, r, l)) u m n)
+  where
+    q : Core
+    q = apply graph s (steps.End t)
+
+    none : (xs : List ℕ) (n : ℕ) → is_empty xs ≡ true → is_in n xs ≡ false
+    none [] n e = refl
+    none (x ∷ xs) n e = absurd (true≢false (sym e))
+
+    read : (f : LiveCall → List ℕ) → f (call_or None) ≡ [] → is_empty (f (call s t)) ≡ true → (u n : ℕ) → is_in n (f (call q u)) ≡ is_in n (f (call s u))
+    read f z e u n = go (true_or_false (u == t))
+      where
+        go : ((u == t) ≡ true) ⊎ ((u == t) ≡ false) → is_in n (f (call q u)) ≡ is_in n (f (call s u))
+        go (inl k) = subst (λ (v : ℕ). is_in n (f (call q v)) ≡ is_in n (f (call s v))) (sym (same_number u t k))
+            (ap (λ (o : Option LiveCall). is_in n (f (call_or o))) (without_call-same t s.calls) ∙ ap (is_in n) z ∙ sym (none (f (call s t)) n e))
+        go (inr k) = ap (λ (o : Option LiveCall). is_in n (f (call_or o))) (without_call-other t u s.calls (λ x. is_not_true _ k (equal_test u t x)))
+
+-- A call that begins has no entry, so no run ends at it that covers a call.
+pub begin-FramesSpread : (graph : Graph) (s : Core) (caller : ℕ) (c : Call) → IsLawful graph s → FramesSpread graph (begin graph s caller c)
+begin-FramesSpread graph s caller c h u m n k r = go (begin-call graph s h caller c u)
+  where
+    q : Core
+    q = begin graph s caller c
+
+    lived : (j z : ℕ) → has (entries s j) z ≡ true → live q z ≡ true → live s z ≡ true
+    lived j z x l = cases (begin-call graph s h caller c z)
+      where
+        cases : ((call_of q.calls z ≡ call_of s.calls z) × ((suc s.begun == z) ≡ false)) ⊎ ((z ≡ suc s.begun) × (call_of q.calls z ≡ Some (new_call graph s caller c))) → live s z ≡ true
+        cases (inl e) = ap some_call (sym e.0) ∙ l
+        cases (inr e) = absurd (is_not_true _ (not_begun-entry graph s h j) (subst (λ (v : ℕ). has (entries s j) v ≡ true) e.0 x))
+
+    back : reacts graph s u m n ≡ true
+    back = same_lists-reacts graph s q (λ j. refl) (λ j. refl) lived u m n r
+
+    go : ((call_of q.calls u ≡ call_of s.calls u) × ((suc s.begun == u) ≡ false)) ⊎ ((u ≡ suc s.begun) × (call_of q.calls u ≡ Some (new_call graph s caller c))) → (opens q u n || wants q u n) ≡ true
+    go (inl e) = ap (λ (o : Option LiveCall). is_in n (call_or o).open_nodes || is_in n (call_or o).wanted) e.0 ∙ h.frames_spread u m n k back
+    go (inr e) = absurd (is_not_true _ (not_begun-entry graph s h m) (subst (λ (v : ℕ). has (entries s m) v ≡ true) e.0 (at-has is_frame (entries s m) u k)))

@@ -205,11 +205,11 @@ framed-wanting graph s h t m a u n = go (at is_mark (entries s m) t) refl
 
 -- ---- telling
 
-told-wants : (b : Bool) (m n : ℕ) (xs : List ℕ) → is_in m (elim b as (λ _. List ℕ) [ true ↦ put n xs | false ↦ xs ]) ≡ (is_in m xs || ((m == n) && b))
+pub told-wants : (b : Bool) (m n : ℕ) (xs : List ℕ) → is_in m (elim b as (λ _. List ℕ) [ true ↦ put n xs | false ↦ xs ]) ≡ (is_in m xs || ((m == n) && b))
 told-wants true m n xs = let p = in-put m n xs in grind (arith, p)
 told-wants false m n xs = grind arith
 
-call_of-version : (cs : List LiveCall) (u : ℕ) (c : LiveCall) → call_of cs u ≡ Some c → c.version ≡ u
+pub call_of-version : (cs : List LiveCall) (u : ℕ) (c : LiveCall) → call_of cs u ≡ Some c → c.version ≡ u
 call_of-version [] u c h = cc
 call_of-version (x ∷ xs) u c h = let r = call_of-version xs u c in grind (arith, eqb_tells, r)
 
@@ -220,7 +220,7 @@ pub record IsTold (s : Core) (es : List Entry) (t n u m : ℕ) : Type 0 where
   pub closed : opens s u n ≡ false
   pub lives : live s u ≡ true
 
-tell-wants : (s : Core) (c t n u m : ℕ) → wants (tell s t n c) u m ≡ true → (wants s u m ≡ true) ⊎ IsTold s (entries s c) t n u m
+pub tell-wants : (s : Core) (c t n u m : ℕ) → wants (tell s t n c) u m ≡ true → (wants s u m ≡ true) ⊎ IsTold s (entries s c) t n u m
 tell-wants s c t n u m h = go (call_of s.calls u) refl (sym (ap (λ (o : Option LiveCall). is_in m (call_or o).wanted) (map_call-reads (tell_call (entries s c) t n) (λ x. refl) s.calls u)) ∙ h)
   where
     go : (o : Option LiveCall) → call_of s.calls u ≡ o → is_in m (call_or (option_call (tell_call (entries s c) t n) o)).wanted ≡ true → (wants s u m ≡ true) ⊎ IsTold s (entries s c) t n u m
@@ -240,7 +240,7 @@ tell-wants s c t n u m h = go (call_of s.calls u) refl (sym (ap (λ (o : Option 
             })
 
 -- A call whose entry stands behind another's that has just entered the list, or stood there, is not before it.
-behind-not_before : (graph : Graph) (s : Core) → IsLawful graph s → (t c u : ℕ) → executes s t ≡ true → live s u ≡ true → behind (entries (ensure_mark s t c) c) t u ≡ true → precedes s u t ≡ false
+pub behind-not_before : (graph : Graph) (s : Core) → IsLawful graph s → (t c u : ℕ) → executes s t ≡ true → live s u ≡ true → behind (entries (ensure_mark s t c) c) t u ≡ true → precedes s u t ≡ false
 behind-not_before graph s h t c u xt lu b = go (has (entries s c) t) refl b
   where
     lt : live s t ≡ true
@@ -265,7 +265,7 @@ behind-not_before graph s h t c u xt lu b = go (has (entries s c) t) refl b
         cases (inl j) = stood (subst (λ (x : Cell). behind x.entries t u ≡ true) j k)
         cases (inr j) = entered e (subst (λ (x : Cell). behind x.entries t u ≡ true) j.1 k)
 
-ensured-live : (s : Core) (t c u : ℕ) → live (ensure_mark s t c) u ≡ live s u
+pub ensured-live : (s : Core) (t c u : ℕ) → live (ensure_mark s t c) u ≡ live s u
 ensured-live s t c u = go (has (entries s c) t)
   where
     go : (b : Bool) → live (elim b as (λ _. Core) [ true ↦ s | false ↦ enter s t c Mark ]) u ≡ live s u
