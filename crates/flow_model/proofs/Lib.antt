@@ -34,3 +34,4 @@ pub mod Places
 pub mod WantsOfSteps
 pub mod Covering
 pub mod SpreadOfSteps
+pub mod DiscoverSpreads

@@ -18,7 +18,7 @@ with_state-up_to : (t : ℕ) (x : State) (es : List Entry) (v u : ℕ) → has (
 with_state-up_to t x [] v u = refl
 with_state-up_to t x (e ∷ es) v u = let r = with_state-up_to t x es v u in grind (arith, eqb_tells, r)
 
-active-behind : (es : List Entry) (u t : ℕ) → has es u ≡ true → has es t ≡ true → has (up_to es t) u ≡ true → (t == u) ≡ false → behind es u t ≡ true
+pub active-behind : (es : List Entry) (u t : ℕ) → has es u ≡ true → has es t ≡ true → has (up_to es t) u ≡ true → (t == u) ≡ false → behind es u t ≡ true
 active-behind [] u t h k a ne = h
 active-behind (e ∷ es) u t h k a ne = let r = active-behind es u t in grind (arith, eqb_tells, h, k, a, ne, r)
 

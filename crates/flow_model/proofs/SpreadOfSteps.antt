@@ -49,7 +49,7 @@ pub same_lists-reacts : (graph : Graph) (s q : Core) → ((n : ℕ) → entries 
     → (u m n : ℕ) → reacts graph q u m n ≡ true → reacts graph s u m n ≡ true
 same_lists-reacts graph s q es os l u m n = kept-reacts graph s q u m n (same-runs s q n m (es n) (os m)) (λ i r e. same_lists-covers s q m u (es m) (l m) r)
 
-same_outs : (s : Core) (n : ℕ) (f : Cell → Cell) → ((c : Cell) → (f c).outs ≡ c.outs) → (m : ℕ) → outs (with_cell s n f) m ≡ outs s m
+pub same_outs : (s : Core) (n : ℕ) (f : Cell → Cell) → ((c : Cell) → (f c).outs ≡ c.outs) → (m : ℕ) → outs (with_cell s n f) m ≡ outs s m
 same_outs s n f k m = go (with_cell-cell s n f m)
   where
     go : (cell (with_cell s n f) m ≡ cell s m) ⊎ ((m ≡ n) × (cell (with_cell s n f) m ≡ f (cell s m))) → outs (with_cell s n f) m ≡ outs s m
@@ -67,7 +67,7 @@ call-reacts graph s t f k = same_lists-reacts graph s (with_call s t f) (λ n. r
 -- ---- a Mark more
 
 -- A call without an entry gets a Mark: no run of another call's covers more.
-marked-covers : (graph : Graph) (s : Core) → IsLawful graph s → (t c u m n : ℕ) → has (entries s c) t ≡ false → (t == u) ≡ false → (i : ℕ) (r : Run) → slice_get (runs s n m) i ≡ Some r → covers (enter s t c Mark) m u r ≡ true → covers s m u r ≡ true
+pub marked-covers : (graph : Graph) (s : Core) → IsLawful graph s → (t c u m n : ℕ) → has (entries s c) t ≡ false → (t == u) ≡ false → (i : ℕ) (r : Run) → slice_get (runs s n m) i ≡ Some r → covers (enter s t c Mark) m u r ≡ true → covers s m u r ≡ true
 marked-covers graph s h t c u m n fresh ne i r e k = go (with_cell-cell s c (place_entry s t Mark) m)
   where
     q : Core
@@ -242,7 +242,7 @@ looked-spread graph s t h a =
     spread-kept graph s h (apply graph s (steps.Look t)) (step-FramesAreOpen graph s (steps.Look t) h a) (λ u n. same_opens s t f (λ x. refl) (λ x. refl) u n)
     (λ u n. with_call-keeps (λ x. is_in n x.wanted) s t f (λ x. refl) (λ x. refl) u) (λ u m n o. call-reacts graph s t f (λ x. refl) u m n)
 
-ensured-edges : (s : Core) (t c m : ℕ) → outs (ensure_mark s t c) m ≡ outs s m
+pub ensured-edges : (s : Core) (t c m : ℕ) → outs (ensure_mark s t c) m ≡ outs s m
 ensured-edges s t c m = go (has (entries s c) t)
   where
     go : (b : Bool) → outs (elim b as (λ _. Core) [ true ↦ s | false ↦ enter s t c Mark ]) m ≡ outs s m
