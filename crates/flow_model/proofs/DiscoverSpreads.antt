@@ -21,7 +21,7 @@ use Rattle.flow_model.proofs.Truths.{or_cases, or_left, or_right, same_number, e
 use Rattle.flow_model.proofs.Allowed.{and_left, and_right, not_is, opens-live, at_front-heads, turn-at_front, due-turn, discover-due}
 use Rattle.flow_model.proofs.States.{at-has}
 use Rattle.flow_model.proofs.ListFacts.{placed-has}
-use Rattle.flow_model.proofs.Readers.{map_call-keeps, map_call-reads, option_call}
+use Rattle.flow_model.proofs.Readers.{map_call-live, map_call-keeps, map_call-reads, option_call}
 use Rattle.flow_model.proofs.Enter.{with_cell-cell}
 use Rattle.flow_model.proofs.ListSteps.{same_cell}
 use Rattle.flow_model.proofs.OpenNodes.{cell-there, cell-other, entry-there, step-FramesAreOpen}
@@ -32,7 +32,7 @@ use Rattle.flow_model.proofs.Readings.{picked_in, seen-all, before-last}
 use Rattle.flow_model.proofs.Places.{active-behind}
 use Rattle.flow_model.proofs.WantsOfSteps.{call_of-version, told-wants, ensured-live}
 use Rattle.flow_model.proofs.Covering.{dropper_in, runs_in, any-parts, same-edges, any-map, Covers, covers-parts, same_lists-covers, marked-runs}
-use Rattle.flow_model.proofs.SpreadOfSteps.{same_outs, marked-covers, ensured-edges}
+use Rattle.flow_model.proofs.SpreadOfSteps.{same_lists-reacts, same_outs, marked-covers, ensured-edges}
 use Rattle.flow_model.specs.Changes.{stops, stops_call, new_entry}
 
 -- ---- the first open call's prior picks
@@ -165,3 +165,125 @@ tell-tells s c t n u l b f = ap (λ (x : Bool). opens s u n || x) (ap (λ (o : O
     go : (o : Option LiveCall) → call_of s.calls u ≡ o → some_call o ≡ true → (is_in n (call_or o).open_nodes || is_in n (call_or (option_call (tell_call (entries s c) t n) o)).wanted) ≡ true
     go None e k = absurd (true≢false (sym k))
     go (Some x) e k = told x (call_of-version s.calls u x e)
+
+-- ---- the step
+
+discovered-runs : (s : Core) (t c n0 n m : ℕ) → runs (with_cell (ensure_mark s t c) c (add_edge n0 t)) n m ≡ runs_in (entries s n) (outs (with_cell (ensure_mark s t c) c (add_edge n0 t)) m) n m
+discovered-runs s t c n0 n m =
+    let p = ensure_mark s t c in
+    let q = with_cell p c (add_edge n0 t) in
+    ap (λ (es : List Entry). runs_in es (outs q m) n m) (same_cell (record { names = []; nodes = [] }) p c (add_edge n0 t) (λ x. refl) n) ∙ ensured-runs_in s t c n m (outs q m)
+
+-- What reacts after the edge is added reacted before, or it is the node of the edge, and the edge's run covers the call.
+abbrev NewRun : Core → ℕ → ℕ → ℕ → ℕ → ℕ → ℕ → Type 0
+NewRun q t c n0 u m n = (n ≡ n0) × (m ≡ c) × (covers q m u (new_run t) ≡ true)
+
+discovered-reacts : (graph : Graph) (s : Core) → IsLawful graph s → (t n0 c : ℕ) → heads s t n0 ≡ true → is_prior s t n0 c ≡ false → (u m n : ℕ) → opens s u m ≡ true
+    → reacts graph (with_cell (ensure_mark s t c) c (add_edge n0 t)) u m n ≡ true → (reacts graph s u m n ≡ true) ⊎ NewRun (with_cell (ensure_mark s t c) c (add_edge n0 t)) t c n0 u m n
+discovered-reacts graph s h t n0 c hd not_prior u m n o k = either (or_cases _ _ k)
+  where
+    p : Core
+    p = ensure_mark s t c
+
+    q : Core
+    q = with_cell p c (add_edge n0 t)
+
+    -- a run that covers the call covered it
+    back : list_any (covers q m u) (runs s n m) ≡ true → reacts graph s u m n ≡ true
+    back a = or_right _ _ (any-map (covers q m u) (covers s m u) (runs s n m) (λ i r e x. ensured-covers graph s h t c u m n o i r e (same_lists-covers p q m u (same_cell graph p c (add_edge n0 t) (λ y. refl) m) (λ z j l. l) r x)) a)
+
+    edge : m ≡ c → outs q m ≡ with_out (outs s m) n0 t → list_any (covers q m u) (runs_in (entries s n) (outs q m) n m) ≡ true → (reacts graph s u m n ≡ true) ⊎ NewRun q t c n0 u m n
+    edge j g a = cases (true_or_false (n == n0)) (subst (λ (os : List OutEdge). list_any (covers q m u) (runs_in (entries s n) os n m) ≡ true) g a)
+      where
+        none : n ≡ n0 → last_run_of s n m ≡ None
+        none x = not_picked-none s n m (subst (λ (w : ℕ). picks_last s w m ≡ false) (sym x) (subst (λ (w : ℕ). picks_last s n0 w ≡ false) (sym j) (sym (head-prior graph s h t n0 c hd) ∙ not_prior)))
+
+        cases : ((n == n0) ≡ true) ⊎ ((n == n0) ≡ false) → list_any (covers q m u) (runs_in (entries s n) (with_out (outs s m) n0 t) n m) ≡ true → (reacts graph s u m n ≡ true) ⊎ NewRun q t c n0 u m n
+        cases (inr x) y = inl (back (subst (λ (rs : List Run). list_any (covers q m u) rs ≡ true) (same-edges (entries s n) (outs s m) (with_out (outs s m) n0 t) n m (added-node n0 n t (outs s m) x) (λ z. added-out n0 n t z (outs s m) x)) y))
+        cases (inl x) y = two (added-any (covers q m u) (entries s n) (outs s m) n0 n m t x (subst (λ (w : ℕ). first_open (entries s w) ≡ Some t) (sym (same_number n n0 x)) (head-first (entries s n0) t hd)) (none (same_number n n0 x)) y)
+          where
+            two : (list_any (covers q m u) (runs_in (entries s n) (outs s m) n m) ≡ true) ⊎ (covers q m u (new_run t) ≡ true) → (reacts graph s u m n ≡ true) ⊎ NewRun q t c n0 u m n
+            two (inl z) = inl (back z)
+            two (inr z) = inr (same_number n n0 x, j, z)
+
+    by_run : (cell q m ≡ cell p m) ⊎ ((m ≡ c) × (cell q m ≡ add_edge n0 t (cell p m))) → list_any (covers q m u) (runs_in (entries s n) (outs q m) n m) ≡ true → (reacts graph s u m n ≡ true) ⊎ NewRun q t c n0 u m n
+    by_run (inl e) a = inl (back (subst (λ (os : List OutEdge). list_any (covers q m u) (runs_in (entries s n) os n m) ≡ true) (ap (λ (x : Cell). x.outs) e ∙ ensured-edges s t c m) a))
+    by_run (inr e) a = edge e.0 (ap (λ (x : Cell). x.outs) e.1 ∙ ap (λ (os : List OutEdge). with_out os n0 t) (ensured-edges s t c m)) a
+
+    either : (is_in n (static_outs graph m) ≡ true) ⊎ (list_any (covers q m u) (runs q n m) ≡ true) → (reacts graph s u m n ≡ true) ⊎ NewRun q t c n0 u m n
+    either (inl a) = inl (or_left _ _ a)
+    either (inr a) = by_run (with_cell-cell p c (add_edge n0 t) m) (subst (λ (rs : List Run). list_any (covers q m u) rs ≡ true) (discovered-runs s t c n0 n m) a)
+
+discover-not_prior : (graph : Graph) (s : Core) (t n c : ℕ) → allowed graph s (steps.Discover t n c) ≡ true → is_prior s t n c ≡ false
+discover-not_prior graph s t n c a = not_is _ (and_right _ _ (and_left _ _ (and_left _ _ a)))
+
+pub discovered-spread : (graph : Graph) (s : Core) (t n0 c : ℕ) → IsLawful graph s → allowed graph s (steps.Discover t n0 c) ≡ true → FramesSpread graph (apply graph s (steps.Discover t n0 c))
+discovered-spread graph s t n0 c h a u m n k r = go (discovered-reacts graph s h t n0 c head not_prior u m n o (tell-reacts r))
+  where
+    p : Core
+    p = ensure_mark s t c
+
+    q : Core
+    q = with_cell p c (add_edge n0 t)
+
+    after : Core
+    after = apply graph s (steps.Discover t n0 c)
+
+    head : heads s t n0 ≡ true
+    head = at_front-heads graph s t n0 (turn-at_front graph s t n0 (due-turn graph s t n0 (discover-due graph s t n0 c a)))
+
+    not_prior : is_prior s t n0 c ≡ false
+    not_prior = discover-not_prior graph s t n0 c a
+
+    opens-mid : (j : ℕ) → opens q u j ≡ opens s u j
+    opens-mid j = ensured (λ x. is_in j x.open_nodes) s t c u
+
+    opens-same : (j : ℕ) → opens after u j ≡ opens q u j
+    opens-same j = map_call-keeps (λ x. is_in j x.open_nodes) q (tell_call (entries q c) t n0) (λ x. refl) (λ x. refl) u
+
+    o : opens s u m ≡ true
+    o = sym (opens-mid m) ∙ sym (opens-same m) ∙ (step-FramesAreOpen graph s (steps.Discover t n0 c) h a).opens_frames u m ∙ k
+
+    tell-reacts : reacts graph after u m n ≡ true → reacts graph q u m n ≡ true
+    tell-reacts x = same_lists-reacts graph q after (λ j. refl) (λ j. refl) (λ j z y l. subst (λ (f : ℕ → Bool). f z ≡ true) (map_call-live q (tell_call (entries q c) t n0) (λ w. refl)) l) u m n x
+
+    -- open or wanted before
+    still : (opens s u n || wants s u n) ≡ true → (opens after u n || wants after u n) ≡ true
+    still x = cases (or_cases _ _ x)
+      where
+        cases : (opens s u n ≡ true) ⊎ (wants s u n ≡ true) → (opens after u n || wants after u n) ≡ true
+        cases (inl y) = or_left _ _ (opens-same n ∙ opens-mid n ∙ y)
+        cases (inr y) = or_right _ _ (tell-keeps q c t n0 u n (ensured (λ w. is_in n w.wanted) s t c u ∙ y))
+
+    -- the run that the edge begins covers the call: the call is the discoverer, or stands behind it and is told
+    told : m ≡ c → covers q m u (new_run t) ≡ true → (opens after u n0 || wants after u n0) ≡ true
+    told j x = cases (true_or_false (u == t))
+      where
+        parts : Covers q c u (new_run t)
+        parts = covers-parts q c u (new_run t) (subst (λ (w : ℕ). covers q w u (new_run t) ≡ true) j x)
+
+        lists : entries q c ≡ entries p c
+        lists = same_cell graph p c (add_edge n0 t) (λ y. refl) c
+
+        frame : at is_frame (entries s c) u ≡ true
+        frame = subst (λ (w : ℕ). at is_frame (entries s w) u ≡ true) j (opens-frame graph s h u m o)
+
+        entry : has (entries q c) t ≡ true
+        entry = ap (λ (es : List Entry). has es t) lists ∙ ensured-has s t c u (at-has is_frame (entries s c) u frame)
+
+        up : has (up_to (entries q c) u) t ≡ true
+        up = let y = parts.from in let z : (not (has (entries q c) t) || has (up_to (entries q c) u) t) ≡ true = y in take (has (entries q c) t) (has (up_to (entries q c) u) t) z entry
+          where
+            take : (a b : Bool) → (not a || b) ≡ true → a ≡ true → b ≡ true
+            take a b x y = grind (arith, x, y)
+
+        cases : ((u == t) ≡ true) ⊎ ((u == t) ≡ false) → (opens after u n0 || wants after u n0) ≡ true
+        cases (inl y) = or_left _ _ (opens-same n0 ∙ opens-mid n0 ∙ subst (λ (v : ℕ). opens s v n0 ≡ true) (sym (same_number u t y)) (heads-opens graph s h t n0 head))
+        cases (inr y) =
+            let b = active-behind (entries q c) t u entry parts.has_it up y in
+            let f : at is_frame (entries q c) u ≡ true = subst (λ (w : ℕ). at is_frame (entries q w) u ≡ true) j k in
+            ap (λ (z : Bool). z || wants after u n0) (opens-same n0) ∙ tell-tells q c t n0 u (ensured-live s t c u ∙ opens-live s u m o) b f
+
+    go : (reacts graph s u m n ≡ true) ⊎ NewRun q t c n0 u m n → (opens after u n || wants after u n) ≡ true
+    go (inl x) = still (h.frames_spread u m n (opens-frame graph s h u m o) x)
+    go (inr x) = subst (λ (w : ℕ). (opens after u w || wants after u w) ≡ true) (sym x.0) (told x.1 x.2)
