@@ -35,3 +35,4 @@ pub mod WantsOfSteps
 pub mod Covering
 pub mod SpreadOfSteps
 pub mod DiscoverSpreads
+pub mod RunsEnd

@@ -26,14 +26,14 @@ pub record PicksFirst (m : ℕ) (es : List Entry) (o : Option Entry) (b : ℕ) :
   pub prior : picked_in m (option_or (last_done (before es b)) o) ≡ false
 
 -- A reading is in a run of the candidate where the last Done picks it.
-abbrev Seen : ℕ → Reading → Option Entry → Type 0
+abbrev pub Seen : ℕ → Reading → Option Entry → Type 0
 Seen m q o = is_some q.current ≡ picked_in m o
 
-or-or : {A : Type 0} (x y z : Option A) → option_or (option_or x y) z ≡ option_or x (option_or y z)
+pub or-or : {A : Type 0} (x y z : Option A) → option_or (option_or x y) z ≡ option_or x (option_or y z)
 or-or None y z = refl
 or-or (Some a) y z = refl
 
-or-none : {A : Type 0} (x : Option A) → option_or x None ≡ x
+pub or-none : {A : Type 0} (x : Option A) → option_or x None ≡ x
 or-none None = refl
 or-none (Some a) = refl
 
@@ -45,7 +45,7 @@ done_seen m v ps q = go (is_in m (nodes_in ps)) q.current
     go true (Some r) = refl
     go false r = refl
 
-state_seen : (m : ℕ) (e : Entry) (q : Reading) (o : Option Entry) → Seen m q o → Seen m (read_state m e.version e.state q) (option_or (only_done e) o)
+pub state_seen : (m : ℕ) (e : Entry) (q : Reading) (o : Option Entry) → Seen m q o → Seen m (read_state m e.version e.state q) (option_or (only_done e) o)
 state_seen m e q o h = go e.state refl
   where
     go : (x : State) → e.state ≡ x → is_some (read_state m e.version e.state q).current ≡ picked_in m (option_or (only_done e) o)
