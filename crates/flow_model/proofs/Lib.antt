@@ -36,3 +36,4 @@ pub mod Covering
 pub mod SpreadOfSteps
 pub mod DiscoverSpreads
 pub mod RunsEnd
+pub mod FinishSpreads

@@ -14,7 +14,7 @@ use Rattle.flow_model.proofs.Lists.{with_state-has, front-goes, front-has}
 use Rattle.flow_model.proofs.ListFacts.{placed-has}
 use Rattle.flow_model.proofs.FramedWith.{before-not_after}
 
-with_state-up_to : (t : ℕ) (x : State) (es : List Entry) (v u : ℕ) → has (up_to (with_state t x es) v) u ≡ has (up_to es v) u
+pub with_state-up_to : (t : ℕ) (x : State) (es : List Entry) (v u : ℕ) → has (up_to (with_state t x es) v) u ≡ has (up_to es v) u
 with_state-up_to t x [] v u = refl
 with_state-up_to t x (e ∷ es) v u = let r = with_state-up_to t x es v u in grind (arith, eqb_tells, r)
 
