@@ -123,7 +123,7 @@ closed-opens q t n b u m lt =
 -- ---- the steps
 
 -- what is said of the state after a step
-abbrev Opens : Core → Type 0
+abbrev pub Opens : Core → Type 0
 Opens q = (u m : ℕ) → opens q u m ≡ at is_frame (entries q m) u
 
 -- the same Frames and the same open nodes
@@ -147,7 +147,7 @@ ensured-opens s t n h = go (has (entries s n) t) refl
     go true e = h
     go false e = opens-kept s (enter s t n Mark) h (λ u m. refl) (λ u m. marked-frames s t n u m e)
 
-finished-opens : (graph : Graph) (s : Core) → IsLawful graph s → (t n : ℕ) (v : Value) (c : Bool) (ps : List (Option ℕ)) → at_front graph s t n ≡ true → Opens (finish s t n v c ps)
+pub finished-opens : (graph : Graph) (s : Core) → IsLawful graph s → (t n : ℕ) (v : Value) (c : Bool) (ps : List (Option ℕ)) → at_front graph s t n ≡ true → Opens (finish s t n v c ps)
 finished-opens graph s h t n v c ps f u m =
     let lt = executes-live s t (at_front-executes graph s t n f) in
     let fr = first_open-frame (entries s n) t (h.one_entry n) (head-first (entries s n) t (at_front-heads graph s t n f)) in

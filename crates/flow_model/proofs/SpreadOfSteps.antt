@@ -57,11 +57,11 @@ same_outs s n f k m = go (with_cell-cell s n f m)
     go (inr e) = ap (λ (c : Cell). c.outs) e.1 ∙ k (cell s m)
 
 -- a cell's work changes, and neither its list nor its out-edges
-worked-reacts : (graph : Graph) (s : Core) (n0 : ℕ) (f : Cell → Cell) → ((c : Cell) → (f c).entries ≡ c.entries) → ((c : Cell) → (f c).outs ≡ c.outs) → (u m n : ℕ) → reacts graph (with_cell s n0 f) u m n ≡ true → reacts graph s u m n ≡ true
+pub worked-reacts : (graph : Graph) (s : Core) (n0 : ℕ) (f : Cell → Cell) → ((c : Cell) → (f c).entries ≡ c.entries) → ((c : Cell) → (f c).outs ≡ c.outs) → (u m n : ℕ) → reacts graph (with_cell s n0 f) u m n ≡ true → reacts graph s u m n ≡ true
 worked-reacts graph s n0 f k j = same_lists-reacts graph s (with_cell s n0 f) (same_cell graph s n0 f k) (same_outs s n0 f j) (λ m z k l. l)
 
 -- one call changes, and lives on
-call-reacts : (graph : Graph) (s : Core) (t : ℕ) (f : LiveCall → LiveCall) → ((c : LiveCall) → (f c).version ≡ c.version) → (u m n : ℕ) → reacts graph (with_call s t f) u m n ≡ true → reacts graph s u m n ≡ true
+pub call-reacts : (graph : Graph) (s : Core) (t : ℕ) (f : LiveCall → LiveCall) → ((c : LiveCall) → (f c).version ≡ c.version) → (u m n : ℕ) → reacts graph (with_call s t f) u m n ≡ true → reacts graph s u m n ≡ true
 call-reacts graph s t f k = same_lists-reacts graph s (with_call s t f) (λ n. refl) (λ n. refl) (λ m z j l. subst (λ (x : ℕ → Bool). x z ≡ true) (with_call-live s t f k) l)
 
 -- ---- a Mark more

@@ -59,7 +59,7 @@ candidate-node graph m n h = go graph.nodes n h
     go (x ∷ xs) zero k = omega arith
     go (x ∷ xs) (suc n) k = let r = go xs n k in omega (arith, r)
 
-filtered-passes : (test : ℕ → Bool) (ns : List ℕ) (n : ℕ) → is_in n (filter test ns) ≡ true → test n ≡ true
+pub filtered-passes : (test : ℕ → Bool) (ns : List ℕ) (n : ℕ) → is_in n (filter test ns) ≡ true → test n ≡ true
 filtered-passes test [] n h = absurd (true≢false (sym h))
 filtered-passes test (x ∷ xs) n h = go (test x) refl h (filtered-passes test xs n)
   where
