@@ -108,7 +108,7 @@ same_lists-covers s q m u e l r h =
 
 -- ---- a Mark more in a list
 
-read_all-append : (m : ℕ) (xs ys : List Entry) (q : Reading) → read_all m (xs ++ ys) q ≡ read_all m ys (read_all m xs q)
+pub read_all-append : (m : ℕ) (xs ys : List Entry) (q : Reading) → read_all m (xs ++ ys) q ≡ read_all m ys (read_all m xs q)
 read_all-append m [] ys q = refl
 read_all-append m (x ∷ xs) ys q = read_all-append m xs ys (read_state m x.version x.state q)
 
@@ -119,7 +119,7 @@ marked-reading stops m e es q h =
     ∙ sym (read_all-append m (front (on_calls stops) es) (rest (on_calls stops) es) q)
     ∙ ap (λ (xs : List Entry). read_all m xs q) (front-rest stops es)
 
-more-first_open : (xs ys : List Entry) (e : Entry) → is_frame e.state ≡ false → first_open (xs ++ e ∷ ys) ≡ first_open (xs ++ ys)
+pub more-first_open : (xs ys : List Entry) (e : Entry) → is_frame e.state ≡ false → first_open (xs ++ e ∷ ys) ≡ first_open (xs ++ ys)
 more-first_open [] ys e h = rw (h, first_open) refl
 more-first_open (x ∷ xs) ys e h = let r = more-first_open xs ys e h in grind (arith, r)
 
@@ -131,7 +131,7 @@ marked-runs stops e es os n m h =
     ap (λ (q : Reading). q.closed ++ last_run q.current (dropper_in (placed (on_calls stops) e es) os n) ++ discovered (first_open (placed (on_calls stops) e es)) n os) (marked-reading stops m e es nothing_read h)
     ∙ ap (λ (o : Option ℕ). (read_all m es nothing_read).closed ++ last_run (read_all m es nothing_read).current (elim (has_node os n) as (λ _. Option ℕ) [ true ↦ None | false ↦ o ]) ++ discovered o n os) (marked-first_open stops e es (ap is_frame h))
 
-more-up_to : (xs ys : List Entry) (e : Entry) (u b : ℕ) → (e.version == u) ≡ false → (e.version == b) ≡ false → has (up_to (xs ++ e ∷ ys) u) b ≡ has (up_to (xs ++ ys) u) b
+pub more-up_to : (xs ys : List Entry) (e : Entry) (u b : ℕ) → (e.version == u) ≡ false → (e.version == b) ≡ false → has (up_to (xs ++ e ∷ ys) u) b ≡ has (up_to (xs ++ ys) u) b
 more-up_to [] ys e u b h k = grind (arith, h, k)
 more-up_to (x ∷ xs) ys e u b h k = let r = more-up_to xs ys e u b h k in grind (arith, r)
 

@@ -40,7 +40,7 @@ use Rattle.flow_model.proofs.WantsOfSteps.{filtered-passes}
 -- ---- the list after the Done
 
 -- Covers are read from what another state leaves as it was.
-stated-covers : (s : Core) (n0 t : ℕ) (x : State) (m u : ℕ) (r : Run) → covers (with_cell s n0 (set_state t x)) m u r ≡ true → covers s m u r ≡ true
+pub stated-covers : (s : Core) (n0 t : ℕ) (x : State) (m u : ℕ) (r : Run) → covers (with_cell s n0 (set_state t x)) m u r ≡ true → covers s m u r ≡ true
 stated-covers s n0 t x m u r k = go (with_cell-cell s n0 (set_state t x) m)
   where
     q : Core
@@ -232,7 +232,7 @@ front-no_open : (graph : Graph) (s : Core) (t n : ℕ) → at_front graph s t n 
 front-no_open graph s t n f = not_is _ (and_right _ _ f)
 
 -- A Done that doesn't pick a prior pick has dropped it, and so settled its call's entry there.
-left-settles : (graph : Graph) (s : Core) (z n m : ℕ) → is_prior s z n m ≡ true → at is_done (entries s n) z ≡ true → picks_it s z n m ≡ false → settles graph s z m n ≡ true
+pub left-settles : (graph : Graph) (s : Core) (z n m : ℕ) → is_prior s z n m ≡ true → at is_done (entries s n) z ≡ true → picks_it s z n m ≡ false → settles graph s z m n ≡ true
 left-settles graph s z n m p d k = or_left _ _ (or_right _ _ (and_make _ _ p (or_left _ _ (and_make _ _ d (turned _ k)))))
   where
     turned : (a : Bool) → a ≡ false → not a ≡ true

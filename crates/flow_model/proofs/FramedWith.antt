@@ -119,7 +119,7 @@ out-node [] n since h = h
 out-node (edge ∷ os) n since h = let r = out-node os n since in grind (arith, h, r)
 
 -- An entry that isn't at or before the call's is behind it.
-not_up_to-behind : (es : List Entry) (t u : ℕ) → has es t ≡ true → is_active es u t ≡ false → behind es t u ≡ true
+pub not_up_to-behind : (es : List Entry) (t u : ℕ) → has es t ≡ true → is_active es u t ≡ false → behind es t u ≡ true
 not_up_to-behind [] t u h k = absurd (true≢false (sym h))
 not_up_to-behind (e ∷ es) t u h k = let r = not_up_to-behind es t u in grind (arith, eqb_tells, h, k, r)
 

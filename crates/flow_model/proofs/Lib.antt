@@ -37,3 +37,4 @@ pub mod SpreadOfSteps
 pub mod DiscoverSpreads
 pub mod RunsEnd
 pub mod FinishSpreads
+pub mod FrameSpreads

@@ -7,6 +7,7 @@ use Rattle.std.proofs.lemmas.List.Folds.{list_any-append}
 use Rattle.script_tree.specs.declared.value.Value.{Value}
 use Rattle.signal_graph.specs.declared.call.Call.{Call}
 use Rattle.signal_graph.specs.Graph.{Graph, is_in, static_outs}
+use Rattle.node_versions.specs.declared.entry.State.{State}
 use Rattle.node_versions.specs.declared.entry.State.TheVariants.{Mark, Frame, Done}
 use Rattle.node_versions.specs.declared.entry.Entry.{Entry}
 use Rattle.node_versions.specs.Entries.{OutEdge, has, at, is_frame, behind, first_open, is_active, is_edge, has_out, has_node, placed, value_at}
@@ -66,20 +67,20 @@ call-reacts graph s t f k = same_lists-reacts graph s (with_call s t f) (λ n. r
 
 -- ---- a Mark more
 
--- A call without an entry gets a Mark: no run of another call's covers more.
-pub marked-covers : (graph : Graph) (s : Core) → IsLawful graph s → (t c u m n : ℕ) → has (entries s c) t ≡ false → (t == u) ≡ false → (i : ℕ) (r : Run) → slice_get (runs s n m) i ≡ Some r → covers (enter s t c Mark) m u r ≡ true → covers s m u r ≡ true
-marked-covers graph s h t c u m n fresh ne i r e k = go (with_cell-cell s c (place_entry s t Mark) m)
+-- A call without an entry gets one: no run of another call's covers more.
+pub entered-covers : (graph : Graph) (s : Core) → IsLawful graph s → (state : State) (t c u m n : ℕ) → has (entries s c) t ≡ false → (t == u) ≡ false → (i : ℕ) (r : Run) → slice_get (runs s n m) i ≡ Some r → covers (enter s t c state) m u r ≡ true → covers s m u r ≡ true
+entered-covers graph s h state t c u m n fresh ne i r e k = go (with_cell-cell s c (place_entry s t state) m)
   where
     q : Core
-    q = enter s t c Mark
+    q = enter s t c state
 
     k2 : Covers q m u r
     k2 = covers-parts q m u r k
 
-    moved : m ≡ c → entries q m ≡ placed (stops s t) (new_entry s t Mark) (entries s m) → covers s m u r ≡ true
+    moved : m ≡ c → entries q m ≡ placed (stops s t) (new_entry s t state) (entries s m) → covers s m u r ≡ true
     moved j g = parts-covers s m u r (record {
       has_it = let b = k2.has_it in subst (λ (x : Bool). x ≡ true) (has-same) b;
-      from = from-back s q m u r.begins (λ b _ a. placed-active (stops_call s t) (new_entry s t Mark) (entries s m) u b none ne (subst (λ (es : List Entry). is_active es b u ≡ true) g a)) k2.from;
+      from = from-back s q m u r.begins (λ b _ a. placed-active (stops_call s t) (new_entry s t state) (entries s m) u b none ne (subst (λ (es : List Entry). is_active es b u ≡ true) g a)) k2.from;
       until = until-back s q m u r.ends (λ z x l b. (l, still z x l (subst (λ (es : List Entry). behind es u z ≡ true) g b))) k2.until;
     })
       where
@@ -87,18 +88,21 @@ marked-covers graph s h t c u m n fresh ne i r e k = go (with_cell-cell s c (pla
         none = subst (λ (x : ℕ). has (entries s x) t ≡ false) (sym j) fresh
 
         has-same : has (entries q m) u ≡ has (entries s m) u
-        has-same = ap (λ (es : List Entry). has es u) g ∙ placed-has (stops_call s t) (new_entry s t Mark) (entries s m) u ∙ ap (λ (x : Bool). x || has (entries s m) u) ne
+        has-same = ap (λ (es : List Entry). has es u) g ∙ placed-has (stops_call s t) (new_entry s t state) (entries s m) u ∙ ap (λ (x : Bool). x || has (entries s m) u) ne
 
-        still : (z : ℕ) → r.ends ≡ Some z → live s z ≡ true → behind (placed (stops s t) (new_entry s t Mark) (entries s m)) u z ≡ true → behind (entries s m) u z ≡ true
+        still : (z : ℕ) → r.ends ≡ Some z → live s z ≡ true → behind (placed (stops s t) (new_entry s t state) (entries s m)) u z ≡ true → behind (entries s m) u z ≡ true
         still z x l b = cases (true_or_false (t == z))
           where
             cases : ((t == z) ≡ true) ⊎ ((t == z) ≡ false) → behind (entries s m) u z ≡ true
             cases (inl w) = absurd (is_not_true _ none (subst (λ (v : ℕ). has (entries s m) v ≡ true) (sym (same_number t z w)) (h.edges_are_kept.ends_entered n m i r z e x l)))
-            cases (inr w) = sym (placed-behind (stops_call s t) (new_entry s t Mark) (entries s m) u z ne w) ∙ b
+            cases (inr w) = sym (placed-behind (stops_call s t) (new_entry s t state) (entries s m) u z ne w) ∙ b
 
-    go : (cell q m ≡ cell s m) ⊎ ((m ≡ c) × (cell q m ≡ place_entry s t Mark (cell s m))) → covers s m u r ≡ true
+    go : (cell q m ≡ cell s m) ⊎ ((m ≡ c) × (cell q m ≡ place_entry s t state (cell s m))) → covers s m u r ≡ true
     go (inl j) = same_lists-covers s q m u (ap (λ (x : Cell). x.entries) j) (λ z j l. l) r k
     go (inr j) = moved j.0 (ap (λ (x : Cell). x.entries) j.1)
+
+pub marked-covers : (graph : Graph) (s : Core) → IsLawful graph s → (t c u m n : ℕ) → has (entries s c) t ≡ false → (t == u) ≡ false → (i : ℕ) (r : Run) → slice_get (runs s n m) i ≡ Some r → covers (enter s t c Mark) m u r ≡ true → covers s m u r ≡ true
+marked-covers graph s h t c u m n fresh ne i r e k = entered-covers graph s h Mark t c u m n fresh ne i r e k
 
 entered-runs : (s : Core) (t c n m : ℕ) → runs (enter s t c Mark) n m ≡ runs s n m
 entered-runs s t c n m = go (with_cell-cell s c (place_entry s t Mark) n)

@@ -99,7 +99,7 @@ list-no_done graph s h n u closed none es (collects e) = subst (λ (xs : List En
 -- ---- framing a node
 
 -- What a call comes to want as a node is open for it: what is framed with it and not open, and what it wanted but for the node.
-opened-wants : (q : Core) (t m : ℕ) (xs : List ℕ) (u n : ℕ) → live q t ≡ true → wants (with_call q t (opened m xs)) u n ≡ elim (u == t) as (λ _. Bool) [
+pub opened-wants : (q : Core) (t m : ℕ) (xs : List ℕ) (u n : ℕ) → live q t ≡ true → wants (with_call q t (opened m xs)) u n ≡ elim (u == t) as (λ _. Bool) [
     | true ↦ (is_in n xs && not ((n == m) || opens q t n)) || (wants q t n && not (n == m))
     | false ↦ wants q u n
   ]
