@@ -147,7 +147,7 @@ framed-any graph s h q t m0 w fr m test k = any-parts test es os m0 m ∙ parts 
         two (inl x) = by_closed x
         two (inr x) = by_last (same_dropper r0.current refl x)
 
-framed-back : (graph : Graph) (s : Core) → IsLawful graph s → (q : Core) (t m0 : ℕ) → wants s t m0 ≡ true → IsFramed graph s q t m0 → (u m n : ℕ) → ((t == u) ≡ false) ⊎ ((m == m0) ≡ false) → reacts graph q u m n ≡ true → reacts graph s u m n ≡ true
+pub framed-back : (graph : Graph) (s : Core) → IsLawful graph s → (q : Core) (t m0 : ℕ) → wants s t m0 ≡ true → IsFramed graph s q t m0 → (u m n : ℕ) → ((t == u) ≡ false) ⊎ ((m == m0) ≡ false) → reacts graph q u m n ≡ true → reacts graph s u m n ≡ true
 framed-back graph s h q t m0 w fr u m n ne k = reacts-back graph s q u m n (λ a. any-map (covers q m u) (covers s m u) (runs s n m) (fr.back u m n ne) (before (true_or_false (n == m0)) a)) k
   where
     before : ((n == m0) ≡ true) ⊎ ((n == m0) ≡ false) → list_any (covers q m u) (runs q n m) ≡ true → list_any (covers q m u) (runs s n m) ≡ true
@@ -191,7 +191,7 @@ dropped-settles graph s z n m p d k = or_left _ _ (or_right _ _ (and_make _ _ p 
     turned a e = grind (arith, e)
 
 -- A node with a run that covers the new Frame's call has an out-edge that is active for it.
-framed-active : (graph : Graph) (s : Core) → IsLawful graph s → (q : Core) (t m0 : ℕ) → live s t ≡ true → IsFramed graph s q t m0 → (n : ℕ) → (n == m0) ≡ false → list_any (covers q m0 t) (runs s n m0) ≡ true → is_in n (active_nodes (entries q m0) (outs s m0) t) ≡ true
+pub framed-active : (graph : Graph) (s : Core) → IsLawful graph s → (q : Core) (t m0 : ℕ) → live s t ≡ true → IsFramed graph s q t m0 → (n : ℕ) → (n == m0) ≡ false → list_any (covers q m0 t) (runs s n m0) ≡ true → is_in n (active_nodes (entries q m0) (outs s m0) t) ≡ true
 framed-active graph s h q t m0 lt fr n ne k = parts (or_cases _ _ (sym (any-parts test (entries s n) (outs s m0) n m0) ∙ k))
   where
     test : Run → Bool

@@ -38,3 +38,4 @@ pub mod DiscoverSpreads
 pub mod RunsEnd
 pub mod FinishSpreads
 pub mod FrameSpreads
+pub mod FramePlaces
