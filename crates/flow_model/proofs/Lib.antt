@@ -39,3 +39,4 @@ pub mod RunsEnd
 pub mod FinishSpreads
 pub mod FrameSpreads
 pub mod FramePlaces
+pub mod CollectSpreads

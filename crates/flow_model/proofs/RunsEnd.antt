@@ -44,7 +44,7 @@ ends-more test m e es o u p = record {
     other : (e.version == p.call) ≡ false
     other = not_true _ (λ x. is_not_true _ u (subst (λ (w : ℕ). has es w ≡ true) (sym (same_number e.version p.call x)) (at-has is_done es p.call p.done)))
 
-any-last : (test : Run → Bool) (rs : List Run) (r : Run) → list_any test (rs ++ r ∷ []) ≡ true → (list_any test rs ≡ true) ⊎ (test r ≡ true)
+pub any-last : (test : Run → Bool) (rs : List Run) (r : Run) → list_any test (rs ++ r ∷ []) ≡ true → (list_any test rs ≡ true) ⊎ (test r ≡ true)
 any-last test rs r h = go (or_cases _ _ (sym (list_any-append test rs (r ∷ [])) ∙ h))
   where
     only : (a : Bool) → (a || false) ≡ true → a ≡ true
@@ -131,7 +131,7 @@ not_both (e ∷ es) t h = let r = not_both es t in let s = one e.state in grind 
     one Frame h = refl
     one (Done v c ps) h = absurd (true≢false (sym h))
 
-no_done-read : (m : ℕ) (e : Entry) (q : Reading) → is_done e.state ≡ false → read_state m e.version e.state q ≡ q
+pub no_done-read : (m : ℕ) (e : Entry) (q : Reading) → is_done e.state ≡ false → read_state m e.version e.state q ≡ q
 no_done-read m e q h = go e.state h
   where
     go : (x : State) → is_done x ≡ false → read_state m e.version x q ≡ q
@@ -139,7 +139,7 @@ no_done-read m e q h = go e.state h
     go Frame h = refl
     go (Done v c ps) h = absurd (true≢false h)
 
-no_dones-read : (m : ℕ) (es : List Entry) (q : Reading) → IsUnique es → ((v : ℕ) → has es v ≡ true → at is_done es v ≡ false) → read_all m es q ≡ q
+pub no_dones-read : (m : ℕ) (es : List Entry) (q : Reading) → IsUnique es → ((v : ℕ) → has es v ≡ true → at is_done es v ≡ false) → read_all m es q ≡ q
 no_dones-read m [] q u h = refl
 no_dones-read m (e ∷ es) q u h = ap (read_all m es) (no_done-read m e q (let k = h e.version (let w = equal_test e.version e.version refl in rw (w, has) refl) in let w = equal_test e.version e.version refl in rw (w, at) at k))
     ∙ no_dones-read m es q u.1 (λ v k. let ne : (e.version == v) ≡ false = not_true _ (λ x. is_not_true _ u.0 (subst (λ (w : ℕ). has es w ≡ true) (sym (same_number e.version v x)) k)) in let n = h v (rw (ne, has) k) in rw (ne, at) at n)
