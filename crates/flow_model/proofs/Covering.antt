@@ -1,19 +1,17 @@
 -- Which nodes react to a call's change of a node, after lists and out-edges change.
-use Rattle.std.proofs.Common.{◌≡◌, ℕ, zero, suc, Bool, true, false, ◌&&◌, ◌||◌, not, ◌==◌, ◌⊎◌, ◌≢◌, inl, inr, refl, sym, ap, arith, List, [], ◌∷◌, ◌++◌, true≢false, ◌∙◌, subst, Option, Some, None}
+use Rattle.std.proofs.Common.{◌≡◌, ℕ, suc, Bool, true, false, ◌&&◌, ◌||◌, not, ◌==◌, ◌⊎◌, inl, inr, refl, sym, ap, arith, List, [], ◌∷◌, ◌++◌, ◌∙◌, subst, Option, Some, None}
 use Rattle.std.specs.Prelude.{slice_get}
 use Rattle.std.specs.List.{list_any}
-use Rattle.std.proofs.lemmas.Bool.Decides.{eqb_tells}
 use Rattle.std.proofs.lemmas.List.Folds.{list_any-append}
 use Rattle.signal_graph.specs.Graph.{Graph, is_in, static_outs}
 use Rattle.node_versions.specs.declared.entry.State.{State}
-use Rattle.node_versions.specs.declared.entry.State.TheVariants.{Mark, Frame, Done}
+use Rattle.node_versions.specs.declared.entry.State.TheVariants.{Mark}
 use Rattle.node_versions.specs.declared.entry.Entry.{Entry}
-use Rattle.node_versions.specs.Entries.{OutEdge, has, at, is_frame, is_done, behind, up_to, first_open, is_active, has_out, has_node, front, rest, placed}
-use Rattle.flow_model.specs.State.{Core, live, entries, outs, opens, wants}
-use Rattle.flow_model.specs.Changes.{stops, stops_call, new_entry}
+use Rattle.node_versions.specs.Entries.{OutEdge, has, is_frame, behind, up_to, first_open, is_active, has_out, has_node, front, rest, placed}
+use Rattle.flow_model.specs.State.{Core, live, entries, outs}
+use Rattle.flow_model.specs.Changes.{stops}
 use Rattle.flow_model.specs.Runs.{Run, Reading, read_state, read_all, nothing_read, last_run, discovered, runs, is_from, is_until, covers, reacts}
-use Rattle.flow_model.specs.Lawful.{IsLawful}
-use Rattle.flow_model.proofs.Truths.{or_cases, or_left, or_right, and_both, and_make, same_number, equal_test, not_true, is_not_true, true_or_false}
+use Rattle.flow_model.proofs.Truths.{or_cases, or_left, or_right, and_both, and_make, same_number, equal_test, is_not_true, true_or_false}
 use Rattle.flow_model.proofs.Lists.{on_calls, front-rest}
 use Rattle.flow_model.proofs.States.{more-has, more-behind, behind-has}
 

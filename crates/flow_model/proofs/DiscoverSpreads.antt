@@ -1,22 +1,19 @@
 -- Where a call has a Frame, all that reacts is open for it or wanted by it, after Discover.
-use Rattle.std.proofs.Common.{◌≡◌, ℕ, Bool, true, false, ◌&&◌, ◌||◌, not, ◌==◌, ◌⊎◌, inl, inr, refl, sym, ap, arith, List, [], ◌∷◌, ◌++◌, true≢false, ◌∙◌, subst, Option, Some, None}
+use Rattle.std.proofs.Common.{◌≡◌, ℕ, Bool, true, false, ◌&&◌, ◌||◌, not, ◌==◌, ◌⊎◌, inl, inr, refl, sym, ap, arith, List, [], ◌∷◌, true≢false, ◌∙◌, subst, Option, Some, None}
 use Rattle.std.specs.Prelude.{slice_get, is_some}
 use Rattle.std.specs.List.{list_any}
 use Rattle.std.proofs.lemmas.Bool.Decides.{eqb_tells}
 use Rattle.signal_graph.specs.Graph.{Graph, is_in, static_outs}
-use Rattle.signal_graph.specs.Values.{nodes_in}
-use Rattle.node_versions.specs.declared.entry.State.{State}
-use Rattle.node_versions.specs.declared.entry.State.TheVariants.{Mark, Frame, Done}
+use Rattle.node_versions.specs.declared.entry.State.TheVariants.{Mark}
 use Rattle.node_versions.specs.declared.entry.Entry.{Entry}
-use Rattle.node_versions.specs.Entries.{OutEdge, has, at, is_frame, behind, up_to, first_open, is_active, has_out, has_node, with_out, changed_of, last_done, state_of, picks_of, picks_before}
+use Rattle.node_versions.specs.Entries.{OutEdge, has, at, is_frame, behind, up_to, first_open, has_out, has_node, with_out}
 use Rattle.flow_model.specs.declared.step.Step.TheVariants as steps
-use Rattle.flow_model.specs.Sets.{put}
 use Rattle.flow_model.specs.State.{Core, LiveCall, Cell, call_of, call_or, some_call, cell, live, entries, outs, opens, wants, with_cell}
-use Rattle.flow_model.specs.Words.{heads, at_front, is_prior}
+use Rattle.flow_model.specs.Words.{heads, is_prior}
 use Rattle.flow_model.specs.Changes.{place_entry, enter, ensure_mark, add_edge, hands_on, is_told, tell_call, tell}
 use Rattle.flow_model.specs.Steps.{allowed, apply}
 use Rattle.flow_model.specs.Runs.{Run, Reading, read_all, nothing_read, last_run, discovered, runs, covers, reacts}
-use Rattle.flow_model.specs.Lawful.{IsLawful, IsRunEdge, IsNewEdge, FramesSpread, picks_last, last_run_of}
+use Rattle.flow_model.specs.Lawful.{IsLawful, FramesSpread, picks_last, last_run_of}
 use Rattle.flow_model.proofs.Truths.{or_cases, or_left, or_right, same_number, equal_test, not_true, is_not_true, true_or_false}
 use Rattle.flow_model.proofs.Allowed.{and_left, and_right, not_is, opens-live, at_front-heads, turn-at_front, due-turn, discover-due}
 use Rattle.flow_model.proofs.States.{at-has}
@@ -32,8 +29,8 @@ use Rattle.flow_model.proofs.Readings.{picked_in, seen-all, before-last}
 use Rattle.flow_model.proofs.Places.{active-behind}
 use Rattle.flow_model.proofs.WantsOfSteps.{call_of-version, told-wants, ensured-live}
 use Rattle.flow_model.proofs.Covering.{dropper_in, runs_in, any-parts, same-edges, any-map, Covers, covers-parts, same_lists-covers, marked-runs}
-use Rattle.flow_model.proofs.SpreadOfSteps.{same_lists-reacts, same_outs, marked-covers, ensured-edges}
-use Rattle.flow_model.specs.Changes.{stops, stops_call, new_entry}
+use Rattle.flow_model.proofs.SpreadOfSteps.{same_lists-reacts, marked-covers, ensured-edges}
+use Rattle.flow_model.specs.Changes.{stops_call, new_entry}
 
 -- ---- the first open call's prior picks
 

@@ -1,40 +1,39 @@
 -- Where a call has a Frame, all that reacts is open for it or wanted by it, after Skip and Resolve.
-use Rattle.std.proofs.Common.{◌≡◌, ℕ, Bool, true, false, ◌&&◌, ◌||◌, not, ◌==◌, ◌⊎◌, inl, inr, refl, sym, ap, arith, List, [], ◌∷◌, ◌++◌, true≢false, ◌∙◌, subst, Option, Some, None}
-use Rattle.std.specs.Prelude.{slice_get, is_some}
+use Rattle.std.proofs.Common.{◌≡◌, ℕ, Bool, true, false, ◌&&◌, ◌||◌, not, ◌==◌, ◌⊎◌, inl, inr, refl, sym, ap, arith, List, [], ◌∷◌, true≢false, ◌∙◌, subst, Option, Some, None}
+use Rattle.std.specs.Prelude.{is_some}
 use Rattle.std.specs.List.{list_any, list_all}
-use Rattle.std.proofs.lemmas.Bool.Decides.{eqb_tells}
 use Rattle.std.proofs.lemmas.List.Folds.{list_any-append}
 use Rattle.script_tree.specs.declared.value.Value.{Value}
-use Rattle.signal_graph.specs.Graph.{Graph, is_in, is_source, node_at, inputs_of, selectors_of, static_outs, numbers}
+use Rattle.signal_graph.specs.Graph.{Graph, is_in, is_source, node_at, inputs_of, static_outs, numbers}
 use Rattle.signal_graph.specs.Values.{nodes_in}
 use Rattle.node_versions.specs.declared.entry.State.{State}
-use Rattle.node_versions.specs.declared.entry.State.TheVariants.{Mark, Frame, Done}
+use Rattle.node_versions.specs.declared.entry.State.TheVariants.{Done}
 use Rattle.node_versions.specs.declared.entry.Entry.{Entry}
-use Rattle.node_versions.specs.Entries.{OutEdge, IsUnique, has, at, is_frame, is_done, behind, up_to, first_open, is_active, has_out, has_node, with_state, picks_at, picks_before, value_before}
+use Rattle.node_versions.specs.Entries.{OutEdge, has, at, is_frame, is_done, behind, first_open, is_active, has_out, has_node, with_state, picks_before, value_before}
 use Rattle.flow_model.specs.declared.step.Step.TheVariants as steps
-use Rattle.flow_model.specs.State.{Core, LiveCall, Cell, call, cell, live, executes, entries, outs, opens, wants, with_call, with_cell, changes, Found}
-use Rattle.flow_model.specs.Words.{deps, heads, at_front, turn, touched, prior_picks, is_prior, is_candidate, is_found, is_gathered, found_picks, found_candidates, value_now, picks_of_found}
-use Rattle.flow_model.specs.Changes.{set_state, closed, finish, cleared, clear}
+use Rattle.flow_model.specs.State.{Core, Cell, cell, live, entries, outs, opens, wants, with_cell, changes, Found}
+use Rattle.flow_model.specs.Words.{deps, heads, at_front, touched, prior_picks, is_prior, is_candidate, is_found, is_gathered, found_picks, found_candidates, value_now, picks_of_found}
+use Rattle.flow_model.specs.Changes.{set_state, closed, finish, cleared}
 use Rattle.flow_model.specs.Steps.{allowed, apply, is_change, is_worked_out, all_gathered, is_discovered}
-use Rattle.flow_model.specs.Runs.{Run, Reading, go_on, close, read_done, read_all, nothing_read, last_run, discovered, runs, covers, reacts, settles, dropped, picks_it, by_node, is_until}
-use Rattle.flow_model.specs.Lawful.{IsLawful, IsRunEdge, IsNewEdge, IsKeyOf, FramesSpread, FramesAreOpen, picks_last, last_run_of, IsWorking}
+use Rattle.flow_model.specs.Runs.{Run, Reading, go_on, close, read_done, read_all, nothing_read, last_run, discovered, runs, covers, reacts, settles, picks_it, by_node, is_until}
+use Rattle.flow_model.specs.Lawful.{IsLawful, IsRunEdge, IsNewEdge, IsKeyOf, FramesSpread, picks_last, last_run_of}
 use Rattle.flow_model.proofs.Truths.{or_cases, or_left, or_right, and_both, and_make, same_number, equal_test, not_true, not_false, is_not_true, true_or_false}
 use Rattle.flow_model.proofs.Allowed.{and_left, and_right, not_is, opens-live, executes-live, at_front-executes, at_front-heads, turn-at_front, skip-turn, resolve-turn}
 use Rattle.flow_model.proofs.Lists.{with_state-has}
 use Rattle.flow_model.proofs.States.{at-has, with_state-at, with_state-behind, first_open-frame}
 use Rattle.flow_model.proofs.ListFacts.{with_state-unique}
-use Rattle.flow_model.proofs.Readers.{with_call-keeps, with_call-live}
+use Rattle.flow_model.proofs.Readers.{with_call-keeps}
 use Rattle.flow_model.proofs.Enter.{with_cell-cell}
 use Rattle.flow_model.proofs.ListSteps.{same_cell}
-use Rattle.flow_model.proofs.OpenNodes.{entry-there, closed-opens, step-FramesAreOpen, finished-opens}
+use Rattle.flow_model.proofs.OpenNodes.{entry-there, closed-opens, finished-opens}
 use Rattle.flow_model.proofs.FramesLast.{head-first}
 use Rattle.flow_model.proofs.FramedWith.{opens-frame, heads-opens}
-use Rattle.flow_model.proofs.Readings.{seen-all, BeginsRun, run-begins}
+use Rattle.flow_model.proofs.Readings.{seen-all, run-begins}
 use Rattle.flow_model.proofs.RunsEnd.{IsLeft, closed-left, not_both, finished-reading, done-not_fresh}
 use Rattle.flow_model.proofs.Places.{with_state-up_to}
 use Rattle.flow_model.proofs.Covering.{dropper_in, runs_in, any-parts, any-map, Covers, covers-parts, parts-covers, from-back, until-back, same_lists-covers, reacts-back}
-use Rattle.flow_model.proofs.SpreadOfSteps.{same_outs, same_lists-reacts, call-reacts, worked-reacts}
-use Rattle.flow_model.proofs.DiscoverSpreads.{head-prior, not_picked-none}
+use Rattle.flow_model.proofs.SpreadOfSteps.{same_outs, call-reacts, worked-reacts}
+use Rattle.flow_model.proofs.DiscoverSpreads.{head-prior}
 use Rattle.flow_model.proofs.WantsOfSteps.{filtered-passes}
 
 -- ---- the list after the Done

@@ -1,29 +1,27 @@
 -- Frame: what is known of a call's Frame, where it is new, and where its Mark was raised.
-use Rattle.std.proofs.Common.{◌≡◌, ℕ, ◌<◌, Bool, true, false, ◌&&◌, ◌||◌, not, ◌==◌, ◌⊎◌, ◌≢◌, inl, inr, refl, sym, ap, arith, List, [], ◌∷◌, ◌++◌, length, true≢false, ◌∙◌, subst, Option, Some, None}
+use Rattle.std.proofs.Common.{◌≡◌, ℕ, ◌<◌, Bool, true, false, ◌&&◌, ◌||◌, not, ◌==◌, ◌⊎◌, inl, inr, refl, sym, ap, arith, List, [], ◌∷◌, ◌++◌, length, true≢false, ◌∙◌, subst, Some}
 use Rattle.std.specs.Prelude.{slice_get}
 use Rattle.std.specs.List.{list_any}
-use Rattle.std.proofs.lemmas.Bool.Decides.{eqb_tells}
 use Rattle.std.proofs.lemmas.List.Folds.{list_any-append}
 use Rattle.signal_graph.specs.Graph.{Graph, is_in, static_outs}
-use Rattle.order_graph.specs.Order.{reaches}
 use Rattle.node_versions.specs.declared.entry.State.{State}
 use Rattle.node_versions.specs.declared.entry.State.TheVariants.{Mark, Frame, Done}
 use Rattle.node_versions.specs.declared.entry.Entry.{Entry}
-use Rattle.node_versions.specs.Entries.{OutEdge, IsUnique, has, at, is_mark, is_frame, is_done, behind, first_open, active_nodes, with_state, front, rest, placed}
+use Rattle.node_versions.specs.Entries.{OutEdge, IsUnique, has, at, is_mark, is_frame, behind, first_open, active_nodes, with_state, front, rest, placed}
 use Rattle.flow_model.specs.declared.step.Step.TheVariants as steps
-use Rattle.flow_model.specs.State.{Core, LiveCall, Cell, call, cell, live, executes, frames, entries, outs, opens, wants, precedes, with_call, with_cell}
+use Rattle.flow_model.specs.State.{Core, Cell, live, executes, frames, entries, outs, opens, wants, precedes}
 use Rattle.flow_model.specs.Words.{heads, active_outs}
 use Rattle.flow_model.specs.Changes.{stops, stops_call, new_entry, place_entry, set_state, enter, raise, opened}
-use Rattle.flow_model.specs.Steps.{allowed, apply, open_node, frame}
-use Rattle.flow_model.specs.Runs.{Run, Reading, read_state, read_all, nothing_read, runs, covers, reacts, IsSettled}
+use Rattle.flow_model.specs.Steps.{allowed, apply, open_node}
+use Rattle.flow_model.specs.Runs.{Run, Reading, read_state, read_all, nothing_read, runs, covers, reacts}
 use Rattle.flow_model.specs.Lawful.{IsLawful, FramesSpread, FramesAreOpen, ended_before}
-use Rattle.flow_model.proofs.Truths.{or_cases, or_left, or_right, and_both, and_make, same_number, equal_test, other_number, not_true, not_false, is_not_true, true_or_false}
-use Rattle.flow_model.proofs.Allowed.{and_left, and_right, frame-wants, wants-live, opens-live, executes-live, frames-live}
-use Rattle.flow_model.proofs.Lists.{on_calls, has-append, front-rest, front-has, rest-has, with_state-has}
+use Rattle.flow_model.proofs.Truths.{or_cases, or_left, or_right, same_number, equal_test, other_number, not_true, not_false, is_not_true, true_or_false}
+use Rattle.flow_model.proofs.Allowed.{frame-wants, wants-live, opens-live, frames-live}
+use Rattle.flow_model.proofs.Lists.{has-append, front-rest, front-has, rest-has, with_state-has}
 use Rattle.flow_model.proofs.OrderOfSteps.{lawful-Standing, wanted-fresh}
 use Rattle.flow_model.proofs.States.{at-has, behind-has, behind-total, behind-trans, with_state-at, with_state-behind, first_open-frame, first_open-none, more-behind_it}
 use Rattle.flow_model.proofs.ListFacts.{placed-unique, placed-has, placed-at_other, with_state-unique}
-use Rattle.flow_model.proofs.OpenNodes.{cell-there, cell-other, comes_at, opened-opens, step-FramesAreOpen}
+use Rattle.flow_model.proofs.OpenNodes.{cell-there, cell-other, opened-opens, step-FramesAreOpen}
 use Rattle.flow_model.proofs.FramesLast.{NotBefore, head-first, framing-part, executing-part}
 use Rattle.flow_model.proofs.FramedWith.{opens-frame, heads-opens, before-not_after}
 use Rattle.flow_model.proofs.Covering.{same-runs, read_all-append, same_lists-covers}

@@ -1,41 +1,24 @@
 -- Where a call has a Frame, all that reacts is open for it or wanted by it, after Frame.
-use Rattle.std.proofs.Common.{◌≡◌, ℕ, ◌<◌, Bool, true, false, ◌&&◌, ◌||◌, not, ◌==◌, ◌⊎◌, ◌≢◌, inl, inr, refl, sym, ap, arith, List, [], ◌∷◌, ◌++◌, length, true≢false, ◌∙◌, subst, Option, Some, None}
+use Rattle.std.proofs.Common.{◌≡◌, ℕ, Bool, true, false, ◌&&◌, ◌||◌, not, ◌==◌, ◌⊎◌, inl, inr, refl, sym, ap, arith, List, [], ◌∷◌, true≢false, ◌∙◌, subst, Option, Some, None}
 use Rattle.std.specs.Prelude.{slice_get, is_some}
 use Rattle.std.specs.List.{list_any}
-use Rattle.std.proofs.lemmas.Bool.Decides.{eqb_tells}
-use Rattle.std.proofs.lemmas.List.Folds.{list_any-append}
-use Rattle.signal_graph.specs.Graph.{Graph, is_in, static_outs}
-use Rattle.order_graph.specs.Order.{reaches}
-use Rattle.node_versions.specs.declared.entry.State.{State}
-use Rattle.node_versions.specs.declared.entry.State.TheVariants.{Mark, Frame, Done}
+use Rattle.signal_graph.specs.Graph.{Graph, is_in}
 use Rattle.node_versions.specs.declared.entry.Entry.{Entry}
-use Rattle.node_versions.specs.Entries.{OutEdge, IsUnique, has, at, is_mark, is_frame, is_done, behind, up_to, first_open, is_active, is_edge, has_out, has_node, active_nodes, with_state, front, rest, placed}
-use Rattle.flow_model.specs.declared.step.Step.TheVariants as steps
-use Rattle.flow_model.specs.State.{Core, LiveCall, Cell, call, cell, live, executes, frames, entries, outs, opens, wants, precedes, with_call, with_cell}
-use Rattle.flow_model.specs.Words.{heads, active_outs, is_prior, is_found}
-use Rattle.flow_model.specs.Changes.{stops, stops_call, new_entry, place_entry, set_state, enter, raise, opened}
-use Rattle.flow_model.specs.Steps.{allowed, apply, open_node, frame}
-use Rattle.flow_model.specs.Runs.{Run, Reading, read_state, read_all, nothing_read, last_run, dropper, discovered, runs, is_from, is_until, covers, reacts, settles, dropped, picks_it, IsSettled, by_node}
-use Rattle.flow_model.specs.Lawful.{IsLawful, IsRunEdge, IsNewEdge, IsKeyOf, FramesSpread, FramesAreOpen, picks_last, last_run_of, SomeHead, ended_before}
-use Rattle.flow_model.proofs.Truths.{or_cases, or_left, or_right, and_both, and_make, same_number, equal_test, other_number, not_true, not_false, is_not_true, true_or_false}
-use Rattle.flow_model.proofs.Allowed.{and_left, and_right, frame-wants, wants-live, opens-live, executes-live}
-use Rattle.flow_model.proofs.Lists.{on_calls, has-append, front-rest}
-use Rattle.flow_model.proofs.OrderLemmas.{reaches-trans}
-use Rattle.flow_model.proofs.OrderOfSteps.{lawful-Standing, wanted-fresh, recorded-live}
-use Rattle.flow_model.proofs.States.{at-has, behind-has, behind-total, with_state-at, with_state-behind, first_open-frame, first_open-none, more-behind_it}
-use Rattle.flow_model.proofs.ListFacts.{placed-unique, placed-at_other, with_state-unique}
-use Rattle.flow_model.proofs.Readers.{with_call-keeps, with_call-live}
-use Rattle.flow_model.proofs.Enter.{with_cell-cell}
-use Rattle.flow_model.proofs.OpenNodes.{cell-there, cell-other, opened-opens, step-FramesAreOpen}
-use Rattle.flow_model.proofs.FramesLast.{head-first, framing-part, executing-part}
-use Rattle.flow_model.proofs.FramedWith.{opens-frame, heads-opens, not_up_to-behind, before-not_after}
-use Rattle.flow_model.proofs.Readings.{seen-all, BeginsRun, run-begins}
+use Rattle.node_versions.specs.Entries.{OutEdge, IsUnique, has, at, is_frame, is_done, behind, first_open, is_active, has_out, has_node, active_nodes}
+use Rattle.flow_model.specs.State.{Core, live, executes, frames, entries, outs, wants}
+use Rattle.flow_model.specs.Words.{heads, is_prior}
+use Rattle.flow_model.specs.Runs.{Run, Reading, read_all, nothing_read, last_run, discovered, runs, is_from, is_until, covers, reacts, settles, IsSettled, by_node}
+use Rattle.flow_model.specs.Lawful.{IsLawful, IsRunEdge, IsNewEdge, IsKeyOf, picks_last, last_run_of}
+use Rattle.flow_model.proofs.Truths.{or_cases, or_left, or_right, and_both, and_make, same_number, equal_test, not_false, is_not_true, true_or_false}
+use Rattle.flow_model.proofs.Allowed.{wants-live, opens-live}
+use Rattle.flow_model.proofs.States.{first_open-frame}
+use Rattle.flow_model.proofs.FramesLast.{head-first}
+use Rattle.flow_model.proofs.FramedWith.{heads-opens, not_up_to-behind}
+use Rattle.flow_model.proofs.Readings.{seen-all, run-begins}
 use Rattle.flow_model.proofs.RunsEnd.{IsLeft, closed-left, not_both}
-use Rattle.flow_model.proofs.Covering.{dropper_in, runs_in, same-runs, any-parts, any-map, Covers, covers-parts, reacts-back, read_all-append, same_lists-covers}
-use Rattle.flow_model.proofs.SpreadOfSteps.{same_outs, entered-covers, call-reacts}
+use Rattle.flow_model.proofs.Covering.{dropper_in, runs_in, same-runs, any-parts, any-map, covers-parts, reacts-back}
 use Rattle.flow_model.proofs.DiscoverSpreads.{head-prior}
-use Rattle.flow_model.proofs.FinishSpreads.{stated-covers, left-settles}
-use Rattle.flow_model.proofs.WantsOfSteps.{opened-wants}
+use Rattle.flow_model.proofs.FinishSpreads.{left-settles}
 
 -- What is known of the state in which the call has its Frame, before the node is open for it.
 pub record IsFramed (graph : Graph) (s q : Core) (t m0 : ℕ) : Type 0 where

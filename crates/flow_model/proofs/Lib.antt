@@ -40,3 +40,4 @@ pub mod FinishSpreads
 pub mod FrameSpreads
 pub mod FramePlaces
 pub mod CollectSpreads
+pub mod StepsSpread

@@ -1,9 +1,8 @@
 -- Runs that Dones have ended, and a reading after a Frame has become a Done.
-use Rattle.std.proofs.Common.{◌≡◌, ℕ, Bool, true, false, ◌&&◌, ◌||◌, not, ◌==◌, ◌⊎◌, inl, inr, refl, sym, ap, arith, List, [], ◌∷◌, ◌++◌, true≢false, ◌∙◌, subst, Option, Some, None}
+use Rattle.std.proofs.Common.{◌≡◌, ℕ, Bool, true, false, ◌||◌, ◌==◌, ◌⊎◌, inl, inr, refl, sym, ap, arith, List, [], ◌∷◌, ◌++◌, true≢false, ◌∙◌, subst, Option, Some, None}
 use Rattle.std.specs.Prelude.{is_some}
 use Rattle.std.specs.List.{list_any}
 use Rattle.std.specs.Option.{option_or}
-use Rattle.std.proofs.lemmas.Bool.Decides.{eqb_tells}
 use Rattle.std.proofs.lemmas.List.Folds.{list_any-append}
 use Rattle.script_tree.specs.declared.value.Value.{Value}
 use Rattle.signal_graph.specs.Graph.{is_in}
@@ -11,7 +10,7 @@ use Rattle.signal_graph.specs.Values.{nodes_in}
 use Rattle.node_versions.specs.declared.entry.State.{State}
 use Rattle.node_versions.specs.declared.entry.State.TheVariants.{Mark, Frame, Done}
 use Rattle.node_versions.specs.declared.entry.Entry.{Entry}
-use Rattle.node_versions.specs.Entries.{IsUnique, has, at, is_frame, is_done, behind, before, up_to, last_done, only_done, state_of, picks_of, picks_at, picks_before, with_state}
+use Rattle.node_versions.specs.Entries.{IsUnique, has, at, is_frame, is_done, behind, before, up_to, last_done, only_done, picks_of, picks_at, picks_before, with_state}
 use Rattle.flow_model.specs.Runs.{Run, Reading, close, read_done, read_state, read_all, nothing_read}
 use Rattle.flow_model.proofs.Truths.{or_cases, same_number, equal_test, not_true, is_not_true, true_or_false}
 use Rattle.flow_model.proofs.States.{at-has, behind-has}

@@ -1,28 +1,25 @@
 -- Where a call has a Frame, all that reacts is open for it or wanted by it, after each step.
-use Rattle.std.proofs.Common.{◌≡◌, ℕ, zero, suc, Bool, true, false, ◌&&◌, ◌||◌, not, ◌==◌, ◌⊎◌, inl, inr, refl, sym, ap, arith, List, [], ◌∷◌, ◌++◌, true≢false, ◌∙◌, subst, Option, Some, None}
+use Rattle.std.proofs.Common.{◌≡◌, ℕ, suc, Bool, true, false, ◌||◌, ◌==◌, ◌⊎◌, inl, inr, refl, sym, ap, arith, List, [], ◌∷◌, true≢false, ◌∙◌, subst, Option, Some, None}
 use Rattle.std.specs.Prelude.{slice_get}
 use Rattle.std.specs.List.{list_any}
 use Rattle.std.proofs.lemmas.Bool.Decides.{eqb_tells}
-use Rattle.std.proofs.lemmas.List.Folds.{list_any-append}
-use Rattle.script_tree.specs.declared.value.Value.{Value}
 use Rattle.signal_graph.specs.declared.call.Call.{Call}
-use Rattle.signal_graph.specs.Graph.{Graph, is_in, static_outs}
+use Rattle.signal_graph.specs.Graph.{Graph, is_in}
 use Rattle.node_versions.specs.declared.entry.State.{State}
-use Rattle.node_versions.specs.declared.entry.State.TheVariants.{Mark, Frame, Done}
+use Rattle.node_versions.specs.declared.entry.State.TheVariants.{Mark}
 use Rattle.node_versions.specs.declared.entry.Entry.{Entry}
-use Rattle.node_versions.specs.Entries.{OutEdge, has, at, is_frame, behind, first_open, is_active, is_edge, has_out, has_node, placed, value_at}
-use Rattle.flow_model.specs.declared.step.Step.{Step}
+use Rattle.node_versions.specs.Entries.{OutEdge, has, is_frame, behind, first_open, is_active, has_out, has_node, placed, value_at}
 use Rattle.flow_model.specs.declared.step.Step.TheVariants as steps
 use Rattle.flow_model.specs.Sets.{is_empty}
-use Rattle.flow_model.specs.State.{Core, LiveCall, Cell, call, call_of, call_or, cell, live, executes, entries, outs, opens, wants, with_call, with_cell, some_call}
-use Rattle.flow_model.specs.Words.{is_idle, found_now, next_look, body_now}
+use Rattle.flow_model.specs.State.{Core, LiveCall, Cell, call, call_of, call_or, cell, live, entries, outs, opens, wants, with_call, with_cell, some_call}
+use Rattle.flow_model.specs.Words.{found_now, next_look, body_now}
 use Rattle.flow_model.specs.Changes.{stops, stops_call, new_entry, place_entry, enter, ensure_mark, remove_first, drop_edge}
 use Rattle.flow_model.specs.Steps.{allowed, apply, begin, started, counted, with_look, look_value, keep_found, gather, keep_body, new_call}
-use Rattle.flow_model.specs.Runs.{Run, Reading, read_all, nothing_read, last_run, discovered, runs, is_from, is_until, covers, reacts}
+use Rattle.flow_model.specs.Runs.{Run, Reading, read_all, nothing_read, last_run, discovered, runs, covers, reacts}
 use Rattle.flow_model.specs.Lawful.{IsLawful, FramesAreOpen, FramesSpread}
 use Rattle.flow_model.proofs.Truths.{or_cases, or_left, or_right, same_number, equal_test, not_true, is_not_true, true_or_false}
 use Rattle.flow_model.proofs.Allowed.{and_left, and_right, end-idle, mark-no_entry}
-use Rattle.flow_model.proofs.States.{at-has, behind-has}
+use Rattle.flow_model.proofs.States.{at-has}
 use Rattle.flow_model.proofs.Readers.{with_call-keeps, with_call-live, without_call-other, without_call-same}
 use Rattle.flow_model.proofs.Enter.{with_cell-cell}
 use Rattle.flow_model.proofs.ListSteps.{same_cell}
