@@ -139,11 +139,11 @@ if-Grows : (s : Core) (b : Bool) (ps qs rs : List Pair) → (b ≡ true → Grow
 if-Grows s true ps qs rs h k = h refl
 if-Grows s false ps qs rs h k = k refl
 
-left-Grows : (s : Core) (t m : ℕ) (l : Option ℕ) (ps : List Pair) → live s t ≡ true → Grows s ps (link_left s t m l ps)
+pub left-Grows : (s : Core) (t m : ℕ) (l : Option ℕ) (ps : List Pair) → live s t ≡ true → Grows s ps (link_left s t m l ps)
 left-Grows s t m None ps lt = same-Grows s ps
 left-Grows s t m (Some u) ps lt = if-Grows s (live s u) _ _ _ (λ lu. link-Grows s ps u t m lu lt) (λ _. same-Grows s ps)
 
-right-Grows : (s : Core) (t m : ℕ) (r : Option ℕ) (ps : List Pair) → live s t ≡ true → Grows s ps (link_right s t m r ps)
+pub right-Grows : (s : Core) (t m : ℕ) (r : Option ℕ) (ps : List Pair) → live s t ≡ true → Grows s ps (link_right s t m r ps)
 right-Grows s t m None ps lt = same-Grows s ps
 right-Grows s t m (Some v) ps lt = if-Grows s (live s v) _ _ _ (λ lv. link-Grows s ps t v m lt lv) (λ _. same-Grows s ps)
 

@@ -71,8 +71,17 @@ before-not_after graph s h u v p = not_true _ (λ k.
 
 -- ---- what reacts to an open node of an earlier call
 
-reaction-open : (graph : Graph) (s : Core) → IsLawful graph s → (t v m n : ℕ) → executes s t ≡ true → precedes s v t ≡ true → opens s v m ≡ true → reacts graph s v m n ≡ true → IsOpenBefore s t n
-reaction-open graph s h t v m n xt p o r = go (or_cases _ _ (h.frames_spread v m n (opens-frame graph s h v m o) r))
+-- Another call has the node open, and a chain of pairs leads from it to this one.
+pub record IsChained (s : Core) (t n : ℕ) : Type 0 where
+  pub opener : ℕ
+  pub opened : opens s opener n ≡ true
+  pub chain : reaches s.pairs opener t ≡ true
+
+chained-before : (graph : Graph) (s : Core) → IsLawful graph s → (t n : ℕ) → IsChained s t n → IsOpenBefore s t n
+chained-before graph s h t n k = let c = chain-one_way graph s h k.opener t k.chain in record { opener = k.opener; opened = k.opened; not_after = c.0; other = c.1 }
+
+reaction-chained : (graph : Graph) (s : Core) → IsLawful graph s → (t v m n : ℕ) → executes s t ≡ true → precedes s v t ≡ true → opens s v m ≡ true → reacts graph s v m n ≡ true → IsChained s t n
+reaction-chained graph s h t v m n xt p o r = go (or_cases _ _ (h.frames_spread v m n (opens-frame graph s h v m o) r))
   where
     lv : live s v ≡ true
     lv = opens-live s v m o
@@ -80,16 +89,13 @@ reaction-open graph s h t v m n xt p o r = go (or_cases _ _ (h.frames_spread v m
     chain : reaches s.pairs v t ≡ true
     chain = live-chain s v t lv p
 
-    made : (w : ℕ) → opens s w n ≡ true → reaches s.pairs w t ≡ true → IsOpenBefore s t n
-    made w x k = let c = chain-one_way graph s h w t k in record { opener = w; opened = x; not_after = c.0; other = c.1 }
-
     runs_it : executes s v ≡ true
     runs_it = not_false _ (λ e. is_not_true _ (h.framing_comes_last.before v t (let f : frames s v ≡ true = grind (arith, e, lv) in f) xt) p)
 
-    go : (opens s v n ≡ true) ⊎ (wants s v n ≡ true) → IsOpenBefore s t n
-    go (inl x) = made v x chain
+    go : (opens s v n ≡ true) ⊎ (wants s v n ≡ true) → IsChained s t n
+    go (inl x) = record { opener = v; opened = x; chain = chain }
     go (inr x) = let c = h.wants_are_covered v n runs_it x in
-        made c.by.0 c.by.2 (reaches-trans s.pairs c.by.0 v t (live-chain s c.by.0 v (opens-live s c.by.0 n c.by.2) c.by.1) chain)
+        record { opener = c.by.0; opened = c.by.2; chain = reaches-trans s.pairs c.by.0 v t (live-chain s c.by.0 v (opens-live s c.by.0 n c.by.2) c.by.1) chain }
 
 -- ---- the out-edges of the node
 
@@ -186,16 +192,21 @@ no_frame-before graph s h v m n r b o e k j = go (h.entries_are_kept.new_picks b
 
 -- ---- what is framed with a node
 
--- An edge whose call's entry is not after the call's: its node is open for a call that isn't after this one.
-pub edge-open : (graph : Graph) (s : Core) → IsLawful graph s → (t v m n since : ℕ) → executes s t ≡ true → precedes s v t ≡ true → opens s v m ≡ true → opens s t n ≡ false
-    → has_out (outs s m) n since ≡ true → (has (entries s m) since ≡ true → (t == since) ≡ false → precedes s t since ≡ false) → IsOpenBefore s t n
-edge-open graph s h t v m n since xt p o closed e place = go (true_or_false (is_active (entries s m) since v)) (h.edges_are_kept.stands n m since e)
+-- The edge's call has the node open, and an entry at the candidate.
+pub record IsEdgeOpen (s : Core) (m n since : ℕ) : Type 0 where
+  pub opened : opens s since n ≡ true
+  pub entry : has (entries s m) since ≡ true
+
+-- The node of an edge is open for a call before this one, or for the edge's call, which has an entry at the candidate.
+pub edge-reached : (graph : Graph) (s : Core) → IsLawful graph s → (t v m n since : ℕ) → executes s t ≡ true → precedes s v t ≡ true → opens s v m ≡ true → opens s t n ≡ false
+    → has_out (outs s m) n since ≡ true → IsChained s t n ⊎ IsEdgeOpen s m n since
+edge-reached graph s h t v m n since xt p o closed e = go (true_or_false (is_active (entries s m) since v)) (h.edges_are_kept.stands n m since e)
   where
     hv : has (entries s m) v ≡ true
     hv = at-has is_frame (entries s m) v (opens-frame graph s h v m o)
 
-    next : reacts graph s v m n ≡ true → IsOpenBefore s t n
-    next r = reaction-open graph s h t v m n xt p o r
+    next : reacts graph s v m n ≡ true → IsChained s t n ⊎ IsEdgeOpen s m n since
+    next r = inl (reaction-chained graph s h t v m n xt p o r)
 
     first : heads s since n ≡ true → first_open (entries s n) ≡ Some since
     first k = head-first (entries s n) since k
@@ -204,28 +215,34 @@ edge-open graph s h t v m n since xt p o closed e place = go (true_or_false (is_
     not_ended x b = is_not_true _ (h.ended_is_prefix.prefix m v since b x) (opens-live s v m o)
 
     -- the run in which the list ends
-    ends_in : (c : Option Run) → last_run_of s n m ≡ c → IsKeyOf s since c → (is_active (entries s m) since v ≡ true) ⊎ (is_active (entries s m) since v ≡ false) → IsOpenBefore s t n
+    ends_in : (c : Option Run) → last_run_of s n m ≡ c → IsKeyOf s since c → (is_active (entries s m) since v ≡ true) ⊎ (is_active (entries s m) since v ≡ false) → IsChained s t n ⊎ IsEdgeOpen s m n since
     ends_in None x k w = absurd k
     ends_in (Some r) x k w = begins r.begins refl k w
       where
-        begins : (z : Option ℕ) → r.begins ≡ z → IsKeyOf s since (Some (record r { begins = z })) → (is_active (entries s m) since v ≡ true) ⊎ (is_active (entries s m) since v ≡ false) → IsOpenBefore s t n
+        begins : (z : Option ℕ) → r.begins ≡ z → IsKeyOf s since (Some (record r { begins = z })) → (is_active (entries s m) since v ≡ true) ⊎ (is_active (entries s m) since v ≡ false) → IsChained s t n ⊎ IsEdgeOpen s m n since
         begins None y k w = next (last-covers graph s v m n r hv x (out-node (outs s m) n since e) (subst (λ (z : Option ℕ). is_from s m z v ≡ true) (sym y) refl))
         begins (Some b) y k (inl w) = next (last-covers graph s v m n r hv x (out-node (outs s m) n since e) (subst (λ (z : Option ℕ). is_from s m z v ≡ true) (sym y) (subst (λ (z : ℕ). is_active (entries s m) z v ≡ true) k w)))
         begins (Some b) y k (inr w) = absurd (no_frame-before graph s h v m n r b o x y (subst (λ (z : ℕ). behind (entries s m) v z ≡ true) k (not_up_to-behind (entries s m) v since hv w)))
 
-    go : (is_active (entries s m) since v ≡ true) ⊎ (is_active (entries s m) since v ≡ false) → IsRunEdge s n m since ⊎ IsNewEdge s n m since → IsOpenBefore s t n
+    go : (is_active (entries s m) since v ≡ true) ⊎ (is_active (entries s m) since v ≡ false) → IsRunEdge s n m since ⊎ IsNewEdge s n m since → IsChained s t n ⊎ IsEdgeOpen s m n since
     go w (inl k) = ends_in (last_run_of s n m) refl k.key w
     go (inl w) (inr k) = next (new-covers graph s v m n since hv (first k.first_open) e w)
-    go (inr w) (inr k) = record { opener = since; opened = os; not_after = place hs other; other = other }
+    go (inr w) (inr k) = inr (record { opened = heads-opens graph s h since n k.first_open; entry = (behind-has (entries s m) v since (not_up_to-behind (entries s m) v since hv w)).1 })
+
+-- An edge whose call is not after this one: its node is open for a call that isn't after this one.
+pub edge-open : (graph : Graph) (s : Core) → IsLawful graph s → (t v m n since : ℕ) → executes s t ≡ true → precedes s v t ≡ true → opens s v m ≡ true → opens s t n ≡ false
+    → has_out (outs s m) n since ≡ true → (has (entries s m) since ≡ true → (t == since) ≡ false → precedes s t since ≡ false) → IsOpenBefore s t n
+edge-open graph s h t v m n since xt p o closed e place = go (edge-reached graph s h t v m n since xt p o closed e)
+  where
+    go : IsChained s t n ⊎ IsEdgeOpen s m n since → IsOpenBefore s t n
+    go (inl k) = chained-before graph s h t n k
+    go (inr k) = record { opener = since; opened = k.opened; not_after = place k.entry other; other = other }
       where
-        os : opens s since n ≡ true
-        os = heads-opens graph s h since n k.first_open
-
-        hs : has (entries s m) since ≡ true
-        hs = (behind-has (entries s m) v since (not_up_to-behind (entries s m) v since hv w)).1
-
         other : (t == since) ≡ false
-        other = not_true _ (λ x. is_not_true _ closed (subst (λ (z : ℕ). opens s z n ≡ true) (sym (same_number t since x)) os))
+        other = not_true _ (λ x. is_not_true _ closed (subst (λ (z : ℕ). opens s z n ≡ true) (sym (same_number t since x)) k.opened))
+
+pub static-chained : (graph : Graph) (s : Core) → IsLawful graph s → (t v m n : ℕ) → executes s t ≡ true → precedes s v t ≡ true → opens s v m ≡ true → is_in n (static_outs graph m) ≡ true → IsChained s t n
+static-chained graph s h t v m n xt p o k = reaction-chained graph s h t v m n xt p o (or_left _ _ k)
 
 pub static-open : (graph : Graph) (s : Core) → IsLawful graph s → (t v m n : ℕ) → executes s t ≡ true → precedes s v t ≡ true → opens s v m ≡ true → is_in n (static_outs graph m) ≡ true → IsOpenBefore s t n
-static-open graph s h t v m n xt p o k = reaction-open graph s h t v m n xt p o (or_left _ _ k)
+static-open graph s h t v m n xt p o k = chained-before graph s h t n (static-chained graph s h t v m n xt p o k)

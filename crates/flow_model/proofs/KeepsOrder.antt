@@ -176,7 +176,7 @@ end-pairs_live ps lives lives2 t none el pl u v k =
     let p = pl u v in
     grind (arith, eqb_tells, e1, e2, r, q, p)
 
-not_before : (s : Core) (old : ℕ → ℕ → Bool) (t : ℕ) → Standing s old → any_before s t ≡ false → (w : ℕ) → is_recorded s.pairs w t ≡ false
+pub not_before : (s : Core) (old : ℕ → ℕ → Bool) (t : ℕ) → Standing s old → any_before s t ≡ false → (w : ℕ) → is_recorded s.pairs w t ≡ false
 not_before s old t h none w = not_true _ (λ r. go (call_of s.calls w) refl r (and_both (live s w) _ (h.pairs_live w t (recorded-reaches s.pairs w t r))).0)
   where
     go : (o : Option LiveCall) → call_of s.calls w ≡ o → is_recorded s.pairs w t ≡ true → live s w ≡ true → ⊥

@@ -116,7 +116,7 @@ pub record IsWanting (graph : Graph) (s q : Core) (u n : ℕ) : Type 0 where
   pub free : IsFree graph s u n
   pub opened : opens q u n ≡ true → opens s u n ≡ true
 
-new_or_old : (x e o w : Bool) → ((x && not (e || o)) || (w && not e)) ≡ true → (e ≡ false) × (((x ≡ true) × (o ≡ false)) ⊎ (w ≡ true))
+pub new_or_old : (x e o w : Bool) → ((x && not (e || o)) || (w && not e)) ≡ true → (e ≡ false) × (((x ≡ true) × (o ≡ false)) ⊎ (w ≡ true))
 new_or_old true false false w h = (refl, inl (refl, refl))
 new_or_old true false true w h = (refl, inr (grind arith))
 new_or_old true true o w h = absurd (true≢false (let z : false ≡ true = grind (arith, h) in sym z))
@@ -328,7 +328,7 @@ finished-wanting graph s h t m v b ps lt u n w = record {
     still : (a p x : Bool) → a ≡ (p && not x) → a ≡ true → p ≡ true
     still a p x h k = grind (arith, h, k)
 
-at_front-live : (graph : Graph) (s : Core) (t n : ℕ) → at_front graph s t n ≡ true → live s t ≡ true
+pub at_front-live : (graph : Graph) (s : Core) (t n : ℕ) → at_front graph s t n ≡ true → live s t ≡ true
 at_front-live graph s t n f = executes-live s t (at_front-executes graph s t n f)
 
 -- a call that ends wants nothing
