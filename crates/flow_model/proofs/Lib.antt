@@ -41,3 +41,4 @@ pub mod FrameSpreads
 pub mod FramePlaces
 pub mod CollectSpreads
 pub mod StepsSpread
+pub mod CoverOfSteps
