@@ -42,3 +42,4 @@ pub mod FramePlaces
 pub mod CollectSpreads
 pub mod StepsSpread
 pub mod CoverOfSteps
+pub mod EdgesOfSteps

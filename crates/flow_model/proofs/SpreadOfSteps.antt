@@ -148,7 +148,7 @@ removed-out : (n0 n t : ℕ) (os : List OutEdge) → (n == n0) ≡ false → has
 removed-out n0 n t [] ne = refl
 removed-out n0 n t (edge ∷ os) ne = let r = removed-out n0 n t os ne in grind (arith, eqb_tells, r, ne)
 
-removed-less : (n0 n t : ℕ) (os : List OutEdge) → has_out (remove_first n0 os) n t ≡ true → has_out os n t ≡ true
+pub removed-less : (n0 n t : ℕ) (os : List OutEdge) → has_out (remove_first n0 os) n t ≡ true → has_out os n t ≡ true
 removed-less n0 n t [] h = h
 removed-less n0 n t (edge ∷ os) h = let r = removed-less n0 n t os in grind (arith, eqb_tells, r, h)
 

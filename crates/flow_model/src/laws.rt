@@ -10,7 +10,7 @@ ghost use Rattle.flow_model.specs.declared.step.Step.{Step};
 ghost use Rattle.flow_model.specs.declared.step.Turn.TheVariants as Turn;
 ghost use Rattle.flow_model.specs.Next.{next, next_at};
 ghost use Rattle.flow_model.specs.Steps.{allowed, apply, can_begin, begin};
-ghost use Rattle.flow_model.specs.Lawful.{IsLawful, OrderIsKept, FramingComesLast, EndedIsPrefix, FramesAreOpen, VersionsAreFresh, IsCallRight, SetsAreSets, RoomIsKept, WantsAreFree, WantsAreCovered, FramesSpread};
+ghost use Rattle.flow_model.specs.Lawful.{IsLawful, OrderIsKept, FramingComesLast, EndedIsPrefix, FramesAreOpen, VersionsAreFresh, IsCallRight, SetsAreSets, RoomIsKept, WantsAreFree, WantsAreCovered, FramesSpread, EdgesFit};
 ghost use Rattle.flow_model.specs.Examples.{PlaysOut, retrofit_log_with};
 ghost use Rattle.flow_model.specs.Examples.{retrofit_graph, retrofit_scripts, retrofit_schedule, retrofit_moves, retrofit_log, retrofit_finals};
 ghost use Rattle.flow_model.specs.Examples.{other_order_graph, other_order_scripts, other_order_schedule, other_order_moves, other_order_log, other_order_finals};
@@ -86,6 +86,12 @@ pub fn wants_stay_free()
 pub fn wants_stay_covered()
     ensures step { (graph : Graph) (s : Core) (step : Step) → IsLawful graph s → allowed graph s step ≡ true → WantsAreCovered (apply graph s step) }
     ensures begin { (graph : Graph) (s : Core) (caller : ℕ) (call : Call) → IsLawful graph s → can_begin graph s caller call ≡ true → WantsAreCovered (begin graph s caller call) }
+{}
+
+/// Each step keeps that an out-edge is of a choose node that has the node among its candidates, and stands there once.
+pub fn edges_stay_fit()
+    ensures step { (graph : Graph) (s : Core) (step : Step) → IsLawful graph s → allowed graph s step ≡ true → EdgesFit graph (apply graph s step) }
+    ensures begin { (graph : Graph) (s : Core) (caller : ℕ) (call : Call) → IsLawful graph s → EdgesFit graph (begin graph s caller call) }
 {}
 
 /// Each step keeps what live calls set and look at: what they name, within the limits.
