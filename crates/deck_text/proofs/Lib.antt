@@ -1,3 +1,4 @@
 pub mod LineLaws
 pub mod PrintLaws
 pub mod ThreadLaws
+pub mod Spelling

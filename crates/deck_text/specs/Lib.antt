@@ -4,3 +4,4 @@ pub mod Faults
 pub mod Lines
 pub mod Printed
 pub mod Readers
+pub mod Spelled
