@@ -10,12 +10,13 @@ use Rattle.signal_graph.specs.Legal.{Legal, finals}
 use Rattle.call_log.specs.Merge.{Merge}
 use Rattle.serial_machine.specs.SerialOrder.{IsThreadAfterThread, CountsVersions}
 use Rattle.deck_text.specs.declared.fault.DeckFault.{DeckFault}
-use Rattle.deck_text.specs.declared.fault.DeckFault.TheVariants.{Memory}
+use Rattle.deck_text.specs.declared.fault.DeckFault.TheVariants.{Memory, NoThread}
 use Rattle.deck_text.specs.Calls.{AreThreads}
 use Rattle.deck_text.specs.Decks.{Decked}
 use Rattle.deck_text.specs.Faults.{NamesLine}
 use Rattle.deck_text.specs.Lines.{lines}
 use Rattle.deck_text.specs.Printed.{canonical}
+use Rattle.deck_text.specs.Spelled.{Spell, HasNoThread}
 use Rattle.report_text.specs.Report.{report_of}
 use Rattle.report_text.specs.Json.{json_of}
 use Rattle.command_words.specs.declared.command.Command.{Command}
@@ -26,10 +27,11 @@ abbrev pub IsInput : Option (List ℕ) → List ℕ → Type 0
 IsInput None bytes = ⊤
 IsInput (Some left) bytes = bytes ≡ take (DECK_BYTES + 1) left
 
--- what is known of how bytes are read as a deck
+-- what is known of how bytes are read as a deck: the deck is the one that their lines spell; the fault names one of their
+-- lines, or says that none of them begins a thread
 abbrev pub ReadsDeck : List ℕ → Result Decked DeckFault → Type 0
-ReadsDeck bytes (Ok deck) = AreThreads deck.scripts
-ReadsDeck bytes (Err fault) = NamesLine (length (lines bytes)) fault
+ReadsDeck bytes (Ok deck) = AreThreads deck.scripts × Spell (lines bytes) deck
+ReadsDeck bytes (Err fault) = NamesLine (length (lines bytes)) fault × (fault ≡ NoThread → HasNoThread (lines bytes))
 
 -- a report as text or as one line of JSON
 abbrev pub report_bytes : Bool → List Logged → List Refused → List (List ℕ) → List Value → List ℕ
