@@ -3,8 +3,8 @@
 use crate::limits::LINE_BYTES;
 use crate::pieces::Piece;
 use crate::{
-    Fault, Script, ScriptFault, Text, Value, parse_body, parse_body_pieces, parse_script,
-    parse_script_bytes, parse_script_pieces, print_script, print_script_to,
+    Fault, Script, ScriptFault, Text, Value, parse_body, parse_body_bytes, parse_body_pieces,
+    parse_script, parse_script_bytes, parse_script_pieces, print_script, print_script_to,
 };
 use std::alloc::{AllocError, Global};
 use std::test::Fail;
@@ -544,6 +544,73 @@ fn added_text(rt: HostRuntime) -> Result<(), Fail> {
     print_script_to(alloc, &script, &mut text)?;
     assert_eq!(rt; text.as_slice(), b"aa".as_slice());
     Ok(())
+}
+
+// Bodies over so many picks, and their canonical form.
+const BODIES: [(&str, u32, &str); 6] = [
+    ("(pick1 ?? 7) - pick2", 2, "(pick1??7)-pick2"),
+    ("pick1", 1, "pick1"),
+    ("pick4 + (pick3 * pick2)", 4, "pick4+pick3*pick2"),
+    (
+        "if pick1 then(pick2)else(pick3)",
+        3,
+        "if pick1 then pick2 else pick3",
+    ),
+    ("007", 1, "7"),
+    ("! ( true )", 4, "!true"),
+];
+
+// Texts that are no bodies over so many picks, and the place of the fault.
+const NO_BODIES: [(&str, u32, u32); 8] = [
+    ("pick1 + a", 1, 8),
+    ("pick2", 1, 0),
+    ("pick3", 2, 0),
+    ("pick4", 3, 0),
+    ("acc", 4, 0),
+    ("pick1 pick2", 2, 6),
+    ("pick5", 4, 0),
+    ("pick1 +", 1, 7),
+];
+
+fn body_of(alloc: Global, text: &str, picks: u32) -> Result<Script, ScriptFault> {
+    if text.len() > LINE_BYTES || picks < 1 || picks > 4 {
+        return Err(ScriptFault::Memory);
+    }
+    parse_body_bytes(alloc, text.as_bytes(), picks)
+}
+
+fn is_body_printed(alloc: Global, text: &str, picks: u32, expected: &str) -> bool {
+    let Ok(body) = body_of(alloc, text, picks) else {
+        return false;
+    };
+    match print_script(alloc, &body) {
+        Ok(printed) => printed.as_slice() == expected.as_bytes(),
+        Err(_) => false,
+    }
+}
+
+#[test]
+fn canonical_bodies(rt: HostRuntime) {
+    for (text, picks, expected) in BODIES {
+        assert!(rt;
+            is_body_printed(rt.alloc(), text, picks, expected),
+            "{text}"
+        );
+    }
+}
+
+fn is_no_body(alloc: Global, text: &str, picks: u32, place: u32) -> bool {
+    match body_of(alloc, text, picks) {
+        Ok(_) => false,
+        Err(fault) => fault == ScriptFault::Syntax(place),
+    }
+}
+
+#[test]
+fn refused_bodies(rt: HostRuntime) {
+    for (text, picks, place) in NO_BODIES {
+        assert!(rt; is_no_body(rt.alloc(), text, picks, place), "{text}");
+    }
 }
 
 #[test]
