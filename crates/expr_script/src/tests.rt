@@ -1,7 +1,7 @@
 // What texts are read as.
 
 use crate::limits::LINE_BYTES;
-use crate::pieces::Piece;
+use crate::pieces::{Piece, pieces};
 use crate::{
     Fault, Script, ScriptFault, Text, Value, parse_body, parse_body_bytes, parse_body_pieces,
     parse_script, parse_script_bytes, parse_script_pieces, print_script, print_script_to,
@@ -611,6 +611,25 @@ fn refused_bodies(rt: HostRuntime) {
     for (text, picks, place) in NO_BODIES {
         assert!(rt; is_no_body(rt.alloc(), text, picks, place), "{text}");
     }
+}
+
+fn is_cut(alloc: Global, text: &[u8], places: &[Piece]) -> bool {
+    match pieces(alloc, text) {
+        Ok(found) => found.as_slice() == places,
+        Err(_) => false,
+    }
+}
+
+#[test]
+fn pieces_of_a_line(rt: HostRuntime) {
+    let places = [
+        Piece { from: 0, len: 1 },
+        Piece { from: 1, len: 2 },
+        Piece { from: 3, len: 1 },
+        Piece { from: 5, len: 2 },
+        Piece { from: 8, len: 1 },
+    ];
+    assert!(rt; is_cut(rt.alloc(), b"a<==\tb1 \xff", &places));
 }
 
 #[test]
