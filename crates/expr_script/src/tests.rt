@@ -630,6 +630,9 @@ fn pieces_of_a_line(rt: HostRuntime) {
         Piece { from: 8, len: 1 },
     ];
     assert!(rt; is_cut(rt.alloc(), b"a<==\tb1 \xff", &places));
+    assert!(rt; is_cut(rt.alloc(), b" \t", &[]));
+    let signs = [Piece { from: 0, len: 2 }, Piece { from: 2, len: 1 }];
+    assert!(rt; is_cut(rt.alloc(), b"???", &signs));
 }
 
 #[test]
