@@ -5,4 +5,5 @@ pub mod Lines
 pub mod Printed
 pub mod Readers
 pub mod Reasons
+pub mod Refused
 pub mod Spelled
