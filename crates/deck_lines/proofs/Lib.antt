@@ -15,3 +15,4 @@ pub mod CutLaws
 pub mod Texting
 pub mod Finding
 pub mod OneAnswer
+pub mod OneLine

@@ -20,3 +20,10 @@ pub fn one_answer()
 {
     script_grammar::laws::one_answer();
 }
+
+/// Words say one line. So where a line is read, no other line is what its words say.
+pub fn one_line()
+    ensures { (words : Words) (a b : Line) → IsLine words a → IsLine words b → a ≡ b }
+{
+    expr_script::laws::one_answer();
+}

@@ -2,3 +2,5 @@ pub mod LineLaws
 pub mod PrintLaws
 pub mod ThreadLaws
 pub mod Spelling
+pub mod Reasoning
+pub mod Refusing

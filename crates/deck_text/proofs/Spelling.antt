@@ -1,11 +1,10 @@
 -- Lines that lead to a deck.
-use Rattle.std.proofs.Common.{◌≡◌, ℕ, ◌+◌, ◌<◌, ◌≤◌, Bool, true, false, List, [], ◌∷◌, ◌++◌, length, refl, sym, ap, ◌∙◌, arith, subst, append_assoc, append-nil, length-append}
-use Rattle.std.specs.Prelude.{◌==◌, Option, Some, None, Result, Ok, Err, MatchOption, IfOk, IfErr}
+use Rattle.std.proofs.Common.{◌≡◌, ℕ, ◌≤◌, Bool, true, false, List, [], ◌∷◌, ◌++◌, length, refl, sym, ap, ◌∙◌, arith, subst, append_assoc, append-nil}
+use Rattle.std.specs.Prelude.{◌==◌, Option, Some, None, Result, Ok, Err, MatchOption, IfOk}
 use Rattle.deck_text.specs.declared.fault.DeckFault.{DeckFault}
 use Rattle.std.proofs.lemmas.Bool.Decides.{nat_tests}
 use Rattle.signal_graph.specs.declared.call.Call.{Call}
 use Rattle.signal_graph.specs.declared.builder.GraphFault.{GraphFault}
-use Rattle.script_tree.specs.declared.limits.TheConstants.{THREADS}
 use Rattle.deck_text.specs.Decks.{Decked}
 use Rattle.deck_text.specs.Lines.{lines}
 use Rattle.deck_text.specs.Readers.{scripts_so_far}

@@ -1,6 +1,6 @@
 -- The deck that lines spell.
 use Rattle.std.specs.Prelude.{◌≡◌, ◌<◌, ◌≤◌, ℕ, List, [], ◌∷◌, ◌++◌, length, None}
-use Rattle.script_tree.specs.declared.limits.TheConstants.{LINE_BYTES, THREADS}
+use Rattle.script_tree.specs.declared.limits.TheConstants.{DECK_BYTES, LINE_BYTES, THREADS}
 use Rattle.signal_graph.specs.declared.call.Call.{Call}
 use Rattle.signal_graph.specs.Declarations.{refusal, with_declaration}
 use Rattle.deck_lines.specs.declared.line.Line.{Line}
@@ -8,6 +8,7 @@ use Rattle.deck_lines.specs.declared.line.Line.TheVariants.{Nothing, Declares, T
 use Rattle.deck_lines.specs.Lines.{IsLine}
 use Rattle.deck_lines.specs.Texts.{line_words}
 use Rattle.deck_text.specs.Decks.{Decked}
+use Rattle.deck_text.specs.Lines.{lines}
 
 -- a call joins the newest thread
 pub record Joins (call : Call) (old new : List (List Call)) : Type 0 where
@@ -48,3 +49,8 @@ pub record HasNoThread (text : List (List ℕ)) : Type 0 where
   pub deck : Decked
   pub lead : Lead text nothing_yet deck
   pub none : deck.scripts ≡ []
+
+-- bytes spell a deck: there are not too many, and their lines spell it
+pub record SpellsDeck (bytes : List ℕ) (deck : Decked) : Type 0 where
+  pub short : length bytes ≤ DECK_BYTES
+  pub spells : Spell (lines bytes) deck
