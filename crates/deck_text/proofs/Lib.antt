@@ -4,3 +4,4 @@ pub mod ThreadLaws
 pub mod Spelling
 pub mod Reasoning
 pub mod Refusing
+pub mod Faulting

@@ -1,6 +1,6 @@
 -- The first reason of a line.
-use Rattle.std.proofs.Common.{◌≡◌, ℕ, ◌<◌, ◌≤◌, inl, inr, Bool, true, false, List, [], ◌∷◌, length, length-append, refl, sym, ap, ◌∙◌, arith, subst}
-use Rattle.std.specs.Prelude.{Option, Some, None, nat_lt, if◌then◌else◌, find}
+use Rattle.std.proofs.Common.{◌≡◌, ℕ, ◌<◌, ◌≤◌, ◌⊎◌, inl, inr, Bool, true, false, List, [], ◌∷◌, length, length-append, refl, sym, ap, ◌∙◌, arith, subst}
+use Rattle.std.specs.Prelude.{Option, Some, None, Result, Ok, Err, MatchOption, IfErr, nat_lt, if◌then◌else◌, find}
 use Rattle.std.proofs.lemmas.Bool.Decides.{nat_tests}
 use Rattle.std.proofs.lemmas.Option.{none-some, same_Some}
 use Rattle.script_tree.specs.declared.limits.TheConstants.{DECK_BYTES, LINE_BYTES, NODES}
@@ -26,7 +26,7 @@ use Rattle.deck_text.specs.declared.reason.Reason.TheVariants.{LineTooLong, Synt
 use Rattle.deck_text.specs.declared.reader.Reader.{Reader}
 use Rattle.deck_text.specs.Readers.{deck_of}
 use Rattle.deck_text.specs.Decks.{Decked}
-use Rattle.deck_text.specs.Faults.{limit_reason}
+use Rattle.deck_text.specs.Faults.{limit_reason, declaration_reason}
 use Rattle.deck_text.specs.Reasons.{Part, Declaring, Beginning, Calling, Are, AreDenied, Place, Has, reasons, IsFirstOf}
 use Rattle.deck_text.specs.Refused.{NotDeclared, NotBegun, NotCalled, NotTaken, BeyondDeclaring, BeyondCalling, NotRead, IsReason}
 use Rattle.deck_text.proofs.Spelling.{not_begun, has_begun}
@@ -308,3 +308,32 @@ not_read one only reader end line (fault.TooMany limit.Selectors) r f g h = decl
 not_read one only reader end line (fault.TooMany limit.Sets) r f g h = calling one only reader end line limit.Sets r f refl g h
 not_read one only reader end line (fault.TooMany limit.Looks) r f g h = calling one only reader end line limit.Looks r f refl g h
 not_read one only reader end line fault.Memory r f g h = subst (IsReason (at reader end line)) (sym h) tt
+
+-- what a builder's refusal tells
+abbrev fault_of : {A : Type 0} → GraphFault → Result A GraphFault → GraphFault
+fault_of d (Ok x) = d
+fault_of d (Err f) = f
+
+pub cause_of : {A : Type 0} (o : Option GraphFault) (result : Result A GraphFault) (f : GraphFault) → MatchOption o (IfErr result (λ x. x ≡ graph.Memory)) (λ x. result ≡ Err x) → result ≡ Err f → (o ≡ Some f) ⊎ (f ≡ graph.Memory)
+cause_of None result f m e = inr (subst (λ r. IfErr r (λ x. x ≡ graph.Memory)) e m)
+cause_of (Some x) result f m e = inl (ap Some (ap (fault_of f) (sym m ∙ e)))
+
+abbrev IsWant : GraphFault → Type 0
+IsWant graph.Memory = Unit {0}
+IsWant f = ⊥
+
+pub not_added : (deck : Decked) (name : List ℕ) (kind : DeclKind) (f : GraphFault) → deck.scripts ≡ [] → (refusal deck.graph name kind ≡ Some f) ⊎ (f ≡ graph.Memory) → NotDeclared deck name kind (declaration_reason f)
+not_added deck name kind graph.DoubleName s (inl e) = (s, e)
+not_added deck name kind graph.DoubleName s (inr e) = absurd (subst IsWant (sym e) tt)
+not_added deck name kind (graph.UnknownInput n) s (inl e) = (s, n, e)
+not_added deck name kind (graph.UnknownInput n) s (inr e) = absurd (subst IsWant (sym e) tt)
+not_added deck name kind graph.TooManyNodes s (inl e) = (s, e)
+not_added deck name kind graph.TooManyNodes s (inr e) = absurd (subst IsWant (sym e) tt)
+not_added deck name kind graph.Memory s c = tt
+
+pub if_err : {A E : Type 0} (P Q : E → Type 0) (result : Result A E) → ((e : E) → P e → Q e) → IfErr result P → IfErr result Q
+if_err P Q (Ok x) go h = tt
+if_err P Q (Err e) go h = go e h
+
+pub fits : (p : Place) → p.end ≤ DECK_BYTES → length p.line ≤ LINE_BYTES → Fitting p
+fits p w s = record { within = w; short = s }

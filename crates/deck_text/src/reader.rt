@@ -6,7 +6,9 @@ ghost use Rattle.deck_lines.specs.Kept.{IsCall, IsKept};
 ghost use Rattle.deck_text.specs.Faults.{NamesLine};
 ghost use Rattle.deck_text.specs.Lines.{lines};
 ghost use Rattle.deck_text.specs.Readers.{Reads, deck_of};
-ghost use Rattle.deck_text.specs.Spelled.{Adds, Extends, Spell, HasNoThread, nothing_yet};
+ghost use Rattle.deck_text.specs.Refused.{NotDeclared, NotBegun, NotCalled, NotTaken, BeyondDeclaring, BeyondCalling, NotRead, IsReason};
+ghost use Rattle.deck_text.specs.Reasons.{IsDeckFault};
+ghost use Rattle.deck_text.specs.Spelled.{Adds, Extends, SpellsDeck, nothing_yet};
 ghost use Rattle.deck_lines.specs.declared.line.Line.TheVariants as said;
 ghost use Rattle.deck_text.specs.declared.fault.DeckFault.TheVariants as fault;
 
@@ -14,6 +16,7 @@ use crate::deck::Deck;
 use crate::fault::{DeckFault, What};
 use crate::lines::first_line;
 use crate::reason::Reason;
+use deck_lines::laws::{one_answer, one_form, one_line};
 use deck_lines::{Limit, Line, LineFault, read_line};
 use script_tree::items::Items;
 use script_tree::limits::{DECK_BYTES, LINE_BYTES, NODES, THREADS};
@@ -54,7 +57,9 @@ impl Reader {
 
     // Why a declaration is refused that goes beyond this limit. In the wrong part it is none, and the limit of nodes comes
     // before its own.
-    fn refused_declaration(&self, limit: Limit) -> Reason {
+    fn refused_declaration(&self, limit: Limit) -> Reason
+        ensures { BeyondDeclaring self.now limit result }
+    {
         if self.begun {
             return Reason::Syntax;
         }
@@ -65,7 +70,9 @@ impl Reader {
     }
 
     // Why a call is refused that goes beyond this limit.
-    fn refused_call(&self, limit: Limit) -> Reason {
+    fn refused_call(&self, limit: Limit) -> Reason
+        ensures { BeyondCalling self.now limit result }
+    {
         if !self.begun {
             return Reason::Syntax;
         }
@@ -73,7 +80,9 @@ impl Reader {
     }
 
     // Why a line is refused that is none, or that goes beyond a limit of its own: the limit tells what it is.
-    fn refused(&self, fault: LineFault) -> Reason {
+    fn refused(&self, fault: LineFault) -> Reason
+        ensures { NotRead self.now fault result }
+    {
         match fault {
             LineFault::Syntax => Reason::Syntax,
             LineFault::TooMany(limit) => match limit {
@@ -90,6 +99,7 @@ impl Reader {
         ensures reads { Reads self.new }
         ensures calls { self.new.calls ≡ self.old.calls }
         ensures adds { OnOk result (Adds (said.Declares name kind) (deck_of self.old) (deck_of self.new)) }
+        ensures refuses { IfErr result (NotDeclared (deck_of self.old) name kind) }
     {
         if self.begun {
             return Err(Reason::Syntax);
@@ -108,6 +118,7 @@ impl Reader {
         ensures reads { OnOk result (Reads self.new) }
         ensures calls { OnOk result (length self.new.calls.items ≤ length self.old.calls.items) }
         ensures adds { OnOk result (Adds said.Thread (deck_of self.old) (deck_of self.new)) }
+        ensures refuses { IfErr result (NotBegun (deck_of self.old)) }
     {
         if self.threads.len() + 1 >= THREADS as usize {
             return Err(Reason::TooMany(What::Threads));
@@ -123,6 +134,7 @@ impl Reader {
         ensures reads { OnOk result (Reads self.new) }
         ensures calls { OnOk result (length self.new.calls.items ≤ length self.old.calls.items) }
         ensures adds { OnOk result (Adds said.Thread (deck_of self.old) (deck_of self.new)) }
+        ensures refuses { IfErr result (NotBegun (deck_of self.old)) }
     {
         if self.begun {
             return self.next_thread();
@@ -137,6 +149,7 @@ impl Reader {
         ensures reads { OnOk result (Reads self.new) }
         ensures calls { OnOk result (length self.new.calls.items ≤ length self.old.calls.items + 1) }
         ensures adds { OnOk result (Adds (said.Calls call) (deck_of self.old) (deck_of self.new)) }
+        ensures refuses { IfErr result (NotCalled (deck_of self.old)) }
     {
         if !self.begun {
             return Err(Reason::Syntax);
@@ -153,6 +166,7 @@ impl Reader {
         ensures reads { OnOk result (Reads self.new) }
         ensures calls { OnOk result (length self.new.calls.items ≤ length self.old.calls.items + 1) }
         ensures adds { OnOk result (Adds line (deck_of self.old) (deck_of self.new)) }
+        ensures refuses { IfErr result (NotTaken line (deck_of self.old)) }
     {
         match line {
             Line::Nothing => Ok(()),
@@ -169,7 +183,11 @@ impl Reader {
         ensures reads { OnOk result (Reads self.new) }
         ensures calls { OnOk result (length self.new.calls.items ≤ length self.old.calls.items + 1) }
         ensures extends { OnOk result (Extends line.now (deck_of self.old) (deck_of self.new)) }
+        ensures refuses { (end : ℕ) → end ≤ DECK_BYTES → IfErr result (IsReason (record { deck = deck_of self.old; end = end; line = line.now })) }
     {
+        one_form();
+        one_answer();
+        one_line();
         if line.len() > LINE_BYTES {
             return Err(Reason::LineTooLong);
         }
@@ -227,9 +245,9 @@ impl Reader {
 #[tactic(auto, using(crate::proofs::Spelling::led_laws))]
 pub fn read_deck(alloc: Global, bytes: &[u8]) -> Result<Deck, DeckFault>
     requires { length bytes.now < 2 ^ 32 }
-    ensures ok { IfOk result (Spell (lines bytes.now)) }
-    ensures none { result ≡ Err fault.NoThread → HasNoThread (lines bytes.now) }
-    ensures err { IfErr result (NamesLine (length (lines bytes.now))) }
+    ensures ok { IfOk result (SpellsDeck bytes.now) }
+    ensures err { IfErr result (IsDeckFault bytes.now) }
+    ensures names { IfErr result (NamesLine (length (lines bytes.now))) }
 {
     let mut reader = Reader::new(alloc);
     let mut rest = bytes;

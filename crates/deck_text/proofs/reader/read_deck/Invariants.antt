@@ -7,7 +7,7 @@ use Rattle.deck_text.proofs.reader.read_deck.Given as goal
 abbrev pub invariant-loop-rest : goal.invariant-loop-rest
 invariant-loop-rest l =
     Reads l.reader
-    × Led l.bytes l.rest (deck_of l.reader)
+    × Led l.bytes l.rest l.number (deck_of l.reader)
     × (length l.reader.calls.items ≤ l.number)
     × (l.number + length l.rest ≤ length l.bytes)
     × (l.number + length (lines l.rest) ≡ length (lines l.bytes))
