@@ -5,3 +5,4 @@ pub mod Spelling
 pub mod Reasoning
 pub mod Refusing
 pub mod Faulting
+pub mod OneDeck
