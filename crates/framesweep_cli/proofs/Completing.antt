@@ -1,6 +1,6 @@
 -- Which status comes, from what the top call left on its devices.
-use Rattle.std.proofs.Common.{◌≡◌, ℕ, ◌+◌, ◌≤◌, List, Option, Some, None, Result, Ok, Err, refl, sym, subst, ◌∙◌, inl, inr, arith}
-use Rattle.std.specs.Prelude.{◌⊎◌, ◌≢◌, length, take}
+use Rattle.std.proofs.Common.{◌≡◌, ℕ, ◌+◌, List, Option, Some, None, Result, Ok, Err, refl, sym, subst, ◌∙◌, inl, inr, arith}
+use Rattle.std.specs.Prelude.{◌⊎◌, take}
 use Rattle.std.proofs.lemmas.List.{take_all}
 use Rattle.fs_io.specs.Count.{Rose}
 use Rattle.script_tree.specs.declared.limits.TheConstants.{DECK_BYTES}
@@ -15,8 +15,8 @@ use Rattle.deck_text.specs.Spelled.{SpellsDeck}
 use Rattle.deck_text.specs.Reasons.{IsDeckFault}
 use Rattle.framesweep_cli.specs.declared.ending.Ending.{Ending}
 use Rattle.framesweep_cli.specs.declared.ending.Ending.TheVariants.{Done, Refused, ReadFailed, WriteFailed, OutOfMemory}
-use Rattle.framesweep_cli.specs.Endings.{IsInput, IsValid, IsInvalid, Refuses, Makes}
-use Rattle.framesweep_cli.specs.Statuses.{Devices, status_of, Happened, Ends, Declines, Follows, Obeys}
+use Rattle.framesweep_cli.specs.Endings.{IsValid, IsInvalid, Refuses, Makes}
+use Rattle.framesweep_cli.specs.Statuses.{Devices, status_of, Happened, Follows, Obeys}
 
 -- a text that spells a deck has no fault but want of memory
 abbrev pub OneAnswer : Type 0
@@ -57,7 +57,7 @@ denied : OneAnswer → (command : Command) (fault : DeckFault) (before after : D
 denied one command fault before after Done h invalid reads = absurd (not_made one command before.left fault h.0.text invalid h.0.made)
 denied one command fault before after (Refused f) h invalid reads = inl refl
 denied one command fault before after ReadFailed h invalid reads = absurd (reads h.0)
-denied one command fault before after WriteFailed h invalid reads = absurd (not_made one command before.left fault h.1.0.text invalid h.1.0.made)
+denied one command fault before after WriteFailed h invalid reads = absurd (not_made one command before.left fault h.1.text invalid h.1.made)
 denied one command fault before after OutOfMemory h invalid reads = inr refl
 
 pub is_denied : OneAnswer → (words : List (List ℕ)) (command : Command) (fault : DeckFault) (before after : Devices) (status : ℕ) → Obeys words before after status → AsksFor words command → IsInvalid before.left fault → (Rose before.source_faults after.source_faults → ⊥) → (status ≡ 2) ⊎ (status ≡ 5)

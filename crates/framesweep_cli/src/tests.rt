@@ -169,7 +169,8 @@ fn refusals(rt: HostRuntime) -> Result<(), Fail> {
 // More calls of a device than any of these runs makes.
 const CALLS: u64 = 300;
 
-const PRINTED: &str = "source  a = 007\nsignal c = ((a + 1)) * 2  # twice\nfold n = -1 : acc - (a - 1)\nthread\nfire a = - 5 look c, n";
+const PRINTED: &str =
+    "source  a = 007\nsignal c = ((a + 1)) * 2  # twice\nfold n = -1 : acc - (a - 1)\nthread\nfire a = - 5 look c, n";
 
 // Runs words on a deck while one read fails, each in turn, in pieces of `most` bytes, until none does.
 fn reads_fail(
@@ -240,7 +241,10 @@ fn words_fail(
         let mut out = SureSink::new(alloc, ROOM, most)?;
         let mut err = MemSink::new(alloc, ROOM, most, &[n])?;
         let status = framesweep(alloc, words, &mut source, &mut out, &mut err);
-        assert!(rt; status == 2 && out.kept().is_empty(), "line {n}: status {status}");
+        assert!(rt;
+            status == 2 && out.kept().is_empty(),
+            "line {n}: status {status}"
+        );
         assert!(rt; line.starts_with(err.held()), "line {n}");
         if err.faults() == 0 {
             return Ok(n - 1);
