@@ -16,3 +16,6 @@ pub mod Texting
 pub mod Finding
 pub mod OneAnswer
 pub mod OneLine
+pub mod ValueBack
+pub mod NoSigns
+pub mod Restating

@@ -4,6 +4,7 @@ ghost use Rattle.std.specs.Prelude.{◌≡◌, ◌≢◌};
 ghost use Rattle.deck_lines.specs.declared.fault.LineFault.{LineFault};
 ghost use Rattle.deck_lines.specs.declared.fault.LineFault.TheVariants.{Memory};
 ghost use Rattle.deck_lines.specs.declared.line.Line.{Line};
+ghost use Rattle.deck_lines.specs.Canonical.{canonical_words};
 ghost use Rattle.deck_lines.specs.Forms.{Words, Form, Fits};
 ghost use Rattle.deck_lines.specs.Lines.{IsLine, IsLineFault};
 
@@ -26,4 +27,12 @@ pub fn one_line()
     ensures { (words : Words) (a b : Line) → IsLine words a → IsLine words b → a ≡ b }
 {
     expr_script::laws::one_answer();
+}
+
+/// The canonical words of a line that some words say: they say the same line.
+pub fn canonical_line()
+    ensures says { (words : Words) (line : Line) → IsLine words line → IsLine (canonical_words line) line }
+{
+    expr_script::laws::canonical_script();
+    expr_script::laws::canonical_body();
 }
