@@ -19,3 +19,6 @@ pub mod OneLine
 pub mod ValueBack
 pub mod NoSigns
 pub mod Restating
+pub mod Wholes
+pub mod Cleaning
+pub mod Spacing

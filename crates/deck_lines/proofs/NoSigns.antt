@@ -21,11 +21,11 @@ use Rattle.deck_lines.specs.Cuts.{has}
 use Rattle.deck_lines.proofs.Cutting.{same_word, or_no, no_or}
 use Rattle.deck_lines.proofs.Wording.{no_yes}
 
-abbrev is_stray : Token → Bool
+abbrev pub is_stray : Token → Bool
 is_stray Stray = true
 is_stray t = false
 
-abbrev has_stray : List Token → Bool
+abbrev pub has_stray : List Token → Bool
 has_stray ts = list_any is_stray ts
 
 none_stray : (a b : List Token) → has_stray a ≡ false → has_stray b ≡ false → has_stray (a ++ b) ≡ false
@@ -70,8 +70,12 @@ without atoms known word s (w ∷ ws) h =
     by_test n true e = absurd (no_yes (sym n ∙ ap (λ x. is_stray (token atoms known x)) (same_word w word e) ∙ ap is_stray s))
     by_test n false e = refl
 
+-- all words of a script stand in scripts
+pub no_strays : (atoms : Atoms) (ws : Words) (s : Scripted) → SpellsWith atoms ws s → has_stray (tokens_among atoms (inputs atoms ws) ws) ≡ false
+no_strays atoms ws s h = ap has_stray (sym h.tree.same) ∙ written_stands h.tree.written
+
 spells_without : (atoms : Atoms) (word : List ℕ) → ((known : List (List ℕ)) → token atoms known word ≡ Stray) → (ws : Words) (s : Scripted) → SpellsWith atoms ws s → has word ws ≡ false
-spells_without atoms word stray ws s h = without atoms (inputs atoms ws) word (stray (inputs atoms ws)) ws (ap has_stray (sym h.tree.same) ∙ written_stands h.tree.written)
+spells_without atoms word stray ws s h = without atoms (inputs atoms ws) word (stray (inputs atoms ws)) ws (no_strays atoms ws s h)
 
 skipped : (b c : Bool) (t u : Token) → c ≡ false → (if b && c then t else u) ≡ u
 skipped true c t u e = ap (λ x. if x then t else u) e

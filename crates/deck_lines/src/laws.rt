@@ -1,12 +1,14 @@
 //! Laws of lines.
 
 ghost use Rattle.std.specs.Prelude.{◌≡◌, ◌≢◌};
+ghost use Rattle.expr_script.specs.Joined.{joined};
 ghost use Rattle.deck_lines.specs.declared.fault.LineFault.{LineFault};
 ghost use Rattle.deck_lines.specs.declared.fault.LineFault.TheVariants.{Memory};
 ghost use Rattle.deck_lines.specs.declared.line.Line.{Line};
 ghost use Rattle.deck_lines.specs.Canonical.{canonical_words};
 ghost use Rattle.deck_lines.specs.Forms.{Words, Form, Fits};
 ghost use Rattle.deck_lines.specs.Lines.{IsLine, IsLineFault};
+ghost use Rattle.deck_lines.specs.Texts.{line_words};
 
 /// No words have two forms.
 pub fn one_form()
@@ -29,10 +31,12 @@ pub fn one_line()
     expr_script::laws::one_answer();
 }
 
-/// The canonical words of a line that some words say: they say the same line.
+/// The canonical words of a line that some words say: they say the same line, and a text of them is cut into them again.
 pub fn canonical_line()
     ensures says { (words : Words) (line : Line) → IsLine words line → IsLine (canonical_words line) line }
+    ensures cut { (words : Words) (line : Line) → IsLine words line → line_words (joined (canonical_words line)) ≡ canonical_words line }
 {
     expr_script::laws::canonical_script();
     expr_script::laws::canonical_body();
+    expr_script::laws::joined_words();
 }
