@@ -1,6 +1,6 @@
 -- No byte that ends what a line says stands in a script, and a text without one says all of itself.
 use Rattle.std.proofs.Common.{◌≡◌, ℕ, suc, ◌+◌, Bool, true, false, List, [], ◌∷◌, ◌++◌, take, refl, sym, ap, ◌∙◌, arith}
-use Rattle.std.specs.Prelude.{◌==◌, ◌&&◌, if◌then◌else◌, nat_lt, not, codes}
+use Rattle.std.specs.Prelude.{◌==◌, ◌&&◌, if◌then◌else◌, nat_lt, not, codes, ◌||◌}
 use Rattle.std.specs.List.{list_all, list_any, AllByRecursion, position_or_len}
 use Rattle.std.specs.Str.{bytes_eq}
 use Rattle.std.specs.Char.{is_ascii_digit}
@@ -17,10 +17,10 @@ use Rattle.expr_script.specs.Words.{number, name_token, look_up, short_signs, lo
 use Rattle.expr_script.specs.Tokens.{inputs, tokens_among}
 use Rattle.expr_script.specs.Spelled.{SpellsWith}
 use Rattle.deck_lines.specs.Forms.{Words}
-use Rattle.deck_lines.specs.Texts.{is_hash, without_comment, without_return, said}
+use Rattle.deck_lines.specs.Texts.{is_end, is_hash, without_comment, without_return, said}
 use Rattle.deck_lines.proofs.Cutting.{same_word, or_no, no_or}
 use Rattle.deck_lines.proofs.NoSigns.{is_stray, has_stray, no_strays}
-use Rattle.deck_lines.proofs.Wholes.{is_mark, IsClean, name_word, all_digits, bytes_clean}
+use Rattle.deck_lines.proofs.Wholes.{IsClean, name_word, all_digits, bytes_clean}
 use Rattle.deck_lines.proofs.Wording.{no_yes, both}
 
 -- a word is clean, or stands in no script
@@ -32,7 +32,7 @@ either w true t u p q = p refl
 either w false t u p q = q
 
 same_clean : (w word : List ℕ) (t : Token) → IsClean word → bytes_eq w word ≡ true → CleanToken w t
-same_clean w word t c e = record { clean = λ s. ap (list_any is_mark) (same_word w word e) ∙ c }
+same_clean w word t c e = record { clean = λ s. ap (list_any is_end) (same_word w word e) ∙ c }
 
 table_clean : (table : List (List ℕ × Token)) (w : List ℕ) (other : Token) → AllByRecursion (λ (row : List ℕ × Token). IsClean row.0) table → CleanToken w other → CleanToken w (look_up table w other)
 table_clean [] w other rows o = o
@@ -73,9 +73,9 @@ script_clean atoms ws s h = words_clean atoms (inputs atoms ws) ws (no_strays at
 
 clean_append : (a b : List ℕ) → IsClean a → IsClean b → IsClean (a ++ b)
 clean_append [] b p q = q
-clean_append (x ∷ a) b p q = let parts = or_no (is_mark x) (list_any is_mark a) p in no_or (is_mark x) (list_any is_mark (a ++ b)) parts.0 (clean_append a b parts.1 q)
+clean_append (x ∷ a) b p q = let parts = or_no (is_end x) (list_any is_end a) p in no_or (is_end x) (list_any is_end (a ++ b)) parts.0 (clean_append a b parts.1 q)
 
-behind_clean : (last : List ℕ) (ws : Words) → AllByRecursion IsClean ws → IsClean (behind last ws)
+pub behind_clean : (last : List ℕ) (ws : Words) → AllByRecursion IsClean ws → IsClean (behind last ws)
 behind_clean last [] all = refl
 behind_clean last (w ∷ ws) all = clean_append (if begins_word last && begins_word w then codes " " else []) (w ++ behind w ws) (space (begins_word last && begins_word w)) (clean_append w (behind w ws) all.0 (behind_clean w ws all.1))
   where
@@ -85,14 +85,14 @@ behind_clean last (w ∷ ws) all = clean_append (if begins_word last && begins_w
 
 no_return : (text : List ℕ) → IsClean text → without_return text ≡ text
 no_return [] h = refl
-no_return (b ∷ []) h = ap (λ t. if t then [] else b ∷ []) (or_no (b == 35) (b == 13) (or_no (is_mark b) false h).0).1
-no_return (b ∷ c ∷ text) h = ap (λ l. b ∷ l) (no_return (c ∷ text) (or_no (is_mark b) (list_any is_mark (c ∷ text)) h).1)
+no_return (b ∷ []) h = ap (λ t. if t then [] else b ∷ []) (or_no (b == 13) (b == 10) (or_no (b == 35) (b == 13 || b == 10) (or_no (is_end b) false h).0).1).0
+no_return (b ∷ c ∷ text) h = ap (λ l. b ∷ l) (no_return (c ∷ text) (or_no (is_end b) (list_any is_end (c ∷ text)) h).1)
 
 no_comment : (text : List ℕ) → IsClean text → without_comment text ≡ text
 no_comment [] h = refl
 no_comment (b ∷ text) h =
-    let parts = or_no (is_mark b) (list_any is_mark text) h in
-    by_test (b == 35) (or_no (b == 35) (b == 13) parts.0).0 ∙ ap (λ l. b ∷ l) (no_comment text parts.1)
+    let parts = or_no (is_end b) (list_any is_end text) h in
+    by_test (b == 35) (or_no (b == 35) (b == 13 || b == 10) parts.0).0 ∙ ap (λ l. b ∷ l) (no_comment text parts.1)
   where
     by_test : (t : Bool) → t ≡ false → take (if not t then 1 + position_or_len is_hash text else 0) (b ∷ text) ≡ b ∷ take (position_or_len is_hash text) text
     by_test true e = absurd (no_yes (sym e))

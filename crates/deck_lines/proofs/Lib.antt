@@ -22,3 +22,5 @@ pub mod Restating
 pub mod Wholes
 pub mod Cleaning
 pub mod Spacing
+pub mod Shorter
+pub mod ValueText

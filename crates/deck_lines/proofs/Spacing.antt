@@ -2,7 +2,7 @@
 use Rattle.std.proofs.Common.{◌≡◌, ℕ, ◌<◌, ◌≤◌, Bool, true, false, List, [], ◌∷◌, ◌++◌, length, map, refl, sym, ap, ◌∙◌, arith, subst, append-nil}
 use Rattle.std.specs.Prelude.{min, codes, Option, Some, None, nat_lt}
 use Rattle.std.specs.Option.{option_map}
-use Rattle.std.specs.List.{list_all, AllByRecursion, AllZip}
+use Rattle.std.specs.List.{list_all, list_any, AllByRecursion, AllZip}
 use Rattle.std.specs.Char.{is_ascii_digit}
 use Rattle.std.proofs.lemmas.Bool.Decides.{nat_tests}
 use Rattle.script_tree.specs.declared.limits.TheConstants.{SELECTORS}
@@ -15,14 +15,14 @@ use Rattle.expr_script.specs.Printed.{printed_words}
 use Rattle.expr_script.specs.Spelled.{SpellsScript, SpellsBody}
 use Rattle.signal_graph.specs.Declarations.{Part}
 use Rattle.deck_lines.specs.declared.line.Line.{Line}
-use Rattle.deck_lines.specs.Canonical.{value_words, set_form, part_form, canonical_words}
+use Rattle.deck_lines.specs.Canonical.{value_words, set_form, part_form, canonical_words, line_text}
 use Rattle.deck_lines.specs.Cuts.{separated}
 use Rattle.deck_lines.specs.Forms as form
 use Rattle.deck_lines.specs.Forms.{Words, SetForm, PartForm, Form, IsName, IsSet, IsPart, IsOver, IsProper, one_each, with_commas, spelled_set, spelled_part, spelled_looks, pieces_of}
 use Rattle.deck_lines.specs.Lines.{SaysSet, SaysPart, SaysBody, Says, IsLine}
-use Rattle.deck_lines.specs.Texts.{line_words}
+use Rattle.deck_lines.specs.Texts.{is_end, line_words}
 use Rattle.deck_lines.specs.Values.{is_digits, value_of}
-use Rattle.deck_lines.proofs.Cleaning.{script_clean, all_said}
+use Rattle.deck_lines.proofs.Cleaning.{script_clean, behind_clean, all_said}
 use Rattle.deck_lines.proofs.Restating.{Canons}
 use Rattle.deck_lines.proofs.ValueBack.{by_spelling, value_back}
 use Rattle.deck_lines.proofs.Wholes.{IsWord, IsClean, name_word, digits_word, Apart, word_apart, minus_apart, both_apart, then_behind, none_behind, sign_behind, separated_apart, comma, colon, equals}
@@ -163,8 +163,12 @@ by_form k (form.Read looks) line p s =
     subst (λ (l : Line). Cuts (canonical_words l)) (sym s)
     (cuts (codes "read" ∷ with_commas looks) (both_apart (codes "read" ∷ []) (with_commas looks) (word_apart (codes "read") (record { some = omega arith; all = refl })) (names_apart looks p.0 p.1)))
 
--- the canonical line is cut into the words that it was written of
-pub cut_again : Scripts → ((list : Words) → StandApart [] list → words (joined list) ≡ list) → (list : Words) (line : Line) → IsLine list line → line_words (joined (canonical_words line)) ≡ canonical_words line
+-- the canonical text of a line is cut into the words that it was written of
+pub cut_again : Scripts → ((list : Words) → StandApart [] list → words (joined list) ≡ list) → (list : Words) (line : Line) → IsLine list line → line_words (line_text line) ≡ canonical_words line
 cut_again k back list line l =
     let known = by_form k l.f line l.fits.proper l.says in
     ap words (all_said (canonical_words line) known.clean) ∙ back (canonical_words line) known.stand
+
+-- and it is one line
+pub whole_again : Scripts → (list : Words) (line : Line) → IsLine list line → list_any is_end (line_text line) ≡ false
+whole_again k list line l = behind_clean [] (canonical_words line) (by_form k l.f line l.fits.proper l.says).clean

@@ -15,6 +15,7 @@ use Rattle.expr_script.proofs.FoundCut.{second_no_word}
 use Rattle.expr_script.proofs.Lean.{digit_word}
 use Rattle.expr_script.proofs.OneCut.{word_no_blank}
 use Rattle.deck_lines.specs.Forms.{Words, IsName}
+use Rattle.deck_lines.specs.Texts.{is_end}
 use Rattle.deck_lines.specs.Cuts.{each_behind, separated}
 use Rattle.deck_lines.proofs.Cutting.{no_or}
 use Rattle.deck_lines.proofs.Judging.{all_both}
@@ -96,26 +97,24 @@ word_after (c ∷ w) [] e = refl
 word_after (c ∷ w) (b ∷ []) e = no_pair b c (λ p. no_yes (sym (second_no_word b c p) ∙ e))
 word_after (c ∷ w) (b ∷ b' ∷ last) e = refl
 
--- the bytes that end what a line says
-abbrev pub is_mark : ℕ → Bool
-is_mark b = b == 35 || b == 13
-
+-- none of these bytes ends a line or what it says
 abbrev pub IsClean : List ℕ → Type 0
-IsClean w = list_any is_mark w ≡ false
+IsClean w = list_any is_end w ≡ false
 
-word_no_mark : (b : ℕ) → is_word b ≡ true → is_mark b ≡ false
-word_no_mark b h = by_tests (b == 35) refl (b == 13) refl
+word_no_end : (b : ℕ) → is_word b ≡ true → is_end b ≡ false
+word_no_end b h = by_tests (b == 35) refl (b == 13) refl (b == 10) refl
   where
-    by_tests : (t : Bool) → (b == 35) ≡ t → (u : Bool) → (b == 13) ≡ u → (t || u) ≡ false
-    by_tests true e u f = let same : b ≡ 35 = grind (arith, nat_tests, e) in absurd (no_yes (sym (ap is_word same) ∙ h))
-    by_tests false e true f = let same : b ≡ 13 = grind (arith, nat_tests, f) in absurd (no_yes (sym (ap is_word same) ∙ h))
-    by_tests false e false f = refl
+    by_tests : (t : Bool) → (b == 35) ≡ t → (u : Bool) → (b == 13) ≡ u → (v : Bool) → (b == 10) ≡ v → (t || (u || v)) ≡ false
+    by_tests true e u f v g = let same : b ≡ 35 = grind (arith, nat_tests, e) in absurd (no_yes (sym (ap is_word same) ∙ h))
+    by_tests false e true f v g = let same : b ≡ 13 = grind (arith, nat_tests, f) in absurd (no_yes (sym (ap is_word same) ∙ h))
+    by_tests false e false f true g = let same : b ≡ 10 = grind (arith, nat_tests, g) in absurd (no_yes (sym (ap is_word same) ∙ h))
+    by_tests false e false f false g = refl
 
 pub bytes_clean : (w : List ℕ) → list_all is_word w ≡ true → IsClean w
 bytes_clean [] h = refl
 bytes_clean (b ∷ bs) h =
     let parts = both (is_word b) (list_all is_word bs) h in
-    no_or (is_mark b) (list_any is_mark bs) (word_no_mark b parts.0) (bytes_clean bs parts.1)
+    no_or (is_end b) (list_any is_end bs) (word_no_end b parts.0) (bytes_clean bs parts.1)
 
 -- words that stand apart from whatever is before them, and from what stands apart behind them
 pub record Apart (ws : Words) : Type 0 where

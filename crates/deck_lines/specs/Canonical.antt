@@ -4,6 +4,7 @@ use Rattle.std.specs.Option.{option_map}
 use Rattle.script_tree.specs.declared.value.Value.{Value}
 use Rattle.script_tree.specs.declared.value.Value.TheVariants.{Int, Bool as Truth, Fault as Faulty}
 use Rattle.script_tree.specs.Printed.{fault_text}
+use Rattle.expr_script.specs.Joined.{joined}
 use Rattle.expr_script.specs.Printed.{printed_words}
 use Rattle.signal_graph.specs.declared.builder.DeclKind.TheVariants as kind
 use Rattle.signal_graph.specs.declared.call.Call.TheVariants as call
@@ -41,3 +42,7 @@ canonical_form (Calls (call.Read looks)) = form.Read looks
 -- its words
 abbrev pub canonical_words : Line → Words
 canonical_words line = spelled (canonical_form line)
+
+-- its canonical text, without a line feed
+abbrev pub line_text : Line → List ℕ
+line_text line = joined (canonical_words line)
