@@ -16,3 +16,11 @@ pub mod Texting
 pub mod Finding
 pub mod OneAnswer
 pub mod OneLine
+pub mod ValueBack
+pub mod NoSigns
+pub mod Restating
+pub mod Wholes
+pub mod Cleaning
+pub mod Spacing
+pub mod Shorter
+pub mod ValueText

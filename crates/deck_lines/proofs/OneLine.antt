@@ -12,7 +12,7 @@ use Rattle.signal_graph.specs.declared.builder.DeclKind.TheVariants as kind
 use Rattle.signal_graph.specs.declared.call.Call.TheVariants as call
 use Rattle.signal_graph.specs.Declarations.{Part}
 use Rattle.deck_lines.specs.declared.line.Line.{Line}
-use Rattle.deck_lines.specs.declared.line.Line.TheVariants.{Nothing, Declares, Thread, Calls}
+use Rattle.deck_lines.specs.declared.line.Line.TheVariants.{Declares, Calls}
 use Rattle.deck_lines.specs.Forms as form
 use Rattle.deck_lines.specs.Forms.{Words, SetForm, PartForm, Form}
 use Rattle.deck_lines.specs.Lines.{SaysSet, SaysPart, SaysBody, Says, IsLine}
