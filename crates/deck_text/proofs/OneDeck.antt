@@ -23,9 +23,9 @@ use Rattle.deck_text.specs.declared.reason.Reason.TheVariants.{LineTooLong, Synt
 use Rattle.deck_text.specs.Decks.{Decked}
 use Rattle.deck_text.specs.Faults.{fault_at}
 use Rattle.deck_text.specs.Lines.{lines, with_line_feeds, end_of}
-use Rattle.deck_text.specs.Reasons.{Part, Declaring, Beginning, AreDenied, Place, Has, reasons, IsFirstOf, IsFaultyLine, IsThreadless, IsDeckFault}
+use Rattle.deck_text.specs.Reasons.{Declaring, Beginning, AreDenied, Place, Has, reasons, IsFirstOf, IsFaultyLine, IsThreadless, IsDeckFault}
 use Rattle.deck_text.specs.Spelled.{Joins, Adds, Extends, Lead, SpellsDeck, nothing_yet}
-use Rattle.deck_text.proofs.Reasoning.{OneForm, Apart, said_part, line_part, one_part, Stands, well_placed, no_syntax, no_limit}
+use Rattle.deck_text.proofs.Reasoning.{IsDeclaring, IsBeginning, OneForm, Apart, said_part, line_part, one_part, Stands, well_placed, no_syntax, no_limit}
 use Rattle.deck_text.proofs.Refusing.{OneLine}
 
 -- lists that end alike
@@ -74,14 +74,6 @@ few_by false d o e = absurd (none-some _ (sym e))
 
 few_nodes : (g : Graph) (name : List ℕ) (kind : DeclKind) → refusal g name kind ≡ None → length g.nodes < NODES
 few_nodes g name kind e = let b = few_by (nat_lt (length g.nodes) NODES) (is_declared g.names name) (find (is_undeclared g.names) (names_of kind)) e in grind (arith, nat_tests, b)
-
-abbrev IsDeclaring : Part → Type 0
-IsDeclaring Declaring = Unit {0}
-IsDeclaring part = ⊥
-
-abbrev IsBeginning : Part → Type 0
-IsBeginning Beginning = Unit {0}
-IsBeginning part = ⊥
 
 free_of_nodes : (line : said_lines.Line) (old new : Decked) → Adds line old new → said_part line ≡ Declaring → length old.graph.nodes < NODES
 free_of_nodes said.Nothing old new x e = absurd (subst IsDeclaring (sym e) tt)

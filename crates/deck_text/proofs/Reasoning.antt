@@ -135,7 +135,7 @@ pub beyond_part : (words : Words) (l : Limit) → IsLineFault words (fault.TooMa
 beyond_part words l g = record { f = g.f; fits = g.fits; for = passes_part g.f l g.beyond.beyond }
 
 -- parts differ
-abbrev IsDeclaring : Part → Type 0
+abbrev pub IsDeclaring : Part → Type 0
 IsDeclaring Declaring = Unit {0}
 IsDeclaring part = ⊥
 
@@ -143,7 +143,7 @@ abbrev IsCalling : Part → Type 0
 IsCalling Calling = Unit {0}
 IsCalling part = ⊥
 
-abbrev IsBeginning : Part → Type 0
+abbrev pub IsBeginning : Part → Type 0
 IsBeginning Beginning = Unit {0}
 IsBeginning part = ⊥
 

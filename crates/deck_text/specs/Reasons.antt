@@ -104,7 +104,7 @@ pub record IsThreadless (bytes : List ℕ) : Type 0 where
   pub short : length bytes ≤ DECK_BYTES
   pub none : HasNoThread (lines bytes)
 
--- why bytes spell no deck: the first faulty line with its first reason, or no thread; memory may always want
+-- why bytes spell no deck: the first faulty line with its first reason, or no thread; want of memory may always come
 abbrev pub IsDeckFault : List ℕ → DeckFault → Type 0
 IsDeckFault bytes (fault.Syntax number) = IsFaultyLine bytes number Syntax
 IsDeckFault bytes (fault.DoubleName number) = IsFaultyLine bytes number DoubleName

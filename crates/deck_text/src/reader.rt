@@ -241,7 +241,7 @@ impl Reader {
 /// first of its reasons, in this order: it holds the byte number 16,777,217; it has more than 4,096 bytes; it has none
 /// of the forms; it goes beyond a limit, in the order of `What`; its name is declared before; it uses a name that is
 /// not declared before. `NoThread` comes where no line is faulty and none begins a thread. Names in calls are not
-/// looked up. Takes memory.
+/// looked up. Takes memory; `Memory` comes only for want of it, at whichever line there is none.
 #[tactic(auto, using(crate::proofs::Spelling::led_laws))]
 pub fn read_deck(alloc: Global, bytes: &[u8]) -> Result<Deck, DeckFault>
     requires { length bytes.now < 2 ^ 32 }
