@@ -29,7 +29,7 @@ pub record Stable {A : Type 0} (read : LiveCall → A) : Type 0 where
   pub looks : (v : Value) (c : LiveCall) → read (with_look v c) ≡ read c
   pub tells : (es : List Entry) (t n : ℕ) (c : LiveCall) → read (tell_call es t n c) ≡ read c
 
-ensured : {A : Type 0} (read : LiveCall → A) (s : Core) (t m u : ℕ) → read (call (ensure_mark s t m) u) ≡ read (call s u)
+pub ensured : {A : Type 0} (read : LiveCall → A) (s : Core) (t m u : ℕ) → read (call (ensure_mark s t m) u) ≡ read (call s u)
 ensured {A} read s t m u = go (has (entries s m) t)
   where
     go : (b : Bool) → read (call (elim b [ true ↦ s | false ↦ enter s t m Mark ]) u) ≡ read (call s u)

@@ -46,7 +46,7 @@ part : (s : Core) (old : ℕ → ℕ → Bool) (t n : ℕ) → Standing s old �
 part s old t n h = Ascends-right (Comes s old) (front (stops s t) (entries s n)) (rest (stops s t) (entries s n)) (subst (Ascends (Comes s old)) (sym (front-rest (stops_call s t) (entries s n))) (h.lists n))
 
 -- A framing t: all behind its place frame.
-framing-part : (s : Core) (old : ℕ → ℕ → Bool) → Standing s old → (t n : ℕ) → live s t ≡ true → frames s t ≡ true → (w : ℕ) → has (rest (stops s t) (entries s n)) w ≡ true → frames s w ≡ true
+pub framing-part : (s : Core) (old : ℕ → ℕ → Bool) → Standing s old → (t n : ℕ) → live s t ≡ true → frames s t ≡ true → (w : ℕ) → has (rest (stops s t) (entries s n)) w ≡ true → frames s w ≡ true
 framing-part s old h t n lt ft = each_of_part (Comes s old) (λ w. frames s w ≡ true) (rest (stops s t) (entries s n)) (part s old t n h)
     (λ r e. head-framing s old h t r lt ft (rest-stops (stops_call s t) (entries s n) r e)) (after-framing s old h)
 

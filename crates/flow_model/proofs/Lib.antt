@@ -28,3 +28,16 @@ pub mod Pigeons
 pub mod Earlier
 pub mod FullLists
 pub mod NextIsAllowed
+pub mod Readings
+pub mod FramedWith
+pub mod Places
+pub mod WantsOfSteps
+pub mod Covering
+pub mod SpreadOfSteps
+pub mod DiscoverSpreads
+pub mod RunsEnd
+pub mod FinishSpreads
+pub mod FrameSpreads
+pub mod FramePlaces
+pub mod CollectSpreads
+pub mod StepsSpread

@@ -28,7 +28,7 @@ pub data ListStep (graph : Graph) (s : Core) (n : ℕ) : List Entry → Type 0 w
 moved : (graph : Graph) (s : Core) (n m : ℕ) (es : List Entry) → m ≡ n → ListStep graph s n es → ListStep graph s m es
 moved graph s n m es e h = subst (λ (k : ℕ). ListStep graph s k es) (sym e) h
 
-same_cell : (graph : Graph) (s : Core) (n : ℕ) (f : Cell → Cell) → ((c : Cell) → (f c).entries ≡ c.entries) → (m : ℕ) → entries (with_cell s n f) m ≡ entries s m
+pub same_cell : (graph : Graph) (s : Core) (n : ℕ) (f : Cell → Cell) → ((c : Cell) → (f c).entries ≡ c.entries) → (m : ℕ) → entries (with_cell s n f) m ≡ entries s m
 same_cell graph s n f same m = go (with_cell-entries s n f (λ es. es) same m)
   where
     go : (entries (with_cell s n f) m ≡ entries s m) ⊎ ((m ≡ n) × (entries (with_cell s n f) m ≡ entries s m)) → entries (with_cell s n f) m ≡ entries s m

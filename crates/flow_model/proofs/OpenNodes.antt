@@ -106,14 +106,14 @@ stated-frames s t n u m x h = go (true_or_false (m == n))
 
 -- ---- the open nodes after one call changes
 
-opened-opens : (q : Core) (t n : ℕ) (outs : List ℕ) (u m : ℕ) → live q t ≡ true → opens (with_call q t (opened n outs)) u m ≡ comes_at (opens q u m) t n u m
+pub opened-opens : (q : Core) (t n : ℕ) (outs : List ℕ) (u m : ℕ) → live q t ≡ true → opens (with_call q t (opened n outs)) u m ≡ comes_at (opens q u m) t n u m
 opened-opens q t n outs u m lt =
     let r = with_call-field (λ c. is_in m c.open_nodes) q t (opened n outs) (λ c. refl) u lt in
     let p = in-put m n (call q t).open_nodes in
     let e = λ (x : (u == t) ≡ true). ap (λ (w : ℕ). opens q w m) (same_number u t x) in
     grind (arith, r, p, e)
 
-closed-opens : (q : Core) (t n : ℕ) (b : Bool) (u m : ℕ) → live q t ≡ true → opens (with_call q t (closed n b)) u m ≡ goes_at (opens q u m) t n u m
+pub closed-opens : (q : Core) (t n : ℕ) (b : Bool) (u m : ℕ) → live q t ≡ true → opens (with_call q t (closed n b)) u m ≡ goes_at (opens q u m) t n u m
 closed-opens q t n b u m lt =
     let r = with_call-field (λ c. is_in m c.open_nodes) q t (closed n b) (λ c. refl) u lt in
     let p = in-take_out m n (call q t).open_nodes in
@@ -123,7 +123,7 @@ closed-opens q t n b u m lt =
 -- ---- the steps
 
 -- what is said of the state after a step
-abbrev Opens : Core → Type 0
+abbrev pub Opens : Core → Type 0
 Opens q = (u m : ℕ) → opens q u m ≡ at is_frame (entries q m) u
 
 -- the same Frames and the same open nodes
@@ -137,7 +137,7 @@ same_lists s n f k u m = go (with_cell-cell s n f m)
     go (inl e) = ap (λ (c : Cell). at is_frame c.entries u) e
     go (inr e) = ap (λ (c : Cell). at is_frame c.entries u) e.1 ∙ ap (λ (es : List Entry). at is_frame es u) (k (cell s m))
 
-same_opens : (s : Core) (t : ℕ) (f : LiveCall → LiveCall) → ((c : LiveCall) → (f c).version ≡ c.version) → ((c : LiveCall) → (f c).open_nodes ≡ c.open_nodes) → (u m : ℕ) → opens (with_call s t f) u m ≡ opens s u m
+pub same_opens : (s : Core) (t : ℕ) (f : LiveCall → LiveCall) → ((c : LiveCall) → (f c).version ≡ c.version) → ((c : LiveCall) → (f c).open_nodes ≡ c.open_nodes) → (u m : ℕ) → opens (with_call s t f) u m ≡ opens s u m
 same_opens s t f v k u m = with_call-keeps (λ c. is_in m c.open_nodes) s t f v (λ c. ap (is_in m) (k c)) u
 
 ensured-opens : (s : Core) (t n : ℕ) → Opens s → Opens (ensure_mark s t n)
@@ -147,7 +147,7 @@ ensured-opens s t n h = go (has (entries s n) t) refl
     go true e = h
     go false e = opens-kept s (enter s t n Mark) h (λ u m. refl) (λ u m. marked-frames s t n u m e)
 
-finished-opens : (graph : Graph) (s : Core) → IsLawful graph s → (t n : ℕ) (v : Value) (c : Bool) (ps : List (Option ℕ)) → at_front graph s t n ≡ true → Opens (finish s t n v c ps)
+pub finished-opens : (graph : Graph) (s : Core) → IsLawful graph s → (t n : ℕ) (v : Value) (c : Bool) (ps : List (Option ℕ)) → at_front graph s t n ≡ true → Opens (finish s t n v c ps)
 finished-opens graph s h t n v c ps f u m =
     let lt = executes-live s t (at_front-executes graph s t n f) in
     let fr = first_open-frame (entries s n) t (h.one_entry n) (head-first (entries s n) t (at_front-heads graph s t n f)) in

@@ -38,7 +38,7 @@ Ascends-from R (e ∷ es) q h = (λ v k. h e.version v (head-behind v k), Ascend
         let x : (e.version == u) ≡ false = not_true _ (λ y. is_not_true _ q.0 (subst (λ (w : ℕ). has es w ≡ true) (sym (same_number e.version u y)) a)) in
         rw (x, behind) k
 
-recorded-live : (graph : Graph) (s : Core) → IsLawful graph s → (u v : ℕ) → reaches s.pairs u v ≡ true → (live s u && live s v) ≡ true
+pub recorded-live : (graph : Graph) (s : Core) → IsLawful graph s → (u v : ℕ) → reaches s.pairs u v ≡ true → (live s u && live s v) ≡ true
 recorded-live graph s h u v r =
     let a = first_pair s.pairs u v r in
     let b = last_pair s.pairs u v r in

@@ -1,11 +1,11 @@
 -- Membership in sets of nodes.
-use Rattle.std.proofs.Common.{◌≡◌, ℕ, Bool, true, false, ◌&&◌, ◌||◌, not, ◌==◌, arith, List, [], ◌∷◌, refl, ◌<◌, ◌≢◌}
+use Rattle.std.proofs.Common.{◌≡◌, ℕ, Bool, true, false, ◌&&◌, ◌||◌, not, ◌==◌, arith, List, [], ◌∷◌, refl, ap, ◌<◌, ◌≢◌}
 use Rattle.std.specs.Prelude.{nat_lt}
 use Rattle.std.specs.List.{AllByRecursion}
 use Rattle.std.proofs.lemmas.Bool.Decides.{eqb_tells}
 use Rattle.signal_graph.specs.Graph.{is_in}
-use Rattle.flow_model.specs.Sets.{put, take_out, put_all, IsSet}
-use Rattle.flow_model.proofs.Truths.{other_number}
+use Rattle.flow_model.specs.Sets.{put, take_out, put_all, without, IsSet}
+use Rattle.flow_model.proofs.Truths.{same_number, other_number}
 
 pub in-put : (m n : ℕ) (xs : List ℕ) → is_in m (put n xs) ≡ ((m == n) || is_in m xs)
 in-put m n [] = grind (arith, eqb_tells)
@@ -14,6 +14,14 @@ in-put m n (x ∷ xs) = let r = in-put m n xs in grind (arith, eqb_tells, r)
 pub in-take_out : (m n : ℕ) (xs : List ℕ) → is_in m (take_out n xs) ≡ (is_in m xs && not (m == n))
 in-take_out m n [] = refl
 in-take_out m n (x ∷ xs) = let r = in-take_out m n xs in grind (arith, eqb_tells, r)
+
+pub in-put_all : (m : ℕ) (ns xs : List ℕ) → is_in m (put_all ns xs) ≡ (is_in m ns || is_in m xs)
+in-put_all m [] xs = refl
+in-put_all m (n ∷ ns) xs = let r = in-put_all m ns (put n xs) in let p = in-put m n xs in grind (arith, eqb_tells, r, p)
+
+pub in-without : (m : ℕ) (ns xs : List ℕ) → is_in m (without ns xs) ≡ (is_in m ns && not (is_in m xs))
+in-without m [] xs = refl
+in-without m (n ∷ ns) xs = let r = in-without m ns xs in let e = λ (k : (n == m) ≡ true). ap (λ (w : ℕ). is_in w xs) (same_number n m k) in grind (arith, eqb_tells, r, e)
 
 -- ---- sets stay sets
 

@@ -10,7 +10,7 @@ ghost use Rattle.flow_model.specs.declared.step.Step.{Step};
 ghost use Rattle.flow_model.specs.declared.step.Turn.TheVariants as Turn;
 ghost use Rattle.flow_model.specs.Next.{next, next_at};
 ghost use Rattle.flow_model.specs.Steps.{allowed, apply, can_begin, begin};
-ghost use Rattle.flow_model.specs.Lawful.{IsLawful, OrderIsKept, FramingComesLast, EndedIsPrefix, FramesAreOpen, VersionsAreFresh, IsCallRight, SetsAreSets, RoomIsKept};
+ghost use Rattle.flow_model.specs.Lawful.{IsLawful, OrderIsKept, FramingComesLast, EndedIsPrefix, FramesAreOpen, VersionsAreFresh, IsCallRight, SetsAreSets, RoomIsKept, WantsAreFree, FramesSpread};
 ghost use Rattle.flow_model.specs.Examples.{PlaysOut, retrofit_log_with};
 ghost use Rattle.flow_model.specs.Examples.{retrofit_graph, retrofit_scripts, retrofit_schedule, retrofit_moves, retrofit_log, retrofit_finals};
 ghost use Rattle.flow_model.specs.Examples.{other_order_graph, other_order_scripts, other_order_schedule, other_order_moves, other_order_log, other_order_finals};
@@ -67,6 +67,19 @@ pub fn lists_stay()
     ensures entries { (graph : Graph) (s : Core) (step : Step) → IsLawful graph s → allowed graph s step ≡ true → (n : ℕ) → IsUnique (entries (apply graph s step) n) }
     ensures lists { (graph : Graph) (s : Core) (step : Step) → IsLawful graph s → length (apply graph s step).cells ≡ length graph.nodes }
     ensures room { (graph : Graph) (s : Core) (step : Step) → IsLawful graph s → allowed graph s step ≡ true → (n : ℕ) → length (entries (apply graph s step) n) ≤ (apply graph s step).callers + 9 }
+{}
+
+/// Each step keeps that where a call has a Frame, each node that reacts is open for it or wanted by it: each whose scripts name
+/// this one, and each choose node with a run of this one that covers the call.
+pub fn frames_stay_spread()
+    ensures step { (graph : Graph) (s : Core) (step : Step) → IsLawful graph s → allowed graph s step ≡ true → FramesSpread graph (apply graph s step) }
+    ensures begin { (graph : Graph) (s : Core) (caller : ℕ) (call : Call) → IsLawful graph s → FramesSpread graph (begin graph s caller call) }
+{}
+
+/// Each step keeps that what a call wants is a node of the graph that it has neither open nor Done.
+pub fn wants_stay_free()
+    ensures step { (graph : Graph) (s : Core) (step : Step) → IsLawful graph s → allowed graph s step ≡ true → WantsAreFree graph (apply graph s step) }
+    ensures begin { (graph : Graph) (s : Core) (caller : ℕ) (call : Call) → IsLawful graph s → can_begin graph s caller call ≡ true → WantsAreFree graph (begin graph s caller call) }
 {}
 
 /// Each step keeps what live calls set and look at: what they name, within the limits.
