@@ -187,9 +187,9 @@ same_line one bytes m n r s f g e l =
     let deck = lead_same one g.before nothing_yet f.deck g.deck (subst (λ (ls : List (List ℕ)). Lead ls nothing_yet f.deck) e f.lead) g.lead in
     let p : Place = record { deck = g.deck; end = end_of bytes (g.before ++ g.line ∷ []); line = g.line } in
     let first : IsFirstOf reasons p r =
-      subst (λ (d : Decked). IsFirstOf reasons (record { deck = d; end = end_of bytes (g.before ++ g.line ∷ []); line = g.line }) r) deck
-      (subst (λ (x : List ℕ). IsFirstOf reasons (record { deck = f.deck; end = end_of bytes (g.before ++ x ∷ []); line = x }) r) l
-      (subst (λ (b : List (List ℕ)). IsFirstOf reasons (record { deck = f.deck; end = end_of bytes (b ++ f.line ∷ []); line = f.line }) r) e f.first)) in
+    subst (λ (d : Decked). IsFirstOf reasons (record { deck = d; end = end_of bytes (g.before ++ g.line ∷ []); line = g.line }) r) deck
+    (subst (λ (x : List ℕ). IsFirstOf reasons (record { deck = f.deck; end = end_of bytes (g.before ++ x ∷ []); line = x }) r) l
+    (subst (λ (b : List (List ℕ)). IsFirstOf reasons (record { deck = f.deck; end = end_of bytes (b ++ f.line ∷ []); line = f.line }) r) e f.first)) in
     (f.counted ∙ ap (λ (b : List (List ℕ)). length b + 1) e ∙ sym g.counted, first_same reasons p r s first g.first)
 
 one_faulty : OneForm → Apart → OneLine → (bytes : List ℕ) (m n : ℕ) (r s : Reason) → IsFaultyLine bytes m r → IsFaultyLine bytes n s → (m ≡ n) × (r ≡ s)

@@ -108,7 +108,7 @@ beyond_limit one only p l f s g nodes =
     let w = line_words p.line in
     let a = beyond_part w l g in
     after_bytes p (limit_reason l) f (after_syntax one p (limit_reason l) (limit_part l) a s (beyond_no_syntax only w l g)
-      (after_threads p (limit_reason l) nodes (λ h. not_begins one w l a h.0) (first_limit only p l g)))
+    (after_threads p (limit_reason l) nodes (λ h. not_begins one w l a h.0) (first_limit only p l g)))
   where
     not_begins : OneForm → (w : Words) (l : Limit) → Are w (limit_part l) → Are w Beginning → ⊥
     not_begins one w limit.Levels a b = not_beginning one w a b
@@ -127,8 +127,8 @@ named one apart p name kind r f l s few rest =
     let w = line_words p.line in
     let a = line_part w (said.Declares name kind) l in
     after_bytes p r f (after_syntax one p r Declaring a s (no_syntax apart w (said.Declares name kind) l)
-      (after_threads p r (λ h. let m = h.1 in omega (arith, few, m)) (λ h. not_beginning one w a h.0)
-        (after_limits p r (λ limit. no_limit apart w (said.Declares name kind) limit l) rest)))
+    (after_threads p r (λ h. let m = h.1 in omega (arith, few, m)) (λ h. not_beginning one w a h.0)
+    (after_limits p r (λ limit. no_limit apart w (said.Declares name kind) limit l) rest)))
 
 -- what a graph's refusal tells of its nodes
 abbrev IsFull : GraphFault → Type 0
@@ -188,10 +188,10 @@ not_declared one apart same p name kind (TooMany Sets) f l h = absurd h
 not_declared one apart same p name kind (TooMany Looks) f l h = absurd h
 not_declared one apart same p name kind DoubleName f l h =
     named one apart p name kind DoubleName f l h.0 (nodes_left p.deck.graph name kind graph.DoubleName (λ x. x) h.1)
-      (inl (refl, record { name = name; kind = kind; says = l; refused = h.1 }))
+    (inl (refl, record { name = name; kind = kind; says = l; refused = h.1 }))
 not_declared one apart same p name kind UnknownInput f l h =
     named one apart p name kind UnknownInput f l h.0 (nodes_left p.deck.graph name kind (graph.UnknownInput h.1) (λ x. x) h.2)
-      (inr (λ d. double_not_unknown (refusal p.deck.graph name kind) h.1 h.2 (one_refusal same (line_words p.line) p.deck name kind graph.DoubleName l d), inl (refl, (h.1, record { name = name; kind = kind; says = l; refused = h.2 }))))
+    (inr (λ d. double_not_unknown (refusal p.deck.graph name kind) h.1 h.2 (one_refusal same (line_words p.line) p.deck name kind graph.DoubleName l d), inl (refl, (h.1, record { name = name; kind = kind; says = l; refused = h.2 }))))
 not_declared one apart same p name kind Memory f l h = tt
 
 -- why a thread isn't begun
@@ -258,12 +258,12 @@ late_declaring reader end line l r f e g b h =
 full_declaring : OneForm → OneFault → (reader : Reader) (end : ℕ) (line : List ℕ) (l : Limit) (r : Reason) → Fitting (at reader end line) → limit_part l ≡ Declaring → IsLineFault (line_words line) (fault.TooMany l) → reader.begun ≡ false → NODES ≤ length reader.builder.nodes → r ≡ TooMany Nodes → IsReason (at reader end line) r
 full_declaring one only reader end line l r f e g b n h =
     subst (IsReason (at reader end line)) (sym h)
-      (too_many_nodes one (at reader end line) f (declares_beyond (line_words line) l e g) (not_begun reader.begun reader.threads.items reader.calls.items b) (beyond_no_syntax only (line_words line) l g) n)
+    (too_many_nodes one (at reader end line) f (declares_beyond (line_words line) l e g) (not_begun reader.begun reader.threads.items reader.calls.items b) (beyond_no_syntax only (line_words line) l g) n)
 
 free_declaring : OneForm → OneFault → (reader : Reader) (end : ℕ) (line : List ℕ) (l : Limit) (r : Reason) → Fitting (at reader end line) → limit_part l ≡ Declaring → IsLineFault (line_words line) (fault.TooMany l) → reader.begun ≡ false → length reader.builder.nodes < NODES → r ≡ limit_reason l → IsReason (at reader end line) r
 free_declaring one only reader end line l r f e g b n h =
     subst (IsReason (at reader end line)) (sym h)
-      (limit_is (at reader end line) l (beyond_limit one only (at reader end line) l f (subst (λ part. Stands part (deck_of reader)) (sym e) (not_begun reader.begun reader.threads.items reader.calls.items b)) g (λ m. let k = m.1 in omega (arith, n, k))))
+    (limit_is (at reader end line) l (beyond_limit one only (at reader end line) l f (subst (λ part. Stands part (deck_of reader)) (sym e) (not_begun reader.begun reader.threads.items reader.calls.items b)) g (λ m. let k = m.1 in omega (arith, n, k))))
 
 by_nodes : {P : Type 0} (n : ℕ) → (NODES ≤ n → P) → (n < NODES → P) → P
 by_nodes {P = P} n full free = by (nat_lt n NODES) refl
@@ -280,8 +280,8 @@ declaring : OneForm → OneFault → (reader : Reader) (end : ℕ) (line : List 
 declaring one only reader end line l r f e g h = by_begun reader.begun
     (λ b. late_declaring reader end line l r f e g b (h.begun b))
     (λ b. by_nodes (length reader.builder.nodes)
-      (λ n. full_declaring one only reader end line l r f e g b n (h.full b n))
-      (λ n. free_declaring one only reader end line l r f e g b n (h.free b n)))
+    (λ n. full_declaring one only reader end line l r f e g b n (h.full b n))
+    (λ n. free_declaring one only reader end line l r f e g b n (h.free b n)))
 
 early_calling : (reader : Reader) (end : ℕ) (line : List ℕ) (l : Limit) (r : Reason) → Fitting (at reader end line) → limit_part l ≡ Calling → IsLineFault (line_words line) (fault.TooMany l) → reader.begun ≡ false → r ≡ Syntax → IsReason (at reader end line) r
 early_calling reader end line l r f e g b h =
@@ -290,8 +290,8 @@ early_calling reader end line l r f e g b h =
 begun_calling : OneForm → OneFault → (reader : Reader) (end : ℕ) (line : List ℕ) (l : Limit) (r : Reason) → Fitting (at reader end line) → limit_part l ≡ Calling → IsLineFault (line_words line) (fault.TooMany l) → reader.begun ≡ true → r ≡ limit_reason l → IsReason (at reader end line) r
 begun_calling one only reader end line l r f e g b h =
     subst (IsReason (at reader end line)) (sym h)
-      (limit_is (at reader end line) l (beyond_limit one only (at reader end line) l f (subst (λ part. Stands part (deck_of reader)) (sym e) (some_begun reader b)) g
-        (λ m. not_calling one (line_words line) m.0 (subst (Are (line_words line)) e (beyond_part (line_words line) l g)))))
+    (limit_is (at reader end line) l (beyond_limit one only (at reader end line) l f (subst (λ part. Stands part (deck_of reader)) (sym e) (some_begun reader b)) g
+    (λ m. not_calling one (line_words line) m.0 (subst (Are (line_words line)) e (beyond_part (line_words line) l g)))))
 
 calling : OneForm → OneFault → (reader : Reader) (end : ℕ) (line : List ℕ) (l : Limit) (r : Reason) → Fitting (at reader end line) → limit_part l ≡ Calling → IsLineFault (line_words line) (fault.TooMany l) → BeyondCalling reader l r → IsReason (at reader end line) r
 calling one only reader end line l r f e g h = by_begun reader.begun

@@ -11,7 +11,7 @@ loop-rest-preserved c =
     let l = c.loop-rest in
     let r = c.first_line.result in
     let led = led_on c.args.bytes.now l.rest.now r.0.now r.1.now l.number (deck_of l.reader) (deck_of c.read.new.self) l.invariant.1
-      (has_bytes l.rest.now (sym c.is_empty.ensures ∙ c.loop-rest-test.true)) c.first_line.ensures.cut c.first_line.ensures.ends c.if-bytes-after-gt-DECK_BYTES.false c.in_default.ensures.extends in
+    (has_bytes l.rest.now (sym c.is_empty.ensures ∙ c.loop-rest-test.true)) c.first_line.ensures.cut c.first_line.ensures.ends c.if-bytes-after-gt-DECK_BYTES.false c.in_default.ensures.extends in
     let calls = c.in_default.ensures.calls in
     let were = l.invariant.2 in
     let shorter = c.first_line.ensures.shorter in
@@ -25,15 +25,15 @@ returns-then-bytes-after-gt-DECK_BYTES-clause-err c =
     let l = c.loop-rest in
     let r = c.first_line.result in
     bytes_fault c.args.bytes.now l.rest.now r.0.now r.1.now l.number (deck_of l.reader) l.invariant.1
-      (has_bytes l.rest.now (sym c.is_empty.ensures ∙ c.loop-rest-test.true)) c.first_line.ensures.cut c.first_line.ensures.ends c.if-bytes-after-gt-DECK_BYTES.true
+    (has_bytes l.rest.now (sym c.is_empty.ensures ∙ c.loop-rest-test.true)) c.first_line.ensures.cut c.first_line.ensures.ends c.if-bytes-after-gt-DECK_BYTES.true
 
 pub returns-in-Err-clause-err : goal.returns-in-Err-clause-err
 returns-in-Err-clause-err c =
     let l = c.loop-rest in
     let r = c.first_line.result in
     subst (IsDeckFault c.args.bytes.now) (sym c.at.ensures)
-      (read_fault c.args.bytes.now l.rest.now r.0.now r.1.now l.number (deck_of l.reader) c.in-Err.reason l.invariant.1
-        (has_bytes l.rest.now (sym c.is_empty.ensures ∙ c.loop-rest-test.true)) c.first_line.ensures.cut c.first_line.ensures.ends c.if-bytes-after-gt-DECK_BYTES.false c.in-Err.ensures.refuses)
+    (read_fault c.args.bytes.now l.rest.now r.0.now r.1.now l.number (deck_of l.reader) c.in-Err.reason l.invariant.1
+    (has_bytes l.rest.now (sym c.is_empty.ensures ∙ c.loop-rest-test.true)) c.first_line.ensures.cut c.first_line.ensures.ends c.if-bytes-after-gt-DECK_BYTES.false c.in-Err.ensures.refuses)
 
 pub returns-clause-ok : goal.returns-clause-ok
 returns-clause-ok c =
@@ -45,7 +45,7 @@ returns-clause-err c =
     let l = c.loop-rest in
     let r = l.reader in
     end_fault c.args.bytes.now c.finish.result c.finish.ensures.names
-      (λ e. none_by c.args.bytes.now l.rest.now l.number (deck_of r) l.invariant.1 (no_bytes l.rest.now (sym c.is_empty.ensures ∙ c.loop-rest-test.false)) (not_begun r.begun r.threads.items r.calls.items (c.finish.ensures.none e)))
+    (λ e. none_by c.args.bytes.now l.rest.now l.number (deck_of r) l.invariant.1 (no_bytes l.rest.now (sym c.is_empty.ensures ∙ c.loop-rest-test.false)) (not_begun r.begun r.threads.items r.calls.items (c.finish.ensures.none e)))
 
 pub returns-clause-names : goal.returns-clause-names
 returns-clause-names c = c.finish.ensures.names (length (lines c.args.bytes.now))

@@ -8,8 +8,8 @@ returns-in-Ok-clause-refuses c = λ end within.
     let p = at c.args.self.now end c.args.line.now in
     let fitting = fits p within c.if-line-gt-LINE_BYTES.false in
     if_err (NotTaken c.in-Ok.said (deck_of c.args.self.now)) (IsReason p) c.take.result
-      (λ reason refused. not_taken c.one_form.ensures c.one_answer.ensures.apart c.one_line.ensures p c.in-Ok.said reason fitting c.in-Ok.ensures.ok refused)
-      c.take.ensures.refuses
+    (λ reason refused. not_taken c.one_form.ensures c.one_answer.ensures.apart c.one_line.ensures p c.in-Ok.said reason fitting c.in-Ok.ensures.ok refused)
+    c.take.ensures.refuses
 
 pub returns-in-Err-clause-refuses : goal.returns-in-Err-clause-refuses
 returns-in-Err-clause-refuses c = λ end within.
