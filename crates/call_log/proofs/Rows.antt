@@ -63,17 +63,21 @@ first_run_merges = record {
     callers zero d h = (omega arith, omega arith)
     callers (suc zero) d h = (omega arith, omega arith)
     callers (suc (suc k)) d h = absurd (omega (arith, h))
+
     in_order : (k : ℕ) → k < 1 → IsPrefix (calls_in (entries_of (k + 1) first_run)) (well_named two (script_of first_scripts k))
     in_order zero h = refl
     in_order (suc k) h = absurd (omega (arith, h))
+
     each_once : (v : ℕ) → 1 ≤ v → v ≤ 2 → count_by (λ e. e.version == v) first_run ≡ 1
     each_once zero above below = absurd (omega (arith, above))
     each_once (suc zero) above below = refl
     each_once (suc (suc zero)) above below = refl
     each_once (suc (suc (suc v))) above below = absurd (omega (arith, below))
+
     rising_one : IsStrictlyIncreasing (versions_in (entries_of 1 first_run))
     rising_one zero within = omega arith
     rising_one (suc k) within = absurd (omega (arith, within))
+
     rising : (caller : ℕ) → IsStrictlyIncreasing (versions_in (entries_of caller first_run))
     rising zero = λ k within. absurd (omega arith)
     rising (suc zero) = rising_one
@@ -102,13 +106,16 @@ misnamed_merges = record {
     callers : All (IsOfCaller 1) one_made
     callers zero d h = (omega arith, omega arith)
     callers (suc k) d h = absurd (omega (arith, h))
+
     in_order : (k : ℕ) → k < 1 → IsPrefix (calls_in (entries_of (k + 1) one_made)) (well_named two (script_of misnamed_scripts k))
     in_order zero h = refl
     in_order (suc k) h = absurd (omega (arith, h))
+
     each_once : (v : ℕ) → 1 ≤ v → v ≤ 1 → count_by (λ e. e.version == v) one_made ≡ 1
     each_once zero above below = absurd (omega (arith, above))
     each_once (suc zero) above below = refl
     each_once (suc (suc v)) above below = absurd (omega (arith, below))
+
     rising : (caller : ℕ) → IsStrictlyIncreasing (versions_in (entries_of caller one_made))
     rising zero = λ k within. absurd (omega arith)
     rising (suc zero) = λ k within. absurd (omega (arith, within))
@@ -155,19 +162,23 @@ mixed_merges = record {
     callers (suc zero) d h = (omega arith, omega arith)
     callers (suc (suc zero)) d h = (omega arith, omega arith)
     callers (suc (suc (suc k))) d h = absurd (omega (arith, h))
+
     in_order : (k : ℕ) → k < 2 → IsPrefix (calls_in (entries_of (k + 1) mixed)) (well_named two (script_of both_scripts k))
     in_order zero h = refl
     in_order (suc zero) h = refl
     in_order (suc (suc k)) h = absurd (omega (arith, h))
+
     each_once : (v : ℕ) → 1 ≤ v → v ≤ 3 → count_by (λ e. e.version == v) mixed ≡ 1
     each_once zero above below = absurd (omega (arith, above))
     each_once (suc zero) above below = refl
     each_once (suc (suc zero)) above below = refl
     each_once (suc (suc (suc zero))) above below = refl
     each_once (suc (suc (suc (suc v)))) above below = absurd (omega (arith, below))
+
     rising_two : IsStrictlyIncreasing (versions_in (entries_of 2 mixed))
     rising_two zero within = omega arith
     rising_two (suc k) within = absurd (omega (arith, within))
+
     rising : (caller : ℕ) → IsStrictlyIncreasing (versions_in (entries_of caller mixed))
     rising zero = λ k within. absurd (omega arith)
     rising (suc zero) = λ k within. absurd (omega (arith, within))

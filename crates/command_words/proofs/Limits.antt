@@ -48,6 +48,7 @@ beyond_parsed ds h some p = sym (grind (arith, nat_tests, above))
   where
     small_fits : digits_value 10 ds ≤ 4000000 → ⊥
     small_fits small = p (subst (IsNumeral 10) (sym (no_plus ds h)) (some, all_digits ds h), subst (λ xs. digits_value 10 xs < 2 ^ 32) (sym (no_plus ds h)) (omega (arith, small)))
+
     above : 4000000 < digits_value 10 ds
     above = omega (arith, small_fits)
 

@@ -81,7 +81,10 @@ fn refused_words(rt: HostRuntime) -> Result<(), Fail> {
     ];
     for line in lines {
         let words = words_of(rt.alloc(), line)?;
-        assert!(rt; read_words(rt.alloc(), &words) == Err(WordsFault::Refused), "{line:?}");
+        assert!(rt;
+            read_words(rt.alloc(), &words) == Err(WordsFault::Refused),
+            "{line:?}"
+        );
     }
     let mut words = words_of(rt.alloc(), "run")?;
     words.push(Text::from_slice(rt.alloc(), b"\xff")?)?;

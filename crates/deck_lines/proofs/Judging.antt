@@ -38,7 +38,7 @@ few_names (f ∷ forms) [] z = absurd z
 few_names (f ∷ forms) (q ∷ parts) z = (z.0.0.few, few_names forms parts z.1)
 
 -- the names of the scripts are those of the words
-same_names : (forms : List PartForm) (parts : List Part) → AllZip SaysPart forms parts → declarations.script_names parts ≡ all_names forms
+pub same_names : (forms : List PartForm) (parts : List Part) → AllZip SaysPart forms parts → declarations.script_names parts ≡ all_names forms
 same_names [] [] z = refl
 same_names [] (q ∷ parts) z = absurd z
 same_names (f ∷ forms) [] z = absurd z
@@ -109,7 +109,7 @@ room_of (f ∷ forms) [] z c s = absurd z
 room_of (f ∷ forms) (q ∷ parts) z c s =
     (record { some = s.0.some; few = subst (λ (l : List (List ℕ)). length l ≤ CANDIDATES) z.0.1 c.0; no_acc = s.0.no_acc; no_picks = s.0.no_picks }, room_of forms parts z.1 c.1 s.1)
 
-as_many : (forms : List PartForm) (parts : List Part) → AllZip SaysPart forms parts → length forms ≡ length parts
+pub as_many : (forms : List PartForm) (parts : List Part) → AllZip SaysPart forms parts → length forms ≡ length parts
 as_many [] [] z = refl
 as_many [] (q ∷ parts) z = absurd z
 as_many (f ∷ forms) [] z = absurd z

@@ -15,3 +15,12 @@ pub mod CutLaws
 pub mod Texting
 pub mod Finding
 pub mod OneAnswer
+pub mod OneLine
+pub mod ValueBack
+pub mod NoSigns
+pub mod Restating
+pub mod Wholes
+pub mod Cleaning
+pub mod Spacing
+pub mod Shorter
+pub mod ValueText

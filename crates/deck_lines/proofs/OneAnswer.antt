@@ -1,12 +1,11 @@
 -- A line has one answer.
-use Rattle.std.proofs.Common.{◌≡◌, ◌≢◌, ℕ, ◌<◌, ◌≤◌, List, [], ◌∷◌, refl, sym, ap, arith, subst, inl, inr, ◌⊎◌}
-use Rattle.std.specs.Prelude.{length}
+use Rattle.std.proofs.Common.{◌≡◌, ◌≢◌, ℕ, List, [], ◌∷◌, refl, ap, arith, subst, inl, inr, ◌⊎◌}
 use Rattle.std.specs.List.{AllByRecursion}
 use Rattle.script_tree.specs.declared.limits.TheConstants.{LEVELS}
 use Rattle.script_grammar.specs.declared.token.Token.{Token}
 use Rattle.script_grammar.specs.Grammar.{BeginsWithin, IsTooDeepAt}
 use Rattle.script_grammar.specs.Refusals.{IsFirstFaultAt}
-use Rattle.expr_script.specs.Tokens.{names, tokens}
+use Rattle.expr_script.specs.Tokens.{tokens}
 use Rattle.deck_lines.specs.declared.fault.Limit.{Limit}
 use Rattle.deck_lines.specs.declared.fault.Limit.TheVariants.{Levels, Inputs, Candidates, Selectors, Sets, Looks}
 use Rattle.deck_lines.specs.declared.fault.LineFault.{LineFault}

@@ -1,6 +1,6 @@
 -- Names, values and lists of them among words.
 use Rattle.std.proofs.Common.{◌≡◌, ℕ, Bool, true, false, List, [], ◌∷◌, refl, sym, ap, ◌∙◌, arith, subst}
-use Rattle.std.specs.Prelude.{◌&&◌, ◌≤◌, length, map, codes, IsTrue, Option, Some, None, IsSome, if◌then◌else◌}
+use Rattle.std.specs.Prelude.{◌&&◌, ◌≤◌, length, map, codes, Option, Some, None, IsSome, if◌then◌else◌}
 use Rattle.std.specs.Option.{option_map, option_and_then, is_some}
 use Rattle.std.specs.List.{AllByRecursion}
 use Rattle.std.specs.Str.{bytes_eq}
@@ -14,12 +14,6 @@ use Rattle.deck_lines.proofs.Cutting.{same_word, no_or, cut_separated, separated
 
 pub no_yes : false ≡ true → ⊥
 no_yes e = cc
-
-pub is_true : (b : Bool) → IsTrue b → b ≡ true
-is_true b h = h
-
-pub the_truth : (b : Bool) → b ≡ true → IsTrue b
-the_truth b e = e
 
 pub both : (p q : Bool) → (p && q) ≡ true → (p ≡ true) × (q ≡ true)
 both true q e = (refl, e)
@@ -35,12 +29,6 @@ there (Some x) e = (x, refl)
 pub some_there : {A : Type 0} (o : Option A) → IsSome o → (x : A) × (o ≡ Some x)
 some_there o h = there o h
 
-pub is_there : {A : Type 0} (o : Option A) → IsSome o → is_some o ≡ true
-is_there o h = h
-
-pub there_is : {A : Type 0} (o : Option A) → is_some o ≡ true → IsSome o
-there_is o e = e
-
 pub map_some : {A B : Type 0} (f : A → B) (o : Option A) (y : B) → option_map f o ≡ Some y → (x : A) × (o ≡ Some x) × (f x ≡ y)
 map_some f None y e = absurd (none-some y e)
 map_some f (Some x) y e = (x, refl, same_Some (f x) y e)
@@ -50,7 +38,7 @@ pub not_named : (name sign : List ℕ) → IsName name → is_name sign ≡ fals
 not_named name sign h n = by_test (bytes_eq name sign) refl
   where
     by_test : (t : Bool) → bytes_eq name sign ≡ t → t ≡ false
-    by_test true e = absurd (no_yes (sym n ∙ ap is_name (sym (same_word name sign e)) ∙ is_true (is_name name) h))
+    by_test true e = absurd (no_yes (sym n ∙ ap is_name (sym (same_word name sign e)) ∙ h))
     by_test false e = refl
 
 -- a word that no value has
@@ -117,11 +105,11 @@ name_is : (words : Words) (name : List ℕ) → name_of words ≡ Some name → 
 name_is [] name e = absurd (none-some name e)
 name_is (word ∷ []) name e =
     let c = cond_some (is_name word) word name e in
-    (ap (λ w. w ∷ []) c.1, the_truth (is_name name) (ap is_name (sym c.1) ∙ c.0))
+    (ap (λ w. w ∷ []) c.1, ap is_name (sym c.1) ∙ c.0)
 name_is (a ∷ b ∷ more) name e = absurd (none-some name e)
 
 is_name_of : (name : List ℕ) → IsName name → name_of (name ∷ []) ≡ Some name
-is_name_of name h = ap (λ t. if t then Some name else None) (is_true (is_name name) h)
+is_name_of name h = ap (λ t. if t then Some name else None) h
 
 pub names_are : (words : Words) (names : List (List ℕ)) → names_of words ≡ Some names → (words ≡ with_commas names) × AllByRecursion IsName names
 names_are words names e = found_between (codes ",") name_of (λ name. name ∷ []) IsName name_is words names e
@@ -147,20 +135,20 @@ head_is (name ∷ sign ∷ rest) head e =
     let c = cond_some (is_name name && bytes_eq sign (codes "=")) (name, rest) head e in
     let t = both (is_name name) (bytes_eq sign (codes "=")) c.0 in
     subst (λ (h : List ℕ × Words). (name ∷ sign ∷ rest ≡ h.0 ∷ codes "=" ∷ h.1) × IsName h.0) c.1
-    (ap (λ s. name ∷ s ∷ rest) (same_word sign (codes "=") t.1), the_truth (is_name name) t.0)
+    (ap (λ s. name ∷ s ∷ rest) (same_word sign (codes "=") t.1), t.0)
 
 pub is_head : (name : List ℕ) (rest : Words) → IsName name → head_of (name ∷ codes "=" ∷ rest) ≡ Some (name, rest)
-is_head name rest h = ap (λ t. if t && bytes_eq (codes "=") (codes "=") then Some (name, rest) else None) (is_true (is_name name) h)
+is_head name rest h = ap (λ t. if t && bytes_eq (codes "=") (codes "=") then Some (name, rest) else None) h
 
 -- one set
 set_is : (words : Words) (s : SetForm) → set_of words ≡ Some s → (words ≡ spelled_set s) × IsSet s
 set_is words s e = option_and_then_some set_by (head_of words) s e (λ head first rest.
     let c = cond_some (is_some (value_of head.1)) head s rest in
     let known = head_is words head first in
-    subst (λ (h : SetForm). (words ≡ spelled_set h) × IsSet h) c.1 (known.0, record { named = known.1; start = there_is (value_of head.1) c.0 }))
+    subst (λ (h : SetForm). (words ≡ spelled_set h) × IsSet h) c.1 (known.0, record { named = known.1; start = c.0 }))
 
 is_set_of : (s : SetForm) → IsSet s → set_of (spelled_set s) ≡ Some s
-is_set_of s h = ap (option_and_then set_by) (is_head s.0 s.1 h.named) ∙ ap (λ t. if t then Some s else None) (is_there (value_of s.1) h.start)
+is_set_of s h = ap (option_and_then set_by) (is_head s.0 s.1 h.named) ∙ ap (λ t. if t then Some s else None) h.start
 
 pub set_without : (sign : List ℕ) → is_name sign ≡ false → NoValue sign → bytes_eq (codes "=") sign ≡ false → (s : SetForm) → IsSet s → has sign (spelled_set s) ≡ false
 set_without sign n v q s h = no_or _ _ (not_named s.0 sign h.named n) (no_or _ _ q (value_without sign s.1 v h.start))

@@ -10,3 +10,4 @@ pub mod Kept
 pub mod Inputs
 pub mod Selectors
 pub mod Texts
+pub mod Canonical

@@ -1,5 +1,5 @@
 -- The text of a line, and its words.
-use Rattle.std.specs.Prelude.{ℕ, ◌==◌, Bool, List, [], ◌∷◌, if◌then◌else◌}
+use Rattle.std.specs.Prelude.{ℕ, ◌==◌, ◌||◌, Bool, List, [], ◌∷◌, if◌then◌else◌}
 use Rattle.std.specs.List.{before_first}
 use Rattle.expr_script.specs.Pieces.{words}
 
@@ -23,3 +23,7 @@ said line = without_comment (without_return line)
 -- the words and signs of a line
 abbrev pub line_words : List ℕ → List (List ℕ)
 line_words line = words (said line)
+
+-- a byte that ends a line or what it says: a line feed, a carriage return, a `#`
+abbrev pub is_end : ℕ → Bool
+is_end b = b == 35 || (b == 13 || b == 10)

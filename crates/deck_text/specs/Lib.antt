@@ -4,3 +4,6 @@ pub mod Faults
 pub mod Lines
 pub mod Printed
 pub mod Readers
+pub mod Reasons
+pub mod Refused
+pub mod Spelled

@@ -3,6 +3,7 @@
 
 mod deck;
 mod fault;
+pub mod laws;
 mod lines;
 mod printer;
 mod reader;

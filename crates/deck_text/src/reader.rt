@@ -1,16 +1,22 @@
 // Reading a deck line by line.
 
-ghost use Rattle.std.specs.Prelude.{◌≡◌, ◌+◌, ◌<◌, ◌≤◌, ◌^◌, ℕ, [], length, IfOk, IfErr, OnOk};
+ghost use Rattle.std.specs.Prelude.{◌≡◌, ◌+◌, ◌<◌, ◌≤◌, ◌^◌, ℕ, true, false, [], ◌∷◌, ◌++◌, length, Err, IfOk, IfErr, OnOk};
 ghost use Rattle.signal_graph.specs.Declarations.{IsDeclaration};
 ghost use Rattle.deck_lines.specs.Kept.{IsCall, IsKept};
 ghost use Rattle.deck_text.specs.Faults.{NamesLine};
 ghost use Rattle.deck_text.specs.Lines.{lines};
-ghost use Rattle.deck_text.specs.Readers.{Reads};
+ghost use Rattle.deck_text.specs.Readers.{Reads, deck_of};
+ghost use Rattle.deck_text.specs.Refused.{NotDeclared, NotBegun, NotCalled, NotTaken, BeyondDeclaring, BeyondCalling, NotRead, IsReason};
+ghost use Rattle.deck_text.specs.Reasons.{IsDeckFault};
+ghost use Rattle.deck_text.specs.Spelled.{Adds, Extends, SpellsDeck, nothing_yet};
+ghost use Rattle.deck_lines.specs.declared.line.Line.TheVariants as said;
+ghost use Rattle.deck_text.specs.declared.fault.DeckFault.TheVariants as fault;
 
 use crate::deck::Deck;
 use crate::fault::{DeckFault, What};
 use crate::lines::first_line;
 use crate::reason::Reason;
+use deck_lines::laws::{one_answer, one_form, one_line};
 use deck_lines::{Limit, Line, LineFault, read_line};
 use script_tree::items::Items;
 use script_tree::limits::{DECK_BYTES, LINE_BYTES, NODES, THREADS};
@@ -38,6 +44,7 @@ impl Reader {
     fn new(alloc: Global) -> Reader
         ensures reads { Reads result }
         ensures empty { result.calls.items ≡ [] }
+        ensures nothing { deck_of result ≡ nothing_yet }
     {
         Reader {
             alloc,
@@ -50,7 +57,9 @@ impl Reader {
 
     // Why a declaration is refused that goes beyond this limit. In the wrong part it is none, and the limit of nodes comes
     // before its own.
-    fn refused_declaration(&self, limit: Limit) -> Reason {
+    fn refused_declaration(&self, limit: Limit) -> Reason
+        ensures { BeyondDeclaring self.now limit result }
+    {
         if self.begun {
             return Reason::Syntax;
         }
@@ -61,7 +70,9 @@ impl Reader {
     }
 
     // Why a call is refused that goes beyond this limit.
-    fn refused_call(&self, limit: Limit) -> Reason {
+    fn refused_call(&self, limit: Limit) -> Reason
+        ensures { BeyondCalling self.now limit result }
+    {
         if !self.begun {
             return Reason::Syntax;
         }
@@ -69,7 +80,9 @@ impl Reader {
     }
 
     // Why a line is refused that is none, or that goes beyond a limit of its own: the limit tells what it is.
-    fn refused(&self, fault: LineFault) -> Reason {
+    fn refused(&self, fault: LineFault) -> Reason
+        ensures { NotRead self.now fault result }
+    {
         match fault {
             LineFault::Syntax => Reason::Syntax,
             LineFault::TooMany(limit) => match limit {
@@ -85,11 +98,33 @@ impl Reader {
         requires declaration { IsDeclaration kind }
         ensures reads { Reads self.new }
         ensures calls { self.new.calls ≡ self.old.calls }
+        ensures adds { OnOk result (Adds (said.Declares name kind) (deck_of self.old) (deck_of self.new)) }
+        ensures refuses { IfErr result (NotDeclared (deck_of self.old) name kind) }
     {
         if self.begun {
             return Err(Reason::Syntax);
         }
-        self.builder.add(name, kind)?;
+        match self.builder.add(name, kind) {
+            Ok(_) => Ok(()),
+            Err(fault) => Err(Reason::from(fault)),
+        }
+    }
+
+    // Begins a thread behind another one.
+    fn next_thread(&mut self) -> Result<(), Reason>
+        requires reads { Reads self.old }
+        requires begun { self.old.begun ≡ true }
+        requires counted { length self.old.calls.items < 2 ^ 32 }
+        ensures reads { OnOk result (Reads self.new) }
+        ensures calls { OnOk result (length self.new.calls.items ≤ length self.old.calls.items) }
+        ensures adds { OnOk result (Adds said.Thread (deck_of self.old) (deck_of self.new)) }
+        ensures refuses { IfErr result (NotBegun (deck_of self.old)) }
+    {
+        if self.threads.len() + 1 >= THREADS as usize {
+            return Err(Reason::TooMany(What::Threads));
+        }
+        let calls = mem::replace(&mut self.calls, Vec::new(self.alloc));
+        self.threads.push(Items::from_vec(calls))?;
         Ok(())
     }
 
@@ -98,13 +133,11 @@ impl Reader {
         requires counted { length self.old.calls.items < 2 ^ 32 }
         ensures reads { OnOk result (Reads self.new) }
         ensures calls { OnOk result (length self.new.calls.items ≤ length self.old.calls.items) }
+        ensures adds { OnOk result (Adds said.Thread (deck_of self.old) (deck_of self.new)) }
+        ensures refuses { IfErr result (NotBegun (deck_of self.old)) }
     {
         if self.begun {
-            if self.threads.len() + 1 >= THREADS as usize {
-                return Err(Reason::TooMany(What::Threads));
-            }
-            let calls = mem::replace(&mut self.calls, Vec::new(self.alloc));
-            self.threads.push(Items::from_vec(calls))?;
+            return self.next_thread();
         }
         self.begun = true;
         Ok(())
@@ -115,6 +148,8 @@ impl Reader {
         requires call { IsCall call }
         ensures reads { OnOk result (Reads self.new) }
         ensures calls { OnOk result (length self.new.calls.items ≤ length self.old.calls.items + 1) }
+        ensures adds { OnOk result (Adds (said.Calls call) (deck_of self.old) (deck_of self.new)) }
+        ensures refuses { IfErr result (NotCalled (deck_of self.old)) }
     {
         if !self.begun {
             return Err(Reason::Syntax);
@@ -130,6 +165,8 @@ impl Reader {
         requires kept { IsKept line }
         ensures reads { OnOk result (Reads self.new) }
         ensures calls { OnOk result (length self.new.calls.items ≤ length self.old.calls.items + 1) }
+        ensures adds { OnOk result (Adds line (deck_of self.old) (deck_of self.new)) }
+        ensures refuses { IfErr result (NotTaken line (deck_of self.old)) }
     {
         match line {
             Line::Nothing => Ok(()),
@@ -145,7 +182,12 @@ impl Reader {
         requires counted { length self.old.calls.items < 2 ^ 32 }
         ensures reads { OnOk result (Reads self.new) }
         ensures calls { OnOk result (length self.new.calls.items ≤ length self.old.calls.items + 1) }
+        ensures extends { OnOk result (Extends line.now (deck_of self.old) (deck_of self.new)) }
+        ensures refuses { (end : ℕ) → end ≤ DECK_BYTES → IfErr result (IsReason (record { deck = deck_of self.old; end = end; line = line.now })) }
     {
+        one_form();
+        one_answer();
+        one_line();
         if line.len() > LINE_BYTES {
             return Err(Reason::LineTooLong);
         }
@@ -158,7 +200,10 @@ impl Reader {
     // The deck of all lines, of which one begins a thread.
     fn deck(self) -> Result<Deck, OutOfMemory>
         requires reads { Reads self }
+        requires begun { self.begun ≡ true }
         requires counted { length self.calls.items < 2 ^ 32 }
+        ensures graph { IfOk result (λ deck. deck.graph ≡ self.builder) }
+        ensures scripts { IfOk result (λ deck. deck.scripts ≡ self.threads.items ++ self.calls.items ∷ []) }
     {
         let Reader {
             alloc: _,
@@ -176,7 +221,10 @@ impl Reader {
     fn finish(self) -> Result<Deck, DeckFault>
         requires reads { Reads self }
         requires counted { length self.calls.items < 2 ^ 32 }
-        ensures { (n : ℕ) → IfErr result (NamesLine n) }
+        ensures names { (n : ℕ) → IfErr result (NamesLine n) }
+        ensures ok { IfOk result (λ deck. deck ≡ deck_of self) }
+        ensures some { IfOk result (λ deck. 1 ≤ length deck.scripts) }
+        ensures none { result ≡ Err fault.NoThread → self.begun ≡ false }
     {
         if !self.begun {
             return Err(DeckFault::NoThread);
@@ -193,10 +241,13 @@ impl Reader {
 /// first of its reasons, in this order: it holds the byte number 16,777,217; it has more than 4,096 bytes; it has none
 /// of the forms; it goes beyond a limit, in the order of `What`; its name is declared before; it uses a name that is
 /// not declared before. `NoThread` comes where no line is faulty and none begins a thread. Names in calls are not
-/// looked up. Takes memory.
+/// looked up. Takes memory; `Memory` comes only for want of it, at whichever line there is none.
+#[tactic(auto, using(crate::proofs::Spelling::led_laws))]
 pub fn read_deck(alloc: Global, bytes: &[u8]) -> Result<Deck, DeckFault>
     requires { length bytes.now < 2 ^ 32 }
-    ensures { IfErr result (NamesLine (length (lines bytes.now))) }
+    ensures ok { IfOk result (SpellsDeck bytes.now) }
+    ensures err { IfErr result (IsDeckFault bytes.now) }
+    ensures names { IfErr result (NamesLine (length (lines bytes.now))) }
 {
     let mut reader = Reader::new(alloc);
     let mut rest = bytes;

@@ -197,15 +197,17 @@ fn judged_at(
 }
 
 #[test]
-fn long_lines_and_many_threads(rt: HostRuntime) -> Result<(), Fail> {
+fn decks_at_their_limits(rt: HostRuntime) -> Result<(), Fail> {
     let long = DeckFault::LineTooLong(1);
-    let many = DeckFault::TooMany(257, What::Threads);
-    for (before, text, most, after, beyond) in [
-        ("", "thread\n", 256, "", many),
-        ("source a = 1", " ", 4084, "\nthread", long),
-        ("#", "#", 4094, "\r\nthread", long),
+    let nodes = DeckFault::TooMany(16_385, What::Nodes);
+    let threads = DeckFault::TooMany(257, What::Threads);
+    for (before, text, most, between, after, beyond) in [
+        ("source a = 1", " ", 4084, "", "\nthread", long),
+        ("#", "#", 4094, "", "\r\nthread", long),
+        ("", "source a", 16_384, "=0\n", "=0\nthread", nodes),
+        ("", "thread\n", 256, "", "", threads),
     ] {
-        let judged = judged_at(rt.alloc(), before, text, most, "", after)?;
+        let judged = judged_at(rt.alloc(), before, text, most, between, after)?;
         assert_eq!(rt; judged, (None, Some(beyond)), "{before}{text}");
     }
     Ok(())

@@ -51,8 +51,11 @@ begin-call graph s h caller c u = go (true_or_false (suc s.begun == u))
 
     go : ((suc s.begun == u) ≡ true) ⊎ ((suc s.begun == u) ≡ false) → ((call_of (begin graph s caller c).calls u ≡ call_of s.calls u) × ((suc s.begun == u) ≡ false)) ⊎ ((u ≡ suc s.begun) × (call_of (begin graph s caller c).calls u ≡ Some (new_call graph s caller c)))
     go (inr k) = inl (call_of-append s.calls (new_call graph s caller c) u ∙ last_call-other (call_of s.calls u) (new_call graph s caller c) u k, k)
-    go (inl k) = inr (sym (same_number (suc s.begun) u k), subst (λ (v : ℕ). call_of (begin graph s caller c).calls v ≡ Some (new_call graph s caller c)) (same_number (suc s.begun) u k)
-        (call_of-append s.calls (new_call graph s caller c) (suc s.begun) ∙ last_call-it (call_of s.calls (suc s.begun)) (new_call graph s caller c) (gone (call_of s.calls (suc s.begun)) refl)))
+    go (inl k) = inr (
+      sym (same_number (suc s.begun) u k),
+      subst (λ (v : ℕ). call_of (begin graph s caller c).calls v ≡ Some (new_call graph s caller c)) (same_number (suc s.begun) u k)
+          (call_of-append s.calls (new_call graph s caller c) (suc s.begun) ∙ last_call-it (call_of s.calls (suc s.begun)) (new_call graph s caller c) (gone (call_of s.calls (suc s.begun)) refl)),
+    )
 
 pub begin-calls_right : (graph : Graph) (s : Core) (caller : ℕ) (c : Call) → IsLawful graph s → can_begin graph s caller c ≡ true → (u : ℕ) → live (begin graph s caller c) u ≡ true → IsCallRight graph (call (begin graph s caller c) u)
 begin-calls_right graph s caller c h a u l = go (begin-call graph s h caller c u)

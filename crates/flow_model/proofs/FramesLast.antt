@@ -105,7 +105,6 @@ place-no_done s old h i2 i3 i5 t n lt wt w k = go (true_or_false (executes s t))
         covered-part s old h t n v lt (opens-live s v n c.by.2) x c.by.1 (record { last = i3.behind_dones n }) fv w k
     go (inr x) = i2.no_done w n (framing-part s old h t n lt (let f : frames s t ≡ true = grind (arith, x, lt) in f) w k)
 
-
 -- ---- a list after a step
 
 lawful-last : (graph : Graph) (s : Core) → IsLawful graph s → (n : ℕ) → FramesLast (entries s n)

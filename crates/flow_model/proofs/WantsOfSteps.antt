@@ -100,9 +100,9 @@ list-no_done graph s h n u closed none es (collects e) = subst (λ (xs : List En
 
 -- What a call comes to want as a node is open for it: what is framed with it and not open, and what it wanted but for the node.
 pub opened-wants : (q : Core) (t m : ℕ) (xs : List ℕ) (u n : ℕ) → live q t ≡ true → wants (with_call q t (opened m xs)) u n ≡ elim (u == t) as (λ _. Bool) [
-    | true ↦ (is_in n xs && not ((n == m) || opens q t n)) || (wants q t n && not (n == m))
-    | false ↦ wants q u n
-  ]
+  | true ↦ (is_in n xs && not ((n == m) || opens q t n)) || (wants q t n && not (n == m))
+  | false ↦ wants q u n
+]
 opened-wants q t m xs u n lt =
     let r = with_call-field (λ c. is_in n c.wanted) q t (opened m xs) (λ c. refl) u lt in
     let a = in-put_all n (without xs (put m (call q t).open_nodes)) (take_out m (call q t).wanted) in
@@ -144,9 +144,9 @@ opened-wanting graph s h q t m ws os lt free u n w = go (true_or_false (u == t))
     mine k (ne, inr x) = record { free = old t x; opened = unopened t (grind (arith, ne)) }
 
     go : ((u == t) ≡ true) ⊎ ((u == t) ≡ false) → wants after u n ≡ elim (u == t) as (λ _. Bool) [
-        | true ↦ (is_in n (active_outs graph q t m) && not ((n == m) || opens q t n)) || (wants q t n && not (n == m))
-        | false ↦ wants q u n
-      ] → IsWanting graph s after u n
+      | true ↦ (is_in n (active_outs graph q t m) && not ((n == m) || opens q t n)) || (wants q t n && not (n == m))
+      | false ↦ wants q u n
+    ] → IsWanting graph s after u n
     go (inr e) k = let j : wants q u n ≡ true = grind (arith, k, e, w) in record { free = old u j; opened = unopened u (grind (arith, e)) }
     go (inl e) k =
         let j : ((is_in n (active_outs graph q t m) && not ((n == m) || opens q t n)) || (wants q t n && not (n == m))) ≡ true = grind (arith, k, e, w) in

@@ -31,13 +31,13 @@ abbrev pub retrofit_graph : Graph
 retrofit_graph = record {
   names = codes "s" ∷ codes "x" ∷ codes "y" ∷ codes "j" ∷ codes "d" ∷ codes "k" ∷ [];
   nodes =
-    Source (Int (pos 0))
-    ∷ Source (Int (pos 10))
-    ∷ Source (Int (pos 20))
-    ∷ Signal (record { names = codes "s" ∷ codes "y" ∷ []; tree = Join Add (Input 0) (Input 1) }) (0 ∷ 2 ∷ [])
-    ∷ Choose (record { script = record { names = codes "s" ∷ []; tree = Input 0 }; inputs = 0 ∷ []; candidates = 1 ∷ 2 ∷ [] } ∷ []) None (0 ∷ [])
-    ∷ Signal (record { names = codes "d" ∷ []; tree = Join Add (Input 0) (Number (pos 1)) }) (4 ∷ [])
-    ∷ [];
+      Source (Int (pos 0))
+      ∷ Source (Int (pos 10))
+      ∷ Source (Int (pos 20))
+      ∷ Signal (record { names = codes "s" ∷ codes "y" ∷ []; tree = Join Add (Input 0) (Input 1) }) (0 ∷ 2 ∷ [])
+      ∷ Choose (record { script = record { names = codes "s" ∷ []; tree = Input 0 }; inputs = 0 ∷ []; candidates = 1 ∷ 2 ∷ [] } ∷ []) None (0 ∷ [])
+      ∷ Signal (record { names = codes "d" ∷ []; tree = Join Add (Input 0) (Number (pos 1)) }) (4 ∷ [])
+      ∷ [];
 }
 
 abbrev pub retrofit_scripts : List (List Call)
@@ -108,12 +108,12 @@ abbrev pub other_order_graph : Graph
 other_order_graph = record {
   names = codes "s" ∷ codes "x" ∷ codes "y" ∷ codes "d" ∷ codes "k" ∷ [];
   nodes =
-    Source (Int (pos 0))
-    ∷ Source (Int (pos 10))
-    ∷ Source (Int (pos 20))
-    ∷ Choose (record { script = record { names = codes "s" ∷ []; tree = Input 0 }; inputs = 0 ∷ []; candidates = 1 ∷ 2 ∷ [] } ∷ []) None (0 ∷ [])
-    ∷ Signal (record { names = codes "d" ∷ []; tree = Join Add (Input 0) (Number (pos 1)) }) (3 ∷ [])
-    ∷ [];
+      Source (Int (pos 0))
+      ∷ Source (Int (pos 10))
+      ∷ Source (Int (pos 20))
+      ∷ Choose (record { script = record { names = codes "s" ∷ []; tree = Input 0 }; inputs = 0 ∷ []; candidates = 1 ∷ 2 ∷ [] } ∷ []) None (0 ∷ [])
+      ∷ Signal (record { names = codes "d" ∷ []; tree = Join Add (Input 0) (Number (pos 1)) }) (3 ∷ [])
+      ∷ [];
 }
 
 abbrev pub other_order_scripts : List (List Call)
@@ -164,13 +164,13 @@ abbrev pub one_edge_graph : Graph
 one_edge_graph = record {
   names = codes "s" ∷ codes "q" ∷ codes "x" ∷ codes "y" ∷ codes "d" ∷ codes "e" ∷ [];
   nodes =
-    Source (Int (pos 0))
-    ∷ Source (Int (pos 0))
-    ∷ Source (Int (pos 10))
-    ∷ Source (Int (pos 20))
-    ∷ Choose (record { script = record { names = codes "s" ∷ []; tree = Input 0 }; inputs = 0 ∷ []; candidates = 2 ∷ 3 ∷ [] } ∷ []) None (0 ∷ [])
-    ∷ Choose (record { script = record { names = codes "q" ∷ []; tree = Input 0 }; inputs = 1 ∷ []; candidates = 2 ∷ 3 ∷ [] } ∷ []) None (1 ∷ [])
-    ∷ [];
+      Source (Int (pos 0))
+      ∷ Source (Int (pos 0))
+      ∷ Source (Int (pos 10))
+      ∷ Source (Int (pos 20))
+      ∷ Choose (record { script = record { names = codes "s" ∷ []; tree = Input 0 }; inputs = 0 ∷ []; candidates = 2 ∷ 3 ∷ [] } ∷ []) None (0 ∷ [])
+      ∷ Choose (record { script = record { names = codes "q" ∷ []; tree = Input 0 }; inputs = 1 ∷ []; candidates = 2 ∷ 3 ∷ [] } ∷ []) None (1 ∷ [])
+      ∷ [];
 }
 
 abbrev pub one_edge_scripts : List (List Call)
@@ -263,14 +263,14 @@ abbrev pub two_levels_graph : Graph
 two_levels_graph = record {
   names = codes "s" ∷ codes "p" ∷ codes "x" ∷ codes "y" ∷ codes "d" ∷ codes "f" ∷ codes "k" ∷ [];
   nodes =
-    Source (Int (pos 0))
-    ∷ Source (Int (pos 0))
-    ∷ Source (Int (pos 10))
-    ∷ Source (Int (pos 20))
-    ∷ Choose (record { script = record { names = codes "s" ∷ []; tree = Input 0 }; inputs = 0 ∷ []; candidates = 2 ∷ 3 ∷ [] } ∷ []) None (0 ∷ [])
-    ∷ Choose (record { script = record { names = codes "p" ∷ []; tree = Input 0 }; inputs = 1 ∷ []; candidates = 4 ∷ 2 ∷ [] } ∷ []) None (1 ∷ [])
-    ∷ Signal (record { names = codes "f" ∷ []; tree = Join Add (Input 0) (Number (pos 1)) }) (5 ∷ [])
-    ∷ [];
+      Source (Int (pos 0))
+      ∷ Source (Int (pos 0))
+      ∷ Source (Int (pos 10))
+      ∷ Source (Int (pos 20))
+      ∷ Choose (record { script = record { names = codes "s" ∷ []; tree = Input 0 }; inputs = 0 ∷ []; candidates = 2 ∷ 3 ∷ [] } ∷ []) None (0 ∷ [])
+      ∷ Choose (record { script = record { names = codes "p" ∷ []; tree = Input 0 }; inputs = 1 ∷ []; candidates = 4 ∷ 2 ∷ [] } ∷ []) None (1 ∷ [])
+      ∷ Signal (record { names = codes "f" ∷ []; tree = Join Add (Input 0) (Number (pos 1)) }) (5 ∷ [])
+      ∷ [];
 }
 
 abbrev pub two_levels_scripts : List (List Call)
@@ -342,9 +342,9 @@ abbrev pub reader_in_the_past_graph : Graph
 reader_in_the_past_graph = record {
   names = codes "a" ∷ codes "b" ∷ [];
   nodes =
-    Source (Int (pos 0))
-    ∷ Source (Int (pos 0))
-    ∷ [];
+      Source (Int (pos 0))
+      ∷ Source (Int (pos 0))
+      ∷ [];
 }
 
 abbrev pub reader_in_the_past_scripts : List (List Call)
@@ -384,11 +384,11 @@ abbrev pub unconnected_graph : Graph
 unconnected_graph = record {
   names = codes "a" ∷ codes "b" ∷ codes "c" ∷ codes "e" ∷ [];
   nodes =
-    Source (Int (pos 1))
-    ∷ Signal (record { names = codes "a" ∷ []; tree = Join Add (Input 0) (Number (pos 1)) }) (0 ∷ [])
-    ∷ Source (Int (pos 1))
-    ∷ Signal (record { names = codes "c" ∷ []; tree = Join Add (Input 0) (Number (pos 1)) }) (2 ∷ [])
-    ∷ [];
+      Source (Int (pos 1))
+      ∷ Signal (record { names = codes "a" ∷ []; tree = Join Add (Input 0) (Number (pos 1)) }) (0 ∷ [])
+      ∷ Source (Int (pos 1))
+      ∷ Signal (record { names = codes "c" ∷ []; tree = Join Add (Input 0) (Number (pos 1)) }) (2 ∷ [])
+      ∷ [];
 }
 
 abbrev pub unconnected_scripts : List (List Call)
@@ -433,12 +433,12 @@ abbrev pub two_selectors_graph : Graph
 two_selectors_graph = record {
   names = codes "s" ∷ codes "t" ∷ codes "x" ∷ codes "y" ∷ codes "d" ∷ [];
   nodes =
-    Source (Int (pos 0))
-    ∷ Source (Int (pos 0))
-    ∷ Source (Int (pos 10))
-    ∷ Source (Int (pos 20))
-    ∷ Choose (record { script = record { names = codes "s" ∷ []; tree = Input 0 }; inputs = 0 ∷ []; candidates = 2 ∷ 3 ∷ [] } ∷ record { script = record { names = codes "t" ∷ []; tree = Input 0 }; inputs = 1 ∷ []; candidates = 2 ∷ 3 ∷ [] } ∷ []) (Some (record { names = []; tree = Join Add (Pick 0) (Pick 1) })) (0 ∷ 1 ∷ [])
-    ∷ [];
+      Source (Int (pos 0))
+      ∷ Source (Int (pos 0))
+      ∷ Source (Int (pos 10))
+      ∷ Source (Int (pos 20))
+      ∷ Choose (record { script = record { names = codes "s" ∷ []; tree = Input 0 }; inputs = 0 ∷ []; candidates = 2 ∷ 3 ∷ [] } ∷ record { script = record { names = codes "t" ∷ []; tree = Input 0 }; inputs = 1 ∷ []; candidates = 2 ∷ 3 ∷ [] } ∷ []) (Some (record { names = []; tree = Join Add (Pick 0) (Pick 1) })) (0 ∷ 1 ∷ [])
+      ∷ [];
 }
 
 abbrev pub two_selectors_scripts : List (List Call)

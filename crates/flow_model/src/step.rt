@@ -8,31 +8,69 @@ ghost use Rattle.flow_model.specs.Keys.{version_of_step, is_own_step, list_of_st
 #[derive(Clone, Copy, PartialEq, Eq, Debug)]
 pub enum Step {
     /// The call's Frame enters the node's list, or the call's Mark there becomes a Frame.
-    Frame { version: u32, node: u32 },
+    Frame {
+        version: u32,
+        node: u32,
+    },
     /// The call has framed all that it reaches and executes from now on.
-    Start { version: u32 },
+    Start {
+        version: u32,
+    },
     /// The node stays as it was before the call.
-    Skip { version: u32, node: u32 },
+    Skip {
+        version: u32,
+        node: u32,
+    },
     /// The value of an input is kept for the node.
-    Gather { version: u32, node: u32, input: u32 },
+    Gather {
+        version: u32,
+        node: u32,
+        input: u32,
+    },
     /// The node's script is evaluated, or the scripts of its selectors are.
-    Evaluate { version: u32, node: u32 },
+    Evaluate {
+        version: u32,
+        node: u32,
+    },
     /// The node's body is evaluated.
-    Body { version: u32, node: u32 },
+    Body {
+        version: u32,
+        node: u32,
+    },
     /// The node's new value stands.
-    Resolve { version: u32, node: u32 },
+    Resolve {
+        version: u32,
+        node: u32,
+    },
     /// The node comes to depend on a candidate.
-    Discover { version: u32, node: u32, candidate: u32 },
+    Discover {
+        version: u32,
+        node: u32,
+        candidate: u32,
+    },
     /// The node depends on a candidate no more.
-    Drop { version: u32, node: u32, candidate: u32 },
+    Drop {
+        version: u32,
+        node: u32,
+        candidate: u32,
+    },
     /// The call's Mark enters the node's list.
-    Mark { version: u32, node: u32 },
+    Mark {
+        version: u32,
+        node: u32,
+    },
     /// The value of the call's next look is taken.
-    Look { version: u32 },
+    Look {
+        version: u32,
+    },
     /// The call joins the log.
-    End { version: u32 },
+    End {
+        version: u32,
+    },
     /// Entries of ended calls that nobody reads any more go from the node's list.
-    Collect { node: u32 },
+    Collect {
+        node: u32,
+    },
 }
 
 /// Why a call has no step now.
@@ -103,7 +141,9 @@ impl Step {
         ensures { result ≡ list_of_step self }
     {
         match self {
-            Step::Frame { node, .. } | Step::Skip { node, .. } | Step::Resolve { node, .. } => Some(node),
+            Step::Frame { node, .. } | Step::Skip { node, .. } | Step::Resolve { node, .. } => Some(
+                node,
+            ),
             Step::Mark { node, .. } | Step::Collect { node } => Some(node),
             Step::Discover { candidate, .. } | Step::Drop { candidate, .. } => Some(candidate),
             _ => None,

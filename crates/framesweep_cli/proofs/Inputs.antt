@@ -1,5 +1,5 @@
 -- What was read of a source.
-use Rattle.std.proofs.Common.{◌≡◌, ℕ, ◌+◌, List, refl, Option, Some, None}
+use Rattle.std.proofs.Common.{ℕ, ◌+◌, List, Option, Some, None}
 use Rattle.script_tree.specs.declared.limits.TheConstants.{DECK_BYTES}
 use Rattle.fs_io.specs.Bytes.{GivesFirst}
 use Rattle.framesweep_cli.specs.Endings.{IsInput}

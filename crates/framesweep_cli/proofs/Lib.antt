@@ -2,3 +2,4 @@ pub mod Inputs
 pub mod Answered
 pub mod Making
 pub mod Stopping
+pub mod Completing

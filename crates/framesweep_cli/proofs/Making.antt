@@ -1,7 +1,6 @@
 -- From what was read to what is written.
 use Rattle.std.proofs.Common.{ℕ, Bool, List, Option, Ok}
 use Rattle.deck_text.specs.Decks.{Decked}
-use Rattle.fs_io.specs.Count.{Rose}
 use Rattle.command_words.specs.declared.command.Command.{Command}
 use Rattle.framesweep_cli.specs.declared.stop.Stop.{Stop}
 use Rattle.framesweep_cli.specs.declared.stop.Stop.TheVariants.{Read, Deck, Memory}

@@ -1,14 +1,13 @@
 -- From what was done to how it ended.
-use Rattle.std.proofs.Common.{◌≡◌, ℕ, List, Option, Some, None, refl, sym, subst, inl, inr}
+use Rattle.std.proofs.Common.{ℕ, List, Option, Some, None, refl, sym, subst, inl, inr}
+use Rattle.fs_io.specs.Bytes as bytes
 use Rattle.fs_io.specs.Bytes.{Adds, AddsFirst, Stays}
-use Rattle.fs_io.specs.Count.{Rose}
 use Rattle.command_words.specs.declared.command.Command.{Command}
 use Rattle.framesweep_cli.specs.declared.ending.Ending.{Ending}
-use Rattle.framesweep_cli.specs.declared.ending.Ending.TheVariants.{Done, Refused, ReadFailed, WriteFailed, OutOfMemory}
 use Rattle.framesweep_cli.specs.declared.stop.Stop.{Stop}
 use Rattle.framesweep_cli.specs.declared.stop.Stop.TheVariants.{Read, Deck, Memory}
-use Rattle.framesweep_cli.specs.Endings.{Says}
-use Rattle.framesweep_cli.specs.Statuses.{Devices, Happened, StopsSaying}
+use Rattle.framesweep_cli.specs.Endings.{Makes}
+use Rattle.framesweep_cli.specs.Statuses.{Devices, Happened, StopsSaying, Writes, WritesPart}
 use Rattle.framesweep_cli.specs.Stops.{IsStopped}
 
 -- what no call touched has stayed
@@ -27,3 +26,11 @@ stop_happened command before after (Deck fault) ending held stopped told =
     ]
 stop_happened command before after Memory ending held stopped told =
     subst (Happened command before after) (sym told.0) (held, told.1)
+
+-- an ending with its output
+pub writes : (command : Command) (before after : Devices) (text : List ℕ) → Makes command before.left text → bytes.Ends before.left after.left → Adds before.held after.held text → Writes command before after
+writes command before after text made emptied added = record { text = text; made = made; emptied = emptied; added = added }
+
+-- an ending with a part of its output
+pub writes_part : (command : Command) (before after : Devices) (text : List ℕ) → Makes command before.left text → AddsFirst before.held after.held text → WritesPart command before after
+writes_part command before after text made added = record { text = text; made = made; added = added }

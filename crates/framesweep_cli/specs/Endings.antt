@@ -1,5 +1,5 @@
 -- What the program reads, makes and says.
-use Rattle.std.specs.Prelude.{◌≡◌, ◌≢◌, ℕ, ◌+◌, Bool, true, false, ⊤, ◌⊎◌, List, length, take, Option, Some, None, Result, Ok, Err}
+use Rattle.std.specs.Prelude.{◌≡◌, ◌≢◌, ℕ, ◌+◌, Bool, true, false, ⊤, ◌⊎◌, List, take, Option, Some, None, Result, Ok, Err}
 use Rattle.fs_io.specs.Bytes.{Adds, AddsFirst}
 use Rattle.fs_io.specs.Count.{Rose}
 use Rattle.script_tree.specs.declared.limits.TheConstants.{DECK_BYTES}
@@ -11,11 +11,10 @@ use Rattle.call_log.specs.Merge.{Merge}
 use Rattle.serial_machine.specs.SerialOrder.{IsThreadAfterThread, CountsVersions}
 use Rattle.deck_text.specs.declared.fault.DeckFault.{DeckFault}
 use Rattle.deck_text.specs.declared.fault.DeckFault.TheVariants.{Memory}
-use Rattle.deck_text.specs.Calls.{AreThreads}
 use Rattle.deck_text.specs.Decks.{Decked}
-use Rattle.deck_text.specs.Faults.{NamesLine}
-use Rattle.deck_text.specs.Lines.{lines}
 use Rattle.deck_text.specs.Printed.{canonical}
+use Rattle.deck_text.specs.Reasons.{IsDeckFault}
+use Rattle.deck_text.specs.Spelled.{SpellsDeck}
 use Rattle.report_text.specs.Report.{report_of}
 use Rattle.report_text.specs.Json.{json_of}
 use Rattle.command_words.specs.declared.command.Command.{Command}
@@ -26,10 +25,10 @@ abbrev pub IsInput : Option (List ℕ) → List ℕ → Type 0
 IsInput None bytes = ⊤
 IsInput (Some left) bytes = bytes ≡ take (DECK_BYTES + 1) left
 
--- what is known of how bytes are read as a deck
+-- bytes are read as the deck that they spell, or refused for the first reason of their first faulty line
 abbrev pub ReadsDeck : List ℕ → Result Decked DeckFault → Type 0
-ReadsDeck bytes (Ok deck) = AreThreads deck.scripts
-ReadsDeck bytes (Err fault) = NamesLine (length (lines bytes)) fault
+ReadsDeck bytes (Ok deck) = SpellsDeck bytes deck
+ReadsDeck bytes (Err fault) = IsDeckFault bytes fault
 
 -- a report as text or as one line of JSON
 abbrev pub report_bytes : Bool → List Logged → List Refused → List (List ℕ) → List Value → List ℕ
@@ -79,3 +78,13 @@ pub record Refuses (left : Option (List ℕ)) (fault : DeckFault) : Type 0 where
 pub record Says (before after : Option (List ℕ)) (faults_before faults_after : ℕ) (line : List ℕ) : Type 0 where
   pub part : AddsFirst before after line
   pub whole : Adds before after line ⊎ Rose faults_before faults_after
+
+-- a source told what it had left, and that spells a deck
+abbrev pub IsValid : Option (List ℕ) → Type 0
+IsValid None = ⊥
+IsValid (Some left) = (deck : Decked) × SpellsDeck left deck
+
+-- a source told what it had left, and that is refused for this fault: all of it, or its first bytes where there are too many
+abbrev pub IsInvalid : Option (List ℕ) → DeckFault → Type 0
+IsInvalid None fault = ⊥
+IsInvalid (Some left) fault = IsDeckFault (take (DECK_BYTES + 1) left) fault × (fault ≢ Memory)

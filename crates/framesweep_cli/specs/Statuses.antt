@@ -1,5 +1,6 @@
 -- How a run of the program ends: its status, and what it leaves on its devices.
 use Rattle.std.specs.Prelude.{◌≡◌, ℕ, Bool, IsTrue, ◌⊎◌, List, Option, Result, Ok, Err}
+use Rattle.fs_io.specs.Bytes as bytes
 use Rattle.fs_io.specs.Bytes.{Adds, AddsFirst, Stays}
 use Rattle.fs_io.specs.Count.{Rose}
 use Rattle.command_words.specs.declared.command.Command.{Command}
@@ -31,10 +32,11 @@ pub record Devices : Type 0 where
   pub said : Option (List ℕ)
   pub err_faults : ℕ
 
--- the output grew by what the command makes of the input
+-- the output grew by what the command makes of the input, of which nothing is left
 pub record Writes (command : Command) (before after : Devices) : Type 0 where
   pub text : List ℕ
   pub made : Makes command before.left text
+  pub emptied : bytes.Ends before.left after.left
   pub added : Adds before.held after.held text
 
 -- the output grew by the first bytes of what the command makes of the input, or by all of them

@@ -1,6 +1,8 @@
 // From a source to a deck.
 
 ghost use Rattle.std.specs.Prelude.{◌≡◌, ◌+◌, ◌<◌, ◌≤◌, ◌^◌, length, Ok, IfOk, IfErr};
+ghost use Rattle.script_tree.specs.declared.limits.TheConstants.{DECK_BYTES as MOST};
+ghost use Rattle.fs_io.specs.Bytes.{Ends};
 ghost use Rattle.framesweep_cli.specs.Endings.{IsInput, ReadsDeck};
 ghost use Rattle.framesweep_cli.specs.Stops.{IsRefused, IsUnread};
 
@@ -18,6 +20,7 @@ use std::alloc::Global;
 pub fn read_input<S: Source>(alloc: Global, source: &mut S) -> Result<Text, Stop>
     ensures ok { IfOk result (IsInput (S.left source.old)) }
     ensures small { IfOk result (λ bytes. length bytes < 2 ^ 32) }
+    ensures end { IfOk result (λ bytes. length bytes ≤ MOST → Ends (S.left source.old) (S.left source.new)) }
     ensures err { IfErr result (IsUnread (S.faults source.old) (S.faults source.new)) }
 {
     match read_all(alloc, source, DECK_BYTES) {

@@ -3,6 +3,7 @@
 
 mod ending;
 mod input;
+pub mod laws;
 mod lines;
 mod output;
 mod stop;

@@ -1,5 +1,7 @@
 // Whole runs over decks, from words and bytes to bytes and a status.
 
+ghost use Rattle.std.specs.Prelude.{◌≤◌};
+
 use crate::framesweep;
 use fs_io::mem_sink::MemSink;
 use fs_io::mem_source::MemSource;
@@ -103,6 +105,16 @@ fn reports(rt: HostRuntime) -> Result<(), Fail> {
             "call 1 thread 1 fire changed 2 evaluated 1 look d=0\ncall 2 thread 1 fire changed 1 evaluated 0 look d=0\ncall 3 thread 1 fire changed 2 evaluated 1 look d=-13\nfinal s=5\nfinal t=1\nfinal x=11\nfinal y=20\nfinal d=-13\ndone 3 accepted 0 refused\n",
         ),
         (
+            "run --json",
+            TWO,
+            "{\"accepted\":2,\"calls\":[{\"changed\":2,\"evaluated\":1,\"kind\":\"fire\",\"looks\":[{\"name\":\"b\",\"value\":6}],\"thread\":1,\"version\":1},{\"kind\":\"read\",\"looks\":[{\"name\":\"a\",\"value\":5},{\"name\":\"b\",\"value\":6}],\"thread\":1,\"version\":2}],\"finals\":[{\"name\":\"a\",\"value\":5},{\"name\":\"b\",\"value\":6}],\"refused\":[]}\n",
+        ),
+        (
+            "serial --json --versions 0",
+            "source a = true\nsignal b = a + 1\nthread\nread b\nfire b=1\n",
+            "{\"accepted\":0,\"calls\":[],\"finals\":[{\"name\":\"a\",\"value\":true},{\"name\":\"b\",\"value\":{\"fault\":\"kind\"}}],\"refused\":[{\"call\":1,\"limit\":0,\"reason\":\"versions used up\",\"thread\":1},{\"call\":2,\"place\":1,\"reason\":\"unknown name\",\"thread\":1}]}\n",
+        ),
+        (
             "print",
             "source  a = 007\nsignal c = ((a + 1)) * 2  # twice\nfold n = -1 : acc - (a - 1)\nthread\nfire a = - 5 look c, n",
             "source a=7\nsignal c=(a+1)*2\nfold n=-1:acc-(a-1)\nthread\nfire a=-5 look c,n\n",
@@ -120,30 +132,14 @@ fn refusals(rt: HostRuntime) -> Result<(), Fail> {
         ("", TWO, 1, "framesweep: words refused\n"),
         ("help", TWO, 1, "framesweep: words refused\n"),
         ("run --", TWO, 1, "framesweep: words refused\n"),
-        ("run run", TWO, 1, "framesweep: words refused\n"),
-        ("run --version 1", TWO, 1, "framesweep: words refused\n"),
-        ("run --versions", TWO, 1, "framesweep: words refused\n"),
-        ("run --versions +5", TWO, 1, "framesweep: words refused\n"),
+        ("run --json --json", TWO, 1, "framesweep: words refused\n"),
         (
             "run --versions 4000001",
             TWO,
             1,
             "framesweep: words refused\n",
         ),
-        (
-            "run --versions 00000001",
-            TWO,
-            1,
-            "framesweep: words refused\n",
-        ),
-        (
-            "run --versions 1 --versions=1",
-            TWO,
-            1,
-            "framesweep: words refused\n",
-        ),
-        ("print --versions 1", TWO, 1, "framesweep: words refused\n"),
-        ("run --json", TWO, 1, "framesweep: words refused\n"),
+        ("print --json", TWO, 1, "framesweep: words refused\n"),
         ("run", "", 2, "framesweep: no thread\n"),
         (
             "run",
@@ -170,23 +166,108 @@ fn refusals(rt: HostRuntime) -> Result<(), Fail> {
     Ok(())
 }
 
+// More calls of a device than any of these runs makes.
+const CALLS: u64 = 300;
+
+const PRINTED: &str =
+    "source  a = 007\nsignal c = ((a + 1)) * 2  # twice\nfold n = -1 : acc - (a - 1)\nthread\nfire a = - 5 look c, n";
+
+// Runs words on a deck while one read fails, each in turn, in pieces of `most` bytes, until none does.
+fn reads_fail(
+    rt: &impl Abort,
+    alloc: Global,
+    words: &[Text],
+    deck: &str,
+    most: usize,
+) -> Result<u64, OutOfMemory>
+    requires { 1 ≤ most }
+{
+    for n in 1..CALLS {
+        let mut source = MemSource::new(alloc, deck.as_bytes(), most, &[n])?;
+        let mut out = SureSink::new(alloc, ROOM, most)?;
+        let mut err = SureSink::new(alloc, ROOM, most)?;
+        let status = framesweep(alloc, words, &mut source, &mut out, &mut err);
+        if status == 0 {
+            return Ok(n - 1);
+        }
+        assert!(rt; status == 3, "read {n}: status {status}");
+        assert!(rt; out.kept().is_empty() && err.kept() == b"framesweep: read fault\n".as_slice());
+    }
+    Ok(CALLS)
+}
+
+// The same while one write or the flush fails: what is held is a beginning of the output, and with the flush all of it.
+fn writes_fail(
+    rt: &impl Abort,
+    alloc: Global,
+    words: &[Text],
+    deck: &str,
+    most: usize,
+) -> Result<u64, OutOfMemory>
+    requires { 1 ≤ most }
+{
+    let mut source = SureSource::new(alloc, deck.as_bytes(), most)?;
+    let mut whole = SureSink::new(alloc, ROOM, most)?;
+    let mut err = SureSink::new(alloc, ROOM, most)?;
+    let status = framesweep(alloc, words, &mut source, &mut whole, &mut err);
+    assert!(rt; status == 0);
+    for n in 1..CALLS {
+        let mut source = SureSource::new(alloc, deck.as_bytes(), most)?;
+        let mut out = MemSink::new(alloc, ROOM, most, &[n])?;
+        let mut err = SureSink::new(alloc, ROOM, most)?;
+        let status = framesweep(alloc, words, &mut source, &mut out, &mut err);
+        if status == 0 {
+            return Ok(n - 1);
+        }
+        assert!(rt; status == 4, "write {n}: status {status}");
+        assert!(rt; whole.kept().starts_with(out.held()), "write {n}");
+        assert!(rt; err.kept() == b"framesweep: write fault\n".as_slice());
+    }
+    Ok(CALLS)
+}
+
+// A refused deck while one write of its line, or the flush behind it, fails: the status stays 2.
+fn words_fail(
+    rt: &impl Abort,
+    alloc: Global,
+    words: &[Text],
+    most: usize,
+) -> Result<u64, OutOfMemory>
+    requires { 1 ≤ most }
+{
+    let line = b"framesweep: no thread\n".as_slice();
+    for n in 1..CALLS {
+        let mut source = SureSource::new(alloc, b"source a = 1\n", most)?;
+        let mut out = SureSink::new(alloc, ROOM, most)?;
+        let mut err = MemSink::new(alloc, ROOM, most, &[n])?;
+        let status = framesweep(alloc, words, &mut source, &mut out, &mut err);
+        assert!(rt;
+            status == 2 && out.kept().is_empty(),
+            "line {n}: status {status}"
+        );
+        assert!(rt; line.starts_with(err.held()), "line {n}");
+        if err.faults() == 0 {
+            return Ok(n - 1);
+        }
+    }
+    Ok(CALLS)
+}
+
 #[test]
 fn device_faults(rt: HostRuntime) -> Result<(), Fail> {
     let alloc = rt.alloc();
-    let words = words_of(alloc, "run")?;
-    let mut source = SureSource::new(alloc, TWO.as_bytes(), 10)?;
-    let mut out = MemSink::new(alloc, ROOM, 4, &[2])?;
-    let mut err = SureSink::new(alloc, ROOM, 7)?;
-    let status = framesweep(alloc, &words, &mut source, &mut out, &mut err);
-    assert_eq!(rt; status, 4);
-    assert!(rt;
-        out.held() == b"call".as_slice() && err.kept() == b"framesweep: write fault\n".as_slice()
-    );
-    let mut source = MemSource::new(alloc, TWO.as_bytes(), 10, &[3])?;
-    let mut out = SureSink::new(alloc, ROOM, 4)?;
-    let mut err = SureSink::new(alloc, ROOM, 7)?;
-    let status = framesweep(alloc, &words, &mut source, &mut out, &mut err);
-    assert_eq!(rt; status, 3);
-    assert!(rt; out.kept().is_empty() && err.kept() == b"framesweep: read fault\n".as_slice());
+    for (line, deck) in [("run", TWO), ("print", PRINTED)] {
+        let words = words_of(alloc, line)?;
+        // One read for each byte and one for the end, one write for each byte and the flush.
+        let reads = reads_fail(&rt, alloc, &words, deck, 1)?;
+        assert!(rt; reads == deck.len() as u64 + 1, "{reads} reads of {line}");
+        let fewer = reads_fail(&rt, alloc, &words, deck, 7)?;
+        assert!(rt; fewer < reads && fewer > 0);
+        let writes = writes_fail(&rt, alloc, &words, deck, 1)?;
+        let fewer = writes_fail(&rt, alloc, &words, deck, 7)?;
+        assert!(rt; fewer < writes && fewer > 1 && writes < CALLS);
+        assert_eq!(rt; words_fail(&rt, alloc, &words, 1)?, 23);
+        assert_eq!(rt; words_fail(&rt, alloc, &words, 7)?, 5);
+    }
     Ok(())
 }

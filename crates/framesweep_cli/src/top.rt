@@ -1,6 +1,7 @@
 // The top call.
 
 ghost use Rattle.std.specs.Prelude.{◌≡◌, IfOk, IfErr};
+ghost use Rattle.fs_io.specs.Bytes as bytes;
 ghost use Rattle.framesweep_cli.specs.Endings.{Makes, Says};
 ghost use Rattle.framesweep_cli.specs.Statuses.{Happened, Ends, Obeys, StopsSaying};
 ghost use Rattle.framesweep_cli.specs.Stops.{IsStopped};
@@ -21,6 +22,7 @@ use std::alloc::Global;
 #[tactic(auto, using(crate::proofs::Making::makes, crate::proofs::Making::refused_stops, crate::proofs::Making::unread_stops))]
 fn make<S: Source>(alloc: Global, command: &Command, source: &mut S) -> Result<Text, Stop>
     ensures ok { IfOk result (Makes command.now (S.left source.old)) }
+    ensures emptied { IfOk result (λ text. bytes.Ends (S.left source.old) (S.left source.new)) }
     ensures err { IfErr result (IsStopped (S.left source.old) (S.faults source.old) (S.faults source.new)) }
 {
     let bytes = match read_input(alloc, source) {

@@ -1,0 +1,32 @@
+//! Laws of the top call, by what it left on its devices.
+
+ghost use Rattle.std.specs.Prelude.{◌≡◌, ℕ, ◌⊎◌, List};
+ghost use Rattle.deck_text.specs.declared.fault.DeckFault.{DeckFault};
+ghost use Rattle.fs_io.specs.Count.{Rose};
+ghost use Rattle.command_words.specs.declared.command.Command.{Command};
+ghost use Rattle.command_words.specs.Words.{AsksFor};
+ghost use Rattle.framesweep_cli.specs.Endings.{IsValid, IsInvalid};
+ghost use Rattle.framesweep_cli.specs.Statuses.{Devices, Obeys};
+
+/// Status 1 comes exactly where the words are no command line, want of memory aside.
+pub fn words_decide()
+    ensures refused { (words : List (List ℕ)) (before after : Devices) (status : ℕ) → Obeys words before after status → ((command : Command) → AsksFor words command → ⊥) → (status ≡ 1) ⊎ (status ≡ 5) }
+    ensures asked { (words : List (List ℕ)) (command : Command) (before after : Devices) (status : ℕ) → Obeys words before after status → AsksFor words command → status ≡ 1 → ⊥ }
+{}
+
+/// With the words of a command and valid input, and where neither the source's faults nor the output's rose, the status
+/// is 0 or 5.
+pub fn valid_input_is_served()
+    ensures { (words : List (List ℕ)) (command : Command) (before after : Devices) (status : ℕ) → Obeys words before after status → AsksFor words command → IsValid before.left → (Rose before.source_faults after.source_faults → ⊥) → (Rose before.out_faults after.out_faults → ⊥) → (status ≡ 0) ⊎ (status ≡ 5) }
+{
+    deck_text::laws::one_answer();
+}
+
+/// With the words of a command and input that spells no deck, and where the source's faults did not rise, the status is 2
+/// or 5; and 2 comes for no valid input.
+pub fn invalid_input_is_refused()
+    ensures refused { (words : List (List ℕ)) (command : Command) (fault : DeckFault) (before after : Devices) (status : ℕ) → Obeys words before after status → AsksFor words command → IsInvalid before.left fault → (Rose before.source_faults after.source_faults → ⊥) → (status ≡ 2) ⊎ (status ≡ 5) }
+    ensures valid { (words : List (List ℕ)) (before after : Devices) (status : ℕ) → Obeys words before after status → IsValid before.left → status ≡ 2 → ⊥ }
+{
+    deck_text::laws::one_answer();
+}
