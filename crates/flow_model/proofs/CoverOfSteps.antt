@@ -122,9 +122,9 @@ opened-preceded graph s h t m0 w q ws os lq grows edges entry stays_in order la 
     mine xt (ne, inr y) = old t xt y
 
     go : ((u == t) ≡ true) ⊎ ((u == t) ≡ false) → wants after u n ≡ elim (u == t) as (λ _. Bool) [
-        | true ↦ (is_in n xs && not ((n == m0) || opens q t n)) || (wants q t n && not (n == m0))
-        | false ↦ wants q u n
-      ] → IsPreceded after u n
+      | true ↦ (is_in n xs && not ((n == m0) || opens q t n)) || (wants q t n && not (n == m0))
+      | false ↦ wants q u n
+    ] → IsPreceded after u n
     go (inr e) y = let j : wants q u n ≡ true = grind (arith, y, e, k) in old u x j
     go (inl e) y =
         let j : ((is_in n xs && not ((n == m0) || opens q t n)) || (wants q t n && not (n == m0))) ≡ true = grind (arith, y, e, k) in
