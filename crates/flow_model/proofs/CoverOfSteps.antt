@@ -309,8 +309,10 @@ ended-preceded graph s h t a u n x w = go (true_or_false (u == t))
     go (inr e) =
         let k = without_call-other t u s.calls (λ y. is_not_true _ e (equal_test u t y)) in
         kept-preceded graph s h q u n (sym (ap (λ (o : Option LiveCall). (call_or o).executing) k) ∙ x) (sym (ap (λ (o : Option LiveCall). is_in n (call_or o).wanted) k) ∙ w)
-        (λ v r o. (reaches-retire s.pairs t v u first ∙ and_make (not (v == t)) (reaches s.pairs v u) (ap not (apart v o)) r,
-            ap (λ (c : Option LiveCall). is_in n (call_or c).open_nodes) (without_call-other t v s.calls (λ y. is_not_true _ (apart v o) (equal_test v t y))) ∙ o))
+        (λ v r o. (
+          reaches-retire s.pairs t v u first ∙ and_make (not (v == t)) (reaches s.pairs v u) (ap not (apart v o)) r,
+          ap (λ (c : Option LiveCall). is_in n (call_or c).open_nodes) (without_call-other t v s.calls (λ y. is_not_true _ (apart v o) (equal_test v t y))) ∙ o,
+        ))
 
 step-preceded : (graph : Graph) (s : Core) (step : Step) → IsLawful graph s → allowed graph s step ≡ true → (u n : ℕ) → executes (apply graph s step) u ≡ true → wants (apply graph s step) u n ≡ true → IsPreceded (apply graph s step) u n
 step-preceded graph s (steps.Frame t m) h a u n x w = framed-preceded graph s h t m a u n x w
