@@ -163,7 +163,11 @@ by_form k (form.Read looks) line p s =
     subst (λ (l : Line). Cuts (canonical_words l)) (sym s)
     (cuts (codes "read" ∷ with_commas looks) (both_apart (codes "read" ∷ []) (with_commas looks) (word_apart (codes "read") (record { some = omega arith; all = refl })) (names_apart looks p.0 p.1)))
 
--- the canonical text of a line is cut into the words that it was written of
+-- the canonical words of a line stand apart
+pub apart_again : Scripts → (list : Words) (line : Line) → IsLine list line → StandApart [] (canonical_words line)
+apart_again k list line l = (by_form k l.f line l.fits.proper l.says).stand
+
+-- so its canonical text is cut into the words that it was written of
 pub cut_again : Scripts → ((list : Words) → StandApart [] list → words (joined list) ≡ list) → (list : Words) (line : Line) → IsLine list line → line_words (line_text line) ≡ canonical_words line
 cut_again k back list line l =
     let known = by_form k l.f line l.fits.proper l.says in

@@ -1,10 +1,10 @@
 //! Laws of lines.
 
-ghost use Rattle.std.specs.Prelude.{◌≡◌, ◌≢◌, ℕ, ◌≤◌, false, List, length};
+ghost use Rattle.std.specs.Prelude.{◌≡◌, ◌≢◌, ℕ, ◌≤◌, false, List, [], length};
 ghost use Rattle.std.specs.List.{list_any};
 ghost use Rattle.script_tree.specs.declared.value.Value.{Value};
 ghost use Rattle.script_tree.specs.Printed.{value_text};
-ghost use Rattle.expr_script.specs.Joined.{joined};
+ghost use Rattle.expr_script.specs.Joined.{joined, StandApart};
 ghost use Rattle.deck_lines.specs.declared.fault.LineFault.{LineFault};
 ghost use Rattle.deck_lines.specs.declared.fault.LineFault.TheVariants.{Memory};
 ghost use Rattle.deck_lines.specs.declared.line.Line.{Line};
@@ -34,10 +34,12 @@ pub fn one_line()
     expr_script::laws::one_answer();
 }
 
-/// The canonical text of a line that some words say: it is cut into the line's canonical words, which say the same line.
+/// The canonical text of a line that some words say: its words stand apart, so it is cut into the line's canonical words,
+/// which say the same line.
 /// So it is read as the same line again. It is one line, and no longer than a line that it was read from.
 pub fn canonical_line()
     ensures says { (words : Words) (line : Line) → IsLine words line → IsLine (canonical_words line) line }
+    ensures apart { (words : Words) (line : Line) → IsLine words line → StandApart [] (canonical_words line) }
     ensures cut { (words : Words) (line : Line) → IsLine words line → line_words (line_text line) ≡ canonical_words line }
     ensures back { (words : Words) (line : Line) → IsLine words line → IsLine (line_words (line_text line)) line }
     ensures whole { (words : Words) (line : Line) → IsLine words line → list_any is_end (line_text line) ≡ false }

@@ -12,7 +12,7 @@ use Rattle.signal_graph.specs.declared.call.Call.{Call}
 use Rattle.signal_graph.specs.declared.node.Selector.{Selector}
 use Rattle.signal_graph.specs.declared.node.Node.{Node}
 use Rattle.signal_graph.specs.Graph.{Graph, IsGraph, IsNode, AreNodes, IsSelector, name_at, node_at}
-use Rattle.deck_text.specs.Printed.{with_word, with_set, with_call, with_thread, with_selector, with_node, with_names, with_more_names, with_sets, with_more_sets, with_looks, with_selectors, with_calls, with_threads, with_more_selectors, with_nodes, CandidatesBelow}
+use Rattle.deck_text.specs.Appended.{with_word, with_set, with_call, with_thread, with_selector, with_node, with_names, with_more_names, with_sets, with_more_sets, with_looks, with_selectors, with_calls, with_threads, with_more_selectors, with_nodes, CandidatesBelow}
 
 drop_item : {A : Type 0} (xs : List A) (k : ℕ) (x : A) → k < length xs → x ≡ get_or xs k x → drop k xs ≡ x ∷ drop (k + 1) xs
 drop_item xs k x h e = rw (add-one, drop-cons xs k x) (ap (λ y. y ∷ drop (suc k) xs) (sym e))

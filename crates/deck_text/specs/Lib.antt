@@ -1,6 +1,8 @@
+pub mod Appended
 pub mod Calls
 pub mod Decks
 pub mod Faults
+pub mod Kept
 pub mod Lines
 pub mod Printed
 pub mod Readers

@@ -5,7 +5,8 @@ ghost use Rattle.signal_graph.specs.Graph.{name_at, node_at};
 ghost use Rattle.expr_script.specs.Printed.{printed};
 ghost use Rattle.script_tree.specs.Names.{is_word};
 ghost use Rattle.script_tree.specs.Printed.{value_text};
-ghost use Rattle.deck_text.specs.Printed.{ends_with_word, with_word, with_head, with_names, with_more_names, with_set, with_sets, with_more_sets, with_looks, with_call, with_calls, with_threads, with_selector, with_selectors, with_more_selectors, with_body, with_declaration, with_node, with_nodes, CandidatesBelow, canonical};
+ghost use Rattle.deck_text.specs.Appended.{ends_with_word, with_word, with_head, with_names, with_more_names, with_set, with_sets, with_more_sets, with_looks, with_call, with_calls, with_threads, with_selector, with_selectors, with_more_selectors, with_body, with_declaration, with_node, with_nodes, CandidatesBelow};
+ghost use Rattle.deck_text.specs.Printed.{canonical};
 
 use crate::deck::Deck;
 use expr_script::print_script_to;

@@ -1,5 +1,5 @@
 use Rattle.std.proofs.Common.{◌≡◌, drop}
-use Rattle.deck_text.specs.Printed.{with_more_names}
+use Rattle.deck_text.specs.Appended.{with_more_names}
 use Rattle.std.specs.Prelude.{map}
 use Rattle.signal_graph.specs.Graph.{name_at}
 use Rattle.deck_text.proofs.printer.push_more_candidates.Given as goal

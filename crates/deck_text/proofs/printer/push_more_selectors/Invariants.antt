@@ -1,5 +1,5 @@
 use Rattle.std.proofs.Common.{◌≡◌, drop}
-use Rattle.deck_text.specs.Printed.{with_more_selectors}
+use Rattle.deck_text.specs.Appended.{with_more_selectors}
 use Rattle.deck_text.proofs.printer.push_more_selectors.Given as goal
 
 abbrev pub invariant-loop-selector : goal.invariant-loop-selector

@@ -1,5 +1,5 @@
 use Rattle.std.proofs.Common.{◌≡◌, drop}
-use Rattle.deck_text.specs.Printed.{with_more_sets}
+use Rattle.deck_text.specs.Appended.{with_more_sets}
 use Rattle.deck_text.proofs.printer.push_more_sets.Given as goal
 
 abbrev pub invariant-loop-set : goal.invariant-loop-set

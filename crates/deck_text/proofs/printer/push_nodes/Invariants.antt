@@ -1,5 +1,5 @@
 use Rattle.std.proofs.Common.{◌≡◌, drop}
-use Rattle.deck_text.specs.Printed.{with_nodes}
+use Rattle.deck_text.specs.Appended.{with_nodes}
 use Rattle.deck_text.proofs.printer.push_nodes.Given as goal
 
 abbrev pub invariant-loop-node : goal.invariant-loop-node

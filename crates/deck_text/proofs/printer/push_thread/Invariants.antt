@@ -1,5 +1,5 @@
 use Rattle.std.proofs.Common.{◌≡◌, drop}
-use Rattle.deck_text.specs.Printed.{with_calls}
+use Rattle.deck_text.specs.Appended.{with_calls}
 use Rattle.deck_text.proofs.printer.push_thread.Given as goal
 
 abbrev pub invariant-loop-call : goal.invariant-loop-call

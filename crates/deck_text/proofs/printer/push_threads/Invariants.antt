@@ -1,5 +1,5 @@
 use Rattle.std.proofs.Common.{◌≡◌, drop}
-use Rattle.deck_text.specs.Printed.{with_threads}
+use Rattle.deck_text.specs.Appended.{with_threads}
 use Rattle.deck_text.proofs.printer.push_threads.Given as goal
 
 abbrev pub invariant-loop-calls : goal.invariant-loop-calls
