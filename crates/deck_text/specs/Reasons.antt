@@ -1,5 +1,5 @@
 -- Why a line is refused: the reasons in their order, of which the first one counts.
-use Rattle.std.specs.Prelude.{◌≡◌, ◌<◌, ◌≤◌, ◌+◌, ℕ, ◌⊎◌, List, [], ◌∷◌, ◌++◌, length, Some}
+use Rattle.std.specs.Prelude.{◌≡◌, ◌<◌, ◌≤◌, ◌+◌, ℕ, ◌⊎◌, List, [], ◌∷◌, ◌++◌, length, Some, Result, Ok, Err}
 use Rattle.script_tree.specs.declared.limits.TheConstants.{DECK_BYTES, LINE_BYTES, NODES, THREADS}
 use Rattle.signal_graph.specs.declared.builder.DeclKind.{DeclKind}
 use Rattle.signal_graph.specs.declared.builder.GraphFault.{GraphFault}
@@ -19,7 +19,7 @@ use Rattle.deck_text.specs.declared.reason.Reason.{Reason}
 use Rattle.deck_text.specs.declared.reason.Reason.TheVariants.{LineTooLong, Syntax, TooMany, DoubleName, UnknownInput, Memory}
 use Rattle.deck_text.specs.Decks.{Decked}
 use Rattle.deck_text.specs.Lines.{lines, end_of}
-use Rattle.deck_text.specs.Spelled.{Lead, HasNoThread, nothing_yet}
+use Rattle.deck_text.specs.Spelled.{Lead, HasNoThread, SpellsDeck, nothing_yet}
 
 -- what a line is for, by its form
 pub data Part : Type 0 where
@@ -113,3 +113,8 @@ IsDeckFault bytes (fault.TooMany number what) = IsFaultyLine bytes number (TooMa
 IsDeckFault bytes (fault.LineTooLong number) = IsFaultyLine bytes number LineTooLong
 IsDeckFault bytes fault.NoThread = IsThreadless bytes
 IsDeckFault bytes fault.Memory = Unit {0}
+
+-- bytes are read as the deck that they spell, or refused for the first reason of their first faulty line
+abbrev pub ReadsDeck : List ℕ → Result Decked DeckFault → Type 0
+ReadsDeck bytes (Ok deck) = SpellsDeck bytes deck
+ReadsDeck bytes (Err fault) = IsDeckFault bytes fault

@@ -6,9 +6,10 @@ use signal_graph::call::Scripts;
 use signal_graph::graph::Graph;
 use std::marker::Model;
 
-/// A graph and one list of calls per thread. It has at least one thread and at most as many as the limit; each thread
-/// has fewer than 2^32 calls, each fire a set and each read a look, each at most as many as the limits, and no set has
-/// a fault as its value. Names in calls need not be declared.
+/// A graph and one list of calls per thread: a deck that lines spell. So no line of its canonical text is too long, and
+/// no script in it is nested too deep. It has at least one thread and at most as many as the limit; each thread has
+/// fewer than 2^32 calls, each fire a set and each read a look, each at most as many as the limits, and no set has a
+/// fault as its value. Names in calls need not be declared.
 #[derive(Drop)]
 pub struct Deck {
     graph: Graph,
@@ -19,7 +20,7 @@ impl Model for Deck {
     ghost use Rattle.std.specs.Coded.{codes};
     ghost use Rattle.script_tree.specs.TreeCode.{tree_code};
     ghost use Rattle.deck_text.specs.Decks.{Decked};
-    ghost use Rattle.deck_text.specs.Calls.{AreThreads};
+    ghost use Rattle.deck_text.specs.Kept.{IsDeck};
 
     ghost Value = { Decked };
 
@@ -27,24 +28,26 @@ impl Model for Deck {
 
     ghost view = { λ deck. record { graph = deck.graph; scripts = deck.scripts } };
 
-    ghost invariant = { λ deck. AreThreads deck.scripts };
+    ghost invariant = { λ deck. IsDeck (record { graph = deck.graph; scripts = deck.scripts }) };
 }
 
 impl Deck {
     ghost use Rattle.deck_text.specs.Calls.{AreThreads};
+    ghost use Rattle.deck_text.specs.Kept.{IsDeck};
 
-    /// The deck of this graph and these calls. Takes no memory.
+    /// The deck of this graph and these calls, which some lines spell. Takes no memory.
     pub fn new(graph: Graph, scripts: Scripts) -> Deck
-        requires { AreThreads scripts }
+        requires { IsDeck (record { graph = graph; scripts = scripts }) }
         ensures graph { result.graph ≡ graph }
         ensures scripts { result.scripts ≡ scripts }
     {
         Deck { graph, scripts }
     }
 
-    /// The graph of its declarations. Takes no memory.
+    /// The graph of its declarations. With it comes what every deck keeps. Takes no memory.
     pub fn graph(&self) -> &Graph
-        ensures { result.now ≡ self.now.graph }
+        ensures value { result.now ≡ self.now.graph }
+        ensures kept { IsDeck self.now }
     {
         &self.graph
     }

@@ -1,14 +1,17 @@
 // Printing a deck. Each function adds to the end of a text.
 
-ghost use Rattle.std.specs.Prelude.{◌≡◌, ◌<◌, codes, ◌∷◌, ◌++◌, [], length, map, All, IfOk, OnOk};
+ghost use Rattle.std.specs.Prelude.{◌≡◌, ◌<◌, ◌≤◌, codes, ◌∷◌, ◌++◌, [], length, map, All, IfOk, OnOk};
 ghost use Rattle.signal_graph.specs.Graph.{name_at, node_at};
 ghost use Rattle.expr_script.specs.Printed.{printed};
 ghost use Rattle.script_tree.specs.Names.{is_word};
 ghost use Rattle.script_tree.specs.Printed.{value_text};
 ghost use Rattle.deck_text.specs.Appended.{ends_with_word, with_word, with_head, with_names, with_more_names, with_set, with_sets, with_more_sets, with_looks, with_call, with_calls, with_threads, with_selector, with_selectors, with_more_selectors, with_body, with_declaration, with_node, with_nodes, CandidatesBelow};
 ghost use Rattle.deck_text.specs.Printed.{canonical};
+ghost use Rattle.deck_text.specs.Spelled.{SpellsDeck};
+ghost use Rattle.script_tree.specs.declared.limits.TheConstants.{DECK_BYTES};
 
 use crate::deck::Deck;
+use deck_lines::laws::{canonical_line, written_value};
 use expr_script::print_script_to;
 use script_tree::items::Text;
 use script_tree::memory::OutOfMemory;
@@ -351,10 +354,14 @@ fn push_nodes(alloc: Global, text: &mut Text, graph: &Graph) -> Result<(), OutOf
 }
 
 /// The canonical text of a deck: its lines in their order, each with a line feed, scripts canonical, one space exactly
-/// between two words that follow each other, and no other blanks. Takes memory.
+/// between two words that follow each other, and no other blanks. Where it is within the bytes of a deck it is read as
+/// the same deck. A deck of the greatest length without a last line feed may print one byte beyond. Takes memory.
 pub fn print_deck(alloc: Global, deck: &Deck) -> Result<Text, OutOfMemory>
-    ensures { IfOk result (λ text. text ≡ canonical deck.now) }
+    ensures text { IfOk result (λ text. text ≡ canonical deck.now) }
+    ensures back { IfOk result (λ text. length text ≤ DECK_BYTES → SpellsDeck text deck.now) }
 {
+    canonical_line();
+    written_value();
     let mut text = Text::new(alloc);
     push_nodes(alloc, &mut text, deck.graph())?;
     push_threads(&mut text, deck.scripts().as_slice())?;

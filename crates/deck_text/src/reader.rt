@@ -5,7 +5,7 @@ ghost use Rattle.signal_graph.specs.Declarations.{IsDeclaration};
 ghost use Rattle.deck_lines.specs.Kept.{IsCall, IsKept};
 ghost use Rattle.deck_text.specs.Faults.{NamesLine};
 ghost use Rattle.deck_text.specs.Lines.{lines};
-ghost use Rattle.deck_text.specs.Readers.{Reads, deck_of};
+ghost use Rattle.deck_text.specs.Readers.{Reads, IsLed, deck_of};
 ghost use Rattle.deck_text.specs.Refused.{NotDeclared, NotBegun, NotCalled, NotTaken, BeyondDeclaring, BeyondCalling, NotRead, IsReason};
 ghost use Rattle.deck_text.specs.Reasons.{IsDeckFault};
 ghost use Rattle.deck_text.specs.Spelled.{Adds, Extends, SpellsDeck, nothing_yet};
@@ -200,6 +200,7 @@ impl Reader {
     // The deck of all lines, of which one begins a thread.
     fn deck(self) -> Result<Deck, OutOfMemory>
         requires reads { Reads self }
+        requires led { IsLed (deck_of self) }
         requires begun { self.begun ≡ true }
         requires counted { length self.calls.items < 2 ^ 32 }
         ensures graph { IfOk result (λ deck. deck.graph ≡ self.builder) }
@@ -220,6 +221,7 @@ impl Reader {
 
     fn finish(self) -> Result<Deck, DeckFault>
         requires reads { Reads self }
+        requires led { IsLed (deck_of self) }
         requires counted { length self.calls.items < 2 ^ 32 }
         ensures names { (n : ℕ) → IfErr result (NamesLine n) }
         ensures ok { IfOk result (λ deck. deck ≡ deck_of self) }

@@ -1,10 +1,11 @@
 -- From what was read to what is written.
 use Rattle.std.proofs.Common.{ℕ, Bool, List, Option, Ok}
 use Rattle.deck_text.specs.Decks.{Decked}
+use Rattle.deck_text.specs.Reasons.{ReadsDeck}
 use Rattle.command_words.specs.declared.command.Command.{Command}
 use Rattle.framesweep_cli.specs.declared.stop.Stop.{Stop}
 use Rattle.framesweep_cli.specs.declared.stop.Stop.TheVariants.{Read, Deck, Memory}
-use Rattle.framesweep_cli.specs.Endings.{IsInput, ReadsDeck, IsReport, IsSerial, IsAnyOrder, IsOutput, Makes}
+use Rattle.framesweep_cli.specs.Endings.{IsInput, IsReport, IsSerial, IsAnyOrder, IsOutput, Makes}
 use Rattle.framesweep_cli.specs.Stops.{IsRefused, IsUnread, IsStopped}
 
 pub makes : (command : Command) (left : Option (List ℕ)) (bytes : List ℕ) (deck : Decked) (text : List ℕ) → IsInput left bytes → ReadsDeck bytes (Ok deck) → IsOutput command deck text → Makes command left text

@@ -1,5 +1,5 @@
 -- What the program reads, makes and says.
-use Rattle.std.specs.Prelude.{◌≡◌, ◌≢◌, ℕ, ◌+◌, Bool, true, false, ⊤, ◌⊎◌, List, take, Option, Some, None, Result, Ok, Err}
+use Rattle.std.specs.Prelude.{◌≡◌, ◌≢◌, ℕ, ◌+◌, Bool, true, false, ⊤, ◌⊎◌, List, take, Option, Some, None, Ok, Err}
 use Rattle.fs_io.specs.Bytes.{Adds, AddsFirst}
 use Rattle.fs_io.specs.Count.{Rose}
 use Rattle.script_tree.specs.declared.limits.TheConstants.{DECK_BYTES}
@@ -13,7 +13,7 @@ use Rattle.deck_text.specs.declared.fault.DeckFault.{DeckFault}
 use Rattle.deck_text.specs.declared.fault.DeckFault.TheVariants.{Memory}
 use Rattle.deck_text.specs.Decks.{Decked}
 use Rattle.deck_text.specs.Printed.{canonical}
-use Rattle.deck_text.specs.Reasons.{IsDeckFault}
+use Rattle.deck_text.specs.Reasons.{IsDeckFault, ReadsDeck}
 use Rattle.deck_text.specs.Spelled.{SpellsDeck}
 use Rattle.report_text.specs.Report.{report_of}
 use Rattle.report_text.specs.Json.{json_of}
@@ -24,11 +24,6 @@ use Rattle.command_words.specs.declared.command.Command.TheVariants.{Run, Serial
 abbrev pub IsInput : Option (List ℕ) → List ℕ → Type 0
 IsInput None bytes = ⊤
 IsInput (Some left) bytes = bytes ≡ take (DECK_BYTES + 1) left
-
--- bytes are read as the deck that they spell, or refused for the first reason of their first faulty line
-abbrev pub ReadsDeck : List ℕ → Result Decked DeckFault → Type 0
-ReadsDeck bytes (Ok deck) = SpellsDeck bytes deck
-ReadsDeck bytes (Err fault) = IsDeckFault bytes fault
 
 -- a report as text or as one line of JSON
 abbrev pub report_bytes : Bool → List Logged → List Refused → List (List ℕ) → List Value → List ℕ

@@ -4,7 +4,8 @@ use Rattle.fs_io.specs.Count.{Rose}
 use Rattle.deck_text.specs.declared.fault.DeckFault.TheVariants as fault
 use Rattle.framesweep_cli.specs.declared.stop.Stop.{Stop}
 use Rattle.framesweep_cli.specs.declared.stop.Stop.TheVariants.{Read, Deck, Memory}
-use Rattle.framesweep_cli.specs.Endings.{ReadsDeck, Refuses}
+use Rattle.deck_text.specs.Reasons.{ReadsDeck}
+use Rattle.framesweep_cli.specs.Endings.{Refuses}
 
 -- why bytes are not read as a deck: they are refused, or there was no memory
 abbrev pub IsRefused : List ℕ → Stop → Type 0

@@ -3,7 +3,8 @@
 ghost use Rattle.std.specs.Prelude.{◌≡◌, ◌+◌, ◌<◌, ◌≤◌, ◌^◌, length, Ok, IfOk, IfErr};
 ghost use Rattle.script_tree.specs.declared.limits.TheConstants.{DECK_BYTES as MOST};
 ghost use Rattle.fs_io.specs.Bytes.{Ends};
-ghost use Rattle.framesweep_cli.specs.Endings.{IsInput, ReadsDeck};
+ghost use Rattle.deck_text.specs.Reasons.{ReadsDeck};
+ghost use Rattle.framesweep_cli.specs.Endings.{IsInput};
 ghost use Rattle.framesweep_cli.specs.Stops.{IsRefused, IsUnread};
 
 use crate::stop::Stop;
