@@ -6,20 +6,16 @@ ghost use Rattle.std.specs.Str.{bytes_eq};
 ghost use Rattle.signal_graph.specs.Declarations.{script_names, different_names};
 ghost use Rattle.deck_lines.specs.Inputs.{seen_after};
 
+use script_tree::bytes::is_same;
 use script_tree::name::{Name, NameList};
 use script_tree::script::Script;
 use std::alloc::{AllocError, Global};
 
-fn is_same(first: &Name, second: &Name) -> bool
-    ensures { result ≡ bytes_eq first.now second.now }
-{
-    first.as_slice() == second.as_slice()
-}
-
 fn is_seen(seen: &[Name], name: &Name) -> bool
     ensures { result ≡ list_any (bytes_eq name.now) seen.now }
 {
-    seen.iter().any(|other| is_same(name, other))
+    seen.iter()
+        .any(|other| is_same(name.as_slice(), other.as_slice()))
 }
 
 // Adds those of the names that are not there yet.

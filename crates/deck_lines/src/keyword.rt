@@ -1,8 +1,9 @@
 // The words that begin a line.
 
 ghost use Rattle.std.specs.Prelude.{◌≡◌};
-ghost use Rattle.std.specs.Str.{bytes_eq};
 ghost use Rattle.deck_lines.specs.Reading.{keyword_of};
+
+use script_tree::bytes::is_same;
 
 /// What a line is for, by the word that it begins with.
 #[derive(Clone, Copy, PartialEq, Eq, Debug)]
@@ -14,12 +15,6 @@ pub enum Keyword {
     Thread,
     Fire,
     Read,
-}
-
-fn is_same(text: &[u8], word: &[u8]) -> bool
-    ensures { result ≡ bytes_eq text.now word.now }
-{
-    text == word
 }
 
 impl Keyword {

@@ -3,7 +3,6 @@
 ghost use Rattle.std.specs.Prelude.{◌≡◌, ◌<◌, ◌≤◌, ◌^◌, IfNone, IfSome};
 ghost use Rattle.std.specs.Char.{is_ascii_digit};
 ghost use Rattle.std.specs.List.{list_all};
-ghost use Rattle.std.specs.Str.{bytes_eq};
 ghost use Rattle.expr_script.specs.Words.{value};
 ghost use Rattle.expr_script.specs.Pieces.{words_among};
 ghost use Rattle.deck_lines.specs.Cuts.{Within};
@@ -11,6 +10,7 @@ ghost use Rattle.deck_lines.specs.Values as values;
 
 use crate::cut::{first, is_word};
 use expr_script::pieces::Piece;
+use script_tree::bytes::is_same;
 use script_tree::value::Value;
 
 // The greatest number behind a minus, and its tenth.
@@ -76,12 +76,6 @@ fn below_zero(word: &[u8]) -> Option<Value>
         return Some(Value::Int(i64::MIN));
     }
     Some(Value::Int(-(number as i64)))
-}
-
-fn is_same(text: &[u8], word: &[u8]) -> bool
-    ensures { result ≡ bytes_eq text.now word.now }
-{
-    text == word
 }
 
 fn one_word(word: &[u8]) -> Option<Value>

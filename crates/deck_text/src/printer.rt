@@ -3,7 +3,6 @@
 ghost use Rattle.std.specs.Prelude.{◌≡◌, ◌<◌, ◌≤◌, codes, ◌∷◌, ◌++◌, [], length, map, All, IfOk, OnOk};
 ghost use Rattle.signal_graph.specs.Graph.{name_at, node_at};
 ghost use Rattle.expr_script.specs.Printed.{printed};
-ghost use Rattle.script_tree.specs.Names.{is_word};
 ghost use Rattle.script_tree.specs.Printed.{value_text};
 ghost use Rattle.deck_text.specs.Appended.{ends_with_word, with_word, with_head, with_names, with_more_names, with_set, with_sets, with_more_sets, with_looks, with_call, with_calls, with_threads, with_selector, with_selectors, with_more_selectors, with_body, with_declaration, with_node, with_nodes, CandidatesBelow};
 ghost use Rattle.deck_text.specs.Printed.{canonical};
@@ -13,6 +12,7 @@ ghost use Rattle.script_tree.specs.declared.limits.TheConstants.{DECK_BYTES};
 use crate::deck::Deck;
 use deck_lines::laws::{canonical_line, written_value};
 use expr_script::print_script_to;
+use script_tree::bytes::is_word;
 use script_tree::items::Text;
 use script_tree::memory::OutOfMemory;
 use script_tree::name::Name;
@@ -23,12 +23,6 @@ use signal_graph::call::{Call, CallList};
 use signal_graph::graph::Graph;
 use signal_graph::node::{Node, Selector};
 use std::alloc::Global;
-
-fn is_word(byte: u8) -> bool
-    ensures { result ≡ is_word byte }
-{
-    byte.is_ascii_alphanumeric() || byte == b'_'
-}
 
 fn ends_with_word(text: &[u8]) -> bool
     ensures { result ≡ ends_with_word text.now }

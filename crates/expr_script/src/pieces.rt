@@ -5,6 +5,7 @@ ghost use Rattle.script_tree.specs.Names.{is_word};
 ghost use Rattle.expr_script.specs.Cut.{begins_word, IsCut};
 ghost use Rattle.expr_script.specs.Pieces.{is_blank, is_pair, piece_len, pieces_from, pieces, bytes_of};
 
+use script_tree::bytes::is_word;
 use script_tree::memory::OutOfMemory;
 use std::alloc::Global;
 
@@ -29,12 +30,6 @@ fn is_blank(byte: u8) -> bool
     ensures { result ≡ is_blank byte }
 {
     byte == b' ' || byte == b'\t'
-}
-
-fn is_word(byte: u8) -> bool
-    ensures { result ≡ is_word byte }
-{
-    byte.is_ascii_alphanumeric() || byte == b'_'
 }
 
 // Whether a text begins with a byte of a word.

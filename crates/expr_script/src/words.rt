@@ -3,11 +3,11 @@
 ghost use Rattle.std.specs.Prelude.{◌≡◌, ◌≤◌, length};
 ghost use Rattle.std.specs.List.{list_all};
 ghost use Rattle.std.specs.Char.{is_ascii_digit};
-ghost use Rattle.std.specs.Str.{bytes_eq};
 ghost use Rattle.expr_script.specs.Words.{number, place_of, name_token, short_sign, sign_token, fixed_token, pick_token, other_token, token};
 
 use crate::atoms::Atoms;
 use script_grammar::token::{Token, Word};
+use script_tree::bytes::is_same;
 use script_tree::expr::Binary;
 use script_tree::limits::INPUTS;
 use script_tree::name::{Name, NameList};
@@ -62,12 +62,6 @@ fn name_token(atoms: Atoms, inputs: &NameList, name: &Name) -> Token
         Atoms::Script(_) => Token::Plain(Word::Called(place_of(inputs, name) as u32)),
         Atoms::Body(_) => Token::Stray,
     }
-}
-
-fn is_same(text: &[u8], word: &[u8]) -> bool
-    ensures { result ≡ bytes_eq text.now word.now }
-{
-    text == word
 }
 
 fn short_sign(word: &[u8]) -> Token

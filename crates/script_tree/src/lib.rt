@@ -2,6 +2,7 @@
 #![tactic(auto)]
 
 mod arith;
+pub mod bytes;
 mod eval;
 pub mod expr;
 pub mod items;

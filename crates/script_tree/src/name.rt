@@ -5,6 +5,7 @@ ghost use Rattle.script_tree.specs.Names.{is_word, reserved_a_to_f, reserved_i_t
 ghost use Rattle.std.specs.Str.{bytes_eq};
 ghost use Rattle.std.specs.List.{list_all, list_any};
 
+use crate::bytes::{is_same, is_word};
 use crate::items::Items;
 use crate::limits::NAME_BYTES;
 use arrayvec::ArrayVec;
@@ -27,18 +28,6 @@ impl Model for Name {
     ghost view = { λ n. n.bytes.items };
 
     ghost invariant = { λ n. IsTrue (is_name n.bytes.items) };
-}
-
-fn is_word(byte: u8) -> bool
-    ensures { result ≡ is_word byte }
-{
-    byte.is_ascii_alphanumeric() || byte == b'_'
-}
-
-fn is_same(text: &[u8], word: &[u8]) -> bool
-    ensures { result ≡ bytes_eq text.now word.now }
-{
-    text == word
 }
 
 fn is_reserved_a_to_f(text: &[u8]) -> bool
