@@ -6,3 +6,5 @@ pub mod Reasoning
 pub mod Refusing
 pub mod Faulting
 pub mod OneDeck
+pub mod Declarations
+pub mod Canonical
