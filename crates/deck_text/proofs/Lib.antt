@@ -8,3 +8,5 @@ pub mod Faulting
 pub mod OneDeck
 pub mod Putting
 pub mod Appending
+pub mod Declarations
+pub mod Canonical
