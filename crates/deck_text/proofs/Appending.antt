@@ -29,6 +29,7 @@ use Rattle.deck_lines.specs.Lines.{SaysSet, SaysPart, Says, IsLine}
 use Rattle.deck_lines.proofs.Wholes.{colon, equals}
 use Rattle.deck_text.specs.Appended.{ends_with_word, with_word, with_head, with_names, with_set, with_sets, with_more_sets, with_looks, with_call, with_calls, with_threads, with_selector, with_selectors, with_more_selectors, with_body, with_declaration, with_node, with_nodes, appended}
 use Rattle.deck_text.specs.Decks.{Decked}
+use Rattle.deck_text.specs.Kept.{IsCanonical}
 use Rattle.deck_text.specs.Printed.{part_of, declaration, thread_lines, lines_of, line_and_feed, canonical}
 use Rattle.deck_text.proofs.Putting.{put, added, AllWhole, added_on, all_parts, apart_whole, byte_ends, put_ends, joined_added, word_put, sign_put, name_put, names_added}
 
@@ -305,21 +306,19 @@ line_named form.Thread line p s = subst Named (sym s) tt
 line_named (form.Fire forms looks) line p s = subst Named (sym s.2) (sets_named forms s.0 p.1 s.1, p.2)
 line_named (form.Read looks) line p s = subst Named (sym s) p.1
 
--- a line that its canonical words say
-abbrev pub IsSaid : Line → Type 0
-IsSaid line = IsLine (canonical_words line) line
-
 -- the canonical words of lines stand apart
 abbrev pub LinesApart : Type 0
 LinesApart = (words : Words) (line : Line) → IsLine words line → StandApart [] (canonical_words line)
 
-line_sound : LinesApart → (line : Line) → IsSaid line → Sound line
-line_sound apart line i = record { whole = apart_whole [] (canonical_words line) (apart (canonical_words line) line i); named = line_named i.f line i.fits.proper i.says }
+line_sound : LinesApart → (line : Line) → IsCanonical line → Sound line
+line_sound apart line i =
+    let said = i.says in
+    record { whole = apart_whole [] (canonical_words line) (apart (canonical_words line) line said); named = line_named said.f line said.fits.proper said.says }
 
-lines_sound : LinesApart → (lines : List Line) → AllByRecursion IsSaid lines → AllByRecursion Sound lines
+lines_sound : LinesApart → (lines : List Line) → AllByRecursion IsCanonical lines → AllByRecursion Sound lines
 lines_sound apart [] all = tt
 lines_sound apart (line ∷ lines) all = (line_sound apart line all.0, lines_sound apart lines all.1)
 
 -- what the printer adds for a deck is its canonical text, where each line is one that its canonical words say
-pub appended_is_canonical : ValuesJoined → LinesApart → (deck : Decked) → length deck.graph.names ≡ length deck.graph.nodes → AllByRecursion IsSaid (lines_of deck) → appended deck ≡ canonical deck
+pub appended_is_canonical : ValuesJoined → LinesApart → (deck : Decked) → length deck.graph.names ≡ length deck.graph.nodes → AllByRecursion IsCanonical (lines_of deck) → appended deck ≡ canonical deck
 appended_is_canonical joins apart deck l all = deck_added joins deck l (lines_sound apart (lines_of deck) all)

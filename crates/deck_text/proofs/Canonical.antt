@@ -207,7 +207,7 @@ canonical_short again bytes deck s =
     omega (arith, short, same, long, fed)
 
 -- want of memory aside, the one right answer for the canonical text of a deck is the deck
-pub canonical_again : Again → OneAnswer → (text : List (List ℕ)) (deck : Decked) → Spell text deck → (answer : Result Decked DeckFault)
+pub canonical_again : Again → OneAnswer → (text : List (List ℕ)) (deck : Decked) (answer : Result Decked DeckFault) → Spell text deck
     → length (canonical deck) ≤ DECK_BYTES → ReadsDeck (canonical deck) answer → answer ≢ Err fault.Memory → answer ≡ Ok deck
-canonical_again again one text deck s (Ok d) short h some = ap Ok (one.deck (canonical deck) d deck h (canonical_back again text deck s short))
-canonical_again again one text deck s (Err f) short h some = absurd (some (ap Err (one.apart (canonical deck) deck f (canonical_back again text deck s short) h)))
+canonical_again again one text deck (Ok d) s short h some = ap Ok (one.deck (canonical deck) d deck h (canonical_back again text deck s short))
+canonical_again again one text deck (Err f) s short h some = absurd (some (ap Err (one.apart (canonical deck) deck f (canonical_back again text deck s short) h)))
