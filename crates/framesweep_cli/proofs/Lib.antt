@@ -3,3 +3,4 @@ pub mod Answered
 pub mod Making
 pub mod Stopping
 pub mod Completing
+pub mod Printing

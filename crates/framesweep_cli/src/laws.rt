@@ -1,11 +1,13 @@
 //! Laws of the top call, by what it left on its devices.
 
-ghost use Rattle.std.specs.Prelude.{◌≡◌, ℕ, ◌⊎◌, List};
+ghost use Rattle.std.specs.Prelude.{◌≡◌, ℕ, ◌≤◌, ◌⊎◌, List, length, Some};
+ghost use Rattle.script_tree.specs.declared.limits.TheConstants.{DECK_BYTES};
 ghost use Rattle.deck_text.specs.declared.fault.DeckFault.{DeckFault};
 ghost use Rattle.fs_io.specs.Count.{Rose};
 ghost use Rattle.command_words.specs.declared.command.Command.{Command};
+ghost use Rattle.command_words.specs.declared.command.Command.TheVariants.{Print};
 ghost use Rattle.command_words.specs.Words.{AsksFor};
-ghost use Rattle.framesweep_cli.specs.Endings.{IsValid, IsInvalid};
+ghost use Rattle.framesweep_cli.specs.Endings.{Makes, IsValid, IsInvalid};
 ghost use Rattle.framesweep_cli.specs.Statuses.{Devices, Obeys};
 
 /// Status 1 comes exactly where the words are no command line, want of memory aside.
@@ -29,4 +31,13 @@ pub fn invalid_input_is_refused()
     ensures valid { (words : List (List ℕ)) (before after : Devices) (status : ℕ) → Obeys words before after status → IsValid before.left → status ≡ 2 → ⊥ }
 {
     deck_text::laws::one_answer();
+}
+
+/// What `print` makes of an input can stand in its place, where it is within the bytes of a deck: each command makes of
+/// it what it makes of the input. So a printed deck runs as the deck does, and is printed as itself.
+pub fn printed_decks_serve()
+    ensures { (command : Command) (left text output : List ℕ) → Makes Print (Some left) text → length text ≤ DECK_BYTES → Makes command (Some left) output → Makes command (Some text) output }
+{
+    deck_text::laws::one_answer();
+    deck_text::laws::canonical_deck();
 }
