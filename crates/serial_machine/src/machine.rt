@@ -112,8 +112,8 @@ impl<'g> Machine<'g> {
         })
     }
 
-    /// Makes a call, which names nothing that is not there: a fire sets its sources, one set after the other, and then finds every value again. Takes memory;
-    /// where there is none, the machine is as it was.
+    /// Makes a call, which names nothing that is not there: a fire sets its sources, one set after the other, and then
+    /// finds every value again. Takes memory; where there is none, the machine is as it was.
     pub fn step(&mut self, call: &Call) -> Result<Reply, OutOfMemory>
         requires { misnamed self.old.graph call.now ≡ None }
         ensures graph { self.new.graph ≡ self.old.graph }
