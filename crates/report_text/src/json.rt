@@ -1,246 +1,82 @@
-// The report as JSON.
+// The report as JSON, written item by item: only one item of a list is a JSON value at a time, because the value of a
+// whole report would take many times the memory of its text.
 
-ghost use Rattle.std.specs.Prelude.{◌≡◌, ◌++◌, ◌∷◌, [], length, map, IfOk};
+ghost use Rattle.std.specs.Prelude.{◌≡◌, ◌++◌, length, false, IfOk, OnOk};
 ghost use Rattle.std.specs.List.{zip};
 ghost use Rattle.serde_json.specs.View.{view};
-ghost use Rattle.script_tree.specs.Printed.{fault_text};
-ghost use Rattle.report_text.specs.Report.{Answers, AreAnswered, values_of};
-ghost use Rattle.report_text.specs.Json.{value_data, look_data, list_data, fire_data, read_data, whole_data, reply_data, call_data, why_data, refused_data, report_data, json_of};
+ghost use Rattle.serde_json.specs.Written.{has_float, comma_if, compact_text};
+ghost use Rattle.report_text.specs.Report.{AreAnswered};
+ghost use Rattle.report_text.specs.Json.{look_data, list_data, call_data, refused_data, json_of};
 
-use crate::lines::names_of;
-use call_log::{Finished, Logged, Refused, Why};
+use crate::json_values::{call_json, look_json, refused_json};
+use call_log::{Finished, Logged, Refused};
 use script_tree::items::Text;
 use script_tree::memory::OutOfMemory;
-use script_tree::name::Name;
-use script_tree::value::{Fault, Value};
-use serde_json::{Map, Value as Json, json, put};
-use signal_graph::call::Reply;
+use script_tree::print::print_number;
+use script_tree::value::Value;
+use serde_json::Value as Json;
 use signal_graph::graph::Graph;
 use std::alloc::Global;
 
-fn fault_word(fault: Fault) -> &'static str
-    ensures { result.now ≡ fault_text fault }
+// An item of a list, behind a comma where another item stands before. Its value is gone when this returns.
+fn push_item(alloc: Global, out: &mut Text, later: bool, item: Json) -> Result<(), OutOfMemory>
+    requires { has_float (view item) ≡ false }
+    ensures { OnOk result (out.new ≡ out.old ++ (comma_if later ++ compact_text (view item))) }
 {
-    match fault {
-        Fault::Overflow => "overflow",
-        Fault::ZeroDivisor => "zero-divisor",
-        Fault::Kind => "kind",
-        Fault::NoChoice => "no-choice",
+    if later {
+        out.extend_from_slice(b",")?;
     }
+    let text = item.to_vec(alloc)?;
+    out.extend_from_slice(text.as_slice())
 }
 
-fn fault_json(alloc: Global, fault: Fault) -> Result<Json, OutOfMemory>
-    ensures { IfOk result (λ json. view json ≡ value_data (Value.Fault fault)) }
-{
-    let json = json!(in alloc; {"fault": fault_word(fault)})?;
-    Ok(json)
-}
-
-fn value_json(alloc: Global, value: Value) -> Result<Json, OutOfMemory>
-    ensures { IfOk result (λ json. view json ≡ value_data value) }
-{
-    match value {
-        Value::Int(number) => Ok(Json::from(number)),
-        Value::Bool(truth) => Ok(Json::from(truth)),
-        Value::Fault(fault) => fault_json(alloc, fault),
-    }
-}
-
-// A name with a value.
-fn look_json(alloc: Global, name: &Name, value: Value) -> Result<Json, OutOfMemory>
-    ensures { IfOk result (λ json. view json ≡ look_data (name.now, value)) }
-{
-    let value = value_json(alloc, value)?;
-    let json = json!(in alloc; {"name": name.as_str(), "value": value})?;
-    Ok(json)
-}
-
-fn looks_json(alloc: Global, names: &[Name], values: &[Value]) -> Result<Json, OutOfMemory>
-    requires { length values.now ≡ length names.now }
-    ensures { IfOk result (λ json. view json ≡ list_data look_data (zip names.now values.now)) }
-{
-    let mut looks = Vec::new(alloc);
-    for (index, name) in names.iter().enumerate() {
-        let look = look_json(alloc, name, values[index])?;
-        looks.push(look)?;
-    }
-    Ok(Json::Array(looks))
-}
-
-fn fire_json(
-    alloc: Global,
-    caller: u32,
-    version: u32,
-    changed: u32,
-    evaluated: u32,
-    looks: Json,
-) -> Result<Json, OutOfMemory>
-    ensures { IfOk result (λ json. view json ≡ fire_data caller version changed evaluated (view looks)) }
-{
-    let mut members = Map::new(alloc);
-    put(&mut members, alloc, "changed", Json::from(changed))?;
-    put(&mut members, alloc, "evaluated", Json::from(evaluated))?;
-    put(
-        &mut members,
-        alloc,
-        "kind",
-        Json::try_from_str(alloc, "fire")?,
-    )?;
-    put(&mut members, alloc, "looks", looks)?;
-    put(&mut members, alloc, "thread", Json::from(caller))?;
-    put(&mut members, alloc, "version", Json::from(version))?;
-    Ok(Json::Object(members))
-}
-
-fn read_json(alloc: Global, caller: u32, version: u32, looks: Json) -> Result<Json, OutOfMemory>
-    ensures { IfOk result (λ json. view json ≡ read_data caller version (view looks)) }
-{
-    let json = json!(in alloc; {
-        "kind": "read",
-        "looks": looks,
-        "thread": caller,
-        "version": version,
-    })?;
-    Ok(json)
-}
-
-fn reply_json(
-    alloc: Global,
-    caller: u32,
-    version: u32,
-    names: &[Name],
-    reply: &Reply,
-) -> Result<Json, OutOfMemory>
-    requires { length (values_of reply.now) ≡ length names.now }
-    ensures { IfOk result (λ json. view json ≡ reply_data caller version names.now reply.now) }
-{
-    match reply {
-        Reply::Fire {
-            changed,
-            evaluated,
-            looks,
-        } => {
-            let looks = looks_json(alloc, names, looks.as_slice())?;
-            fire_json(alloc, caller, version, *changed, *evaluated, looks)
-        }
-        Reply::Read { looks } => {
-            let looks = looks_json(alloc, names, looks.as_slice())?;
-            read_json(alloc, caller, version, looks)
-        }
-    }
-}
-
-// A call that was made.
-fn call_json(alloc: Global, entry: &Logged) -> Result<Json, OutOfMemory>
-    requires { Answers entry.now.call entry.now.reply }
-    ensures { IfOk result (λ json. view json ≡ call_data entry.now) }
-{
-    reply_json(
-        alloc,
-        entry.caller,
-        entry.version,
-        names_of(&entry.call),
-        &entry.reply,
-    )
-}
-
-fn unknown_json(alloc: Global, caller: u32, number: u32, place: u32) -> Result<Json, OutOfMemory>
-    ensures { IfOk result (λ json. view json ≡ why_data caller number (Why.UnknownName place)) }
-{
-    let json = json!(in alloc; {
-        "call": number,
-        "place": place,
-        "reason": "unknown name",
-        "thread": caller,
-    })?;
-    Ok(json)
-}
-
-fn used_up_json(alloc: Global, caller: u32, number: u32, limit: u32) -> Result<Json, OutOfMemory>
-    ensures { IfOk result (λ json. view json ≡ why_data caller number (Why.VersionsUsedUp limit)) }
-{
-    let json = json!(in alloc; {
-        "call": number,
-        "limit": limit,
-        "reason": "versions used up",
-        "thread": caller,
-    })?;
-    Ok(json)
-}
-
-// A call that was not made.
-fn refused_json(alloc: Global, refused: Refused) -> Result<Json, OutOfMemory>
-    ensures { IfOk result (λ json. view json ≡ refused_data refused) }
-{
-    match refused.why {
-        Why::UnknownName(place) => unknown_json(alloc, refused.caller, refused.number, place),
-        Why::VersionsUsedUp(limit) => used_up_json(alloc, refused.caller, refused.number, limit),
-    }
-}
-
-fn calls_json(alloc: Global, log: &[Logged]) -> Result<Json, OutOfMemory>
+// The list of the calls that were made.
+fn push_calls(alloc: Global, out: &mut Text, log: &[Logged]) -> Result<(), OutOfMemory>
     requires { AreAnswered log.now }
-    ensures { IfOk result (λ json. view json ≡ list_data call_data log.now) }
+    ensures { OnOk result (out.new ≡ out.old ++ compact_text (list_data call_data log.now)) }
 {
-    let mut calls = Vec::new(alloc);
+    out.extend_from_slice(b"[")?;
+    let mut later = false;
     for entry in log {
         let call = call_json(alloc, entry)?;
-        calls.push(call)?;
+        push_item(alloc, out, later, call)?;
+        later = true;
     }
-    Ok(Json::Array(calls))
+    out.extend_from_slice(b"]")
 }
 
-fn all_refused_json(alloc: Global, refused: &[Refused]) -> Result<Json, OutOfMemory>
-    ensures { IfOk result (λ json. view json ≡ list_data refused_data refused.now) }
+// The list of the nodes' last values.
+fn push_finals(
+    alloc: Global,
+    out: &mut Text,
+    graph: &Graph,
+    finals: &[Value],
+) -> Result<(), OutOfMemory>
+    requires { length finals.now ≡ length graph.now.nodes }
+    ensures { OnOk result (out.new ≡ out.old ++ compact_text (list_data look_data (zip graph.now.names finals.now))) }
 {
-    let mut all = Vec::new(alloc);
+    out.extend_from_slice(b"[")?;
+    let mut later = false;
+    for node in 0..graph.len() {
+        let last = look_json(alloc, graph.name(node), finals[node as usize])?;
+        push_item(alloc, out, later, last)?;
+        later = true;
+    }
+    out.extend_from_slice(b"]")
+}
+
+// The list of the calls that were not made.
+fn push_all_refused(alloc: Global, out: &mut Text, refused: &[Refused]) -> Result<(), OutOfMemory>
+    ensures { OnOk result (out.new ≡ out.old ++ compact_text (list_data refused_data refused.now)) }
+{
+    out.extend_from_slice(b"[")?;
+    let mut later = false;
     for one in refused {
         let json = refused_json(alloc, *one)?;
-        all.push(json)?;
+        push_item(alloc, out, later, json)?;
+        later = true;
     }
-    Ok(Json::Array(all))
-}
-
-fn finals_json(alloc: Global, graph: &Graph, finals: &[Value]) -> Result<Json, OutOfMemory>
-    requires { length finals.now ≡ length graph.now.nodes }
-    ensures { IfOk result (λ json. view json ≡ list_data look_data (zip graph.now.names finals.now)) }
-{
-    let mut all = Vec::new(alloc);
-    for node in 0..graph.len() {
-        let json = look_json(alloc, graph.name(node), finals[node as usize])?;
-        all.push(json)?;
-    }
-    Ok(Json::Array(all))
-}
-
-fn whole_json(
-    alloc: Global,
-    accepted: u32,
-    calls: Json,
-    finals: Json,
-    refused: Json,
-) -> Result<Json, OutOfMemory>
-    ensures { IfOk result (λ json. view json ≡ whole_data accepted (view calls) (view finals) (view refused)) }
-{
-    let mut members = Map::new(alloc);
-    put(&mut members, alloc, "accepted", Json::from(accepted))?;
-    put(&mut members, alloc, "calls", calls)?;
-    put(&mut members, alloc, "finals", finals)?;
-    put(&mut members, alloc, "refused", refused)?;
-    Ok(Json::Object(members))
-}
-
-// The report as a JSON value.
-fn run_json(alloc: Global, graph: &Graph, finished: &Finished) -> Result<Json, OutOfMemory>
-    requires finals { length finished.now.finals ≡ length graph.now.nodes }
-    requires replies { AreAnswered finished.now.log.entries }
-    ensures { IfOk result (λ json.
-        view json ≡ report_data finished.now.log.entries finished.now.refused graph.now.names finished.now.finals) }
-{
-    let calls = calls_json(alloc, finished.log.as_slice())?;
-    let finals = finals_json(alloc, graph, finished.finals.as_slice())?;
-    let refused = all_refused_json(alloc, finished.refused.as_slice())?;
-    whole_json(alloc, finished.log.len(), calls, finals, refused)
+    out.extend_from_slice(b"]")
 }
 
 /// The report of a finished run as one line of JSON, without spaces, that ends with LF. Takes memory.
@@ -257,8 +93,15 @@ pub fn report_json(alloc: Global, graph: &Graph, finished: &Finished) -> Result<
     ensures { IfOk result (λ text.
         text ≡ json_of finished.now.log.entries finished.now.refused graph.now.names finished.now.finals) }
 {
-    let json = run_json(alloc, graph, finished)?;
-    let mut line = json.to_vec(alloc)?;
-    line.push(b'\n')?;
-    Ok(Text::from_vec(line))
+    let mut out = Text::new(alloc);
+    out.extend_from_slice(b"{\"accepted\":")?;
+    print_number(&mut out, finished.log.len())?;
+    out.extend_from_slice(b",\"calls\":")?;
+    push_calls(alloc, &mut out, finished.log.as_slice())?;
+    out.extend_from_slice(b",\"finals\":")?;
+    push_finals(alloc, &mut out, graph, finished.finals.as_slice())?;
+    out.extend_from_slice(b",\"refused\":")?;
+    push_all_refused(alloc, &mut out, finished.refused.as_slice())?;
+    out.extend_from_slice(b"}\n")?;
+    Ok(out)
 }

@@ -4,6 +4,7 @@
 pub mod data;
 mod entries;
 mod json;
+mod json_values;
 mod laws;
 mod lines;
 mod pieces;

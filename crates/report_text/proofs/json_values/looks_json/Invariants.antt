@@ -2,7 +2,7 @@ use Rattle.std.proofs.Common.{◌≡◌, ◌++◌, drop, map}
 use Rattle.std.specs.List.{zip}
 use Rattle.serde_json.specs.View.{view}
 use Rattle.report_text.specs.Json.{look_data}
-use Rattle.report_text.proofs.json.looks_json.Given as goal
+use Rattle.report_text.proofs.json_values.looks_json.Given as goal
 
 -- what is still to be made comes behind what was made
 abbrev pub invariant-loop-index : goal.invariant-loop-index
