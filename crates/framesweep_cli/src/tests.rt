@@ -46,83 +46,110 @@ fn compare(
 
 const TWO: &str = "source a = 1\nsignal b = a + 1\nthread\nfire a=5 look b\nread a, b\n";
 
+const PICKED: &str =
+    "source s = 0\nsource t = 1\nsource x = 10\nsource y = 20\nchoose d = s among x, y : t among x, y : (pick1 ?? 7) - pick2\nthread\nfire s=1 look d\nfire x=11 look d\nfire s=5 look d\n";
+
+const PRINTED: &str =
+    "source  a = 007\nsignal c = ((a + 1)) * 2  # twice\nfold n = -1 : acc - (a - 1)\nthread\nfire a = - 5 look c, n";
+
+// Words, a deck and its report.
+const REPORTS: [(&str, &str, &str); 11] = [
+    (
+        "run",
+        "source a = 1\nthread\n",
+        "final a=1\ndone 0 accepted 0 refused\n",
+    ),
+    (
+        "run",
+        TWO,
+        "call 1 thread 1 fire changed 2 evaluated 1 look b=6\ncall 2 thread 1 read a=5, b=6\nfinal a=5\nfinal b=6\ndone 2 accepted 0 refused\n",
+    ),
+    (
+        "serial",
+        "source a = 1\nsignal b = a + 1\nthread\nfire a=1\n",
+        "call 1 thread 1 fire changed 0 evaluated 0\nfinal a=1\nfinal b=2\ndone 1 accepted 0 refused\n",
+    ),
+    (
+        "run",
+        "source m = -9223372036854775808\nsignal p = m / -1\nsignal q = m / 0\nsignal r = p + q\nsignal t = q + p\nthread\n",
+        "final m=-9223372036854775808\nfinal p=fault overflow\nfinal q=fault zero-divisor\nfinal r=fault overflow\nfinal t=fault zero-divisor\ndone 0 accepted 0 refused\n",
+    ),
+    (
+        "run",
+        "source a = 0\nfold n = 0 : acc + 1 + a * 0\nthread\nfire a=1\nfire a=1\nfire a=2\n",
+        "call 1 thread 1 fire changed 2 evaluated 1\ncall 2 thread 1 fire changed 0 evaluated 0\ncall 3 thread 1 fire changed 2 evaluated 1\nfinal a=2\nfinal n=2\ndone 3 accepted 0 refused\n",
+    ),
+    (
+        "run",
+        "source i = 2\nsource x = 10\nsource y = 20\nchoose d = i among x, y\nchoose e = i / 0 among x, y\nthread\nfire i=-1 look d, e\nfire i=true look d, e\nfire i=1 look d\n",
+        "call 1 thread 1 fire changed 1 evaluated 2 look d=fault no-choice, e=fault zero-divisor\ncall 2 thread 1 fire changed 3 evaluated 2 look d=fault kind, e=fault kind\ncall 3 thread 1 fire changed 3 evaluated 2 look d=20\nfinal i=1\nfinal x=10\nfinal y=20\nfinal d=20\nfinal e=fault zero-divisor\ndone 3 accepted 0 refused\n",
+    ),
+    (
+        "run",
+        "source a = 0\nthread\nfire a=1, a=2\n",
+        "call 1 thread 1 fire changed 1 evaluated 0\nfinal a=2\ndone 1 accepted 0 refused\n",
+    ),
+    (
+        "run",
+        "source a = 1\nsignal b = a + 1\nthread\nfire b=3\nfire a=2 look c, b\nread b\n",
+        "call 1 thread 1 read b=2\nrefused thread 1 call 1 unknown name 1\nrefused thread 1 call 2 unknown name 2\nfinal a=1\nfinal b=2\ndone 1 accepted 2 refused\n",
+    ),
+    (
+        "run --versions 1",
+        "source a = 0\nthread\nfire a=1\nread a\n",
+        "call 1 thread 1 fire changed 1 evaluated 0\nrefused thread 1 call 2 versions used up 1\nfinal a=1\ndone 1 accepted 1 refused\n",
+    ),
+    (
+        "run --versions=0",
+        "source a = 0\r\nthread\r\nfire a=1\r\nread a",
+        "refused thread 1 call 1 versions used up 0\nrefused thread 1 call 2 versions used up 0\nfinal a=0\ndone 0 accepted 2 refused\n",
+    ),
+    (
+        "serial",
+        PICKED,
+        "call 1 thread 1 fire changed 2 evaluated 1 look d=0\ncall 2 thread 1 fire changed 1 evaluated 0 look d=0\ncall 3 thread 1 fire changed 2 evaluated 1 look d=-13\nfinal s=5\nfinal t=1\nfinal x=11\nfinal y=20\nfinal d=-13\ndone 3 accepted 0 refused\n",
+    ),
+];
+
+// The same with the report as JSON.
+const JSON_REPORTS: [(&str, &str, &str); 3] = [
+    (
+        "run --json",
+        TWO,
+        "{\"accepted\":2,\"calls\":[{\"changed\":2,\"evaluated\":1,\"kind\":\"fire\",\"looks\":[{\"name\":\"b\",\"value\":6}],\"thread\":1,\"version\":1},{\"kind\":\"read\",\"looks\":[{\"name\":\"a\",\"value\":5},{\"name\":\"b\",\"value\":6}],\"thread\":1,\"version\":2}],\"finals\":[{\"name\":\"a\",\"value\":5},{\"name\":\"b\",\"value\":6}],\"refused\":[]}\n",
+    ),
+    (
+        "serial --json --versions 0",
+        "source a = true\nsignal b = a + 1\nthread\nread b\nfire b=1\n",
+        "{\"accepted\":0,\"calls\":[],\"finals\":[{\"name\":\"a\",\"value\":true},{\"name\":\"b\",\"value\":{\"fault\":\"kind\"}}],\"refused\":[{\"call\":1,\"limit\":0,\"reason\":\"versions used up\",\"thread\":1},{\"call\":2,\"place\":1,\"reason\":\"unknown name\",\"thread\":1}]}\n",
+    ),
+    (
+        "serial --json",
+        PICKED,
+        "{\"accepted\":3,\"calls\":[{\"changed\":2,\"evaluated\":1,\"kind\":\"fire\",\"looks\":[{\"name\":\"d\",\"value\":0}],\"thread\":1,\"version\":1},{\"changed\":1,\"evaluated\":0,\"kind\":\"fire\",\"looks\":[{\"name\":\"d\",\"value\":0}],\"thread\":1,\"version\":2},{\"changed\":2,\"evaluated\":1,\"kind\":\"fire\",\"looks\":[{\"name\":\"d\",\"value\":-13}],\"thread\":1,\"version\":3}],\"finals\":[{\"name\":\"s\",\"value\":5},{\"name\":\"t\",\"value\":1},{\"name\":\"x\",\"value\":11},{\"name\":\"y\",\"value\":20},{\"name\":\"d\",\"value\":-13}],\"refused\":[]}\n",
+    ),
+];
+
 #[test]
 fn reports(rt: HostRuntime) -> Result<(), Fail> {
-    let rows = [
-        (
-            "run",
-            "source a = 1\nthread\n",
-            "final a=1\ndone 0 accepted 0 refused\n",
-        ),
-        (
-            "run",
-            TWO,
-            "call 1 thread 1 fire changed 2 evaluated 1 look b=6\ncall 2 thread 1 read a=5, b=6\nfinal a=5\nfinal b=6\ndone 2 accepted 0 refused\n",
-        ),
-        (
-            "serial",
-            "source a = 1\nsignal b = a + 1\nthread\nfire a=1\n",
-            "call 1 thread 1 fire changed 0 evaluated 0\nfinal a=1\nfinal b=2\ndone 1 accepted 0 refused\n",
-        ),
-        (
-            "run",
-            "source m = -9223372036854775808\nsignal p = m / -1\nsignal q = m / 0\nsignal r = p + q\nsignal t = q + p\nthread\n",
-            "final m=-9223372036854775808\nfinal p=fault overflow\nfinal q=fault zero-divisor\nfinal r=fault overflow\nfinal t=fault zero-divisor\ndone 0 accepted 0 refused\n",
-        ),
-        (
-            "run",
-            "source a = 0\nfold n = 0 : acc + 1 + a * 0\nthread\nfire a=1\nfire a=1\nfire a=2\n",
-            "call 1 thread 1 fire changed 2 evaluated 1\ncall 2 thread 1 fire changed 0 evaluated 0\ncall 3 thread 1 fire changed 2 evaluated 1\nfinal a=2\nfinal n=2\ndone 3 accepted 0 refused\n",
-        ),
-        (
-            "run",
-            "source i = 2\nsource x = 10\nsource y = 20\nchoose d = i among x, y\nchoose e = i / 0 among x, y\nthread\nfire i=-1 look d, e\nfire i=true look d, e\nfire i=1 look d\n",
-            "call 1 thread 1 fire changed 1 evaluated 2 look d=fault no-choice, e=fault zero-divisor\ncall 2 thread 1 fire changed 3 evaluated 2 look d=fault kind, e=fault kind\ncall 3 thread 1 fire changed 3 evaluated 2 look d=20\nfinal i=1\nfinal x=10\nfinal y=20\nfinal d=20\nfinal e=fault zero-divisor\ndone 3 accepted 0 refused\n",
-        ),
-        (
-            "run",
-            "source a = 0\nthread\nfire a=1, a=2\n",
-            "call 1 thread 1 fire changed 1 evaluated 0\nfinal a=2\ndone 1 accepted 0 refused\n",
-        ),
-        (
-            "run",
-            "source a = 1\nsignal b = a + 1\nthread\nfire b=3\nfire a=2 look c, b\nread b\n",
-            "call 1 thread 1 read b=2\nrefused thread 1 call 1 unknown name 1\nrefused thread 1 call 2 unknown name 2\nfinal a=1\nfinal b=2\ndone 1 accepted 2 refused\n",
-        ),
-        (
-            "run --versions 1",
-            "source a = 0\nthread\nfire a=1\nread a\n",
-            "call 1 thread 1 fire changed 1 evaluated 0\nrefused thread 1 call 2 versions used up 1\nfinal a=1\ndone 1 accepted 1 refused\n",
-        ),
-        (
-            "run --versions=0",
-            "source a = 0\r\nthread\r\nfire a=1\r\nread a",
-            "refused thread 1 call 1 versions used up 0\nrefused thread 1 call 2 versions used up 0\nfinal a=0\ndone 0 accepted 2 refused\n",
-        ),
-        (
-            "serial",
-            "source s = 0\nsource t = 1\nsource x = 10\nsource y = 20\nchoose d = s among x, y : t among x, y : (pick1 ?? 7) - pick2\nthread\nfire s=1 look d\nfire x=11 look d\nfire s=5 look d\n",
-            "call 1 thread 1 fire changed 2 evaluated 1 look d=0\ncall 2 thread 1 fire changed 1 evaluated 0 look d=0\ncall 3 thread 1 fire changed 2 evaluated 1 look d=-13\nfinal s=5\nfinal t=1\nfinal x=11\nfinal y=20\nfinal d=-13\ndone 3 accepted 0 refused\n",
-        ),
-        (
-            "run --json",
-            TWO,
-            "{\"accepted\":2,\"calls\":[{\"changed\":2,\"evaluated\":1,\"kind\":\"fire\",\"looks\":[{\"name\":\"b\",\"value\":6}],\"thread\":1,\"version\":1},{\"kind\":\"read\",\"looks\":[{\"name\":\"a\",\"value\":5},{\"name\":\"b\",\"value\":6}],\"thread\":1,\"version\":2}],\"finals\":[{\"name\":\"a\",\"value\":5},{\"name\":\"b\",\"value\":6}],\"refused\":[]}\n",
-        ),
-        (
-            "serial --json --versions 0",
-            "source a = true\nsignal b = a + 1\nthread\nread b\nfire b=1\n",
-            "{\"accepted\":0,\"calls\":[],\"finals\":[{\"name\":\"a\",\"value\":true},{\"name\":\"b\",\"value\":{\"fault\":\"kind\"}}],\"refused\":[{\"call\":1,\"limit\":0,\"reason\":\"versions used up\",\"thread\":1},{\"call\":2,\"place\":1,\"reason\":\"unknown name\",\"thread\":1}]}\n",
-        ),
-        (
-            "print",
-            "source  a = 007\nsignal c = ((a + 1)) * 2  # twice\nfold n = -1 : acc - (a - 1)\nthread\nfire a = - 5 look c, n",
-            "source a=7\nsignal c=(a+1)*2\nfold n=-1:acc-(a-1)\nthread\nfire a=-5 look c,n\n",
-        ),
-    ];
-    for (words, deck, out) in rows {
+    for (words, deck, out) in REPORTS {
         compare(&rt, rt.alloc(), words, deck, 0, out, "")?;
     }
+    Ok(())
+}
+
+#[test]
+fn json_reports(rt: HostRuntime) -> Result<(), Fail> {
+    for (words, deck, out) in JSON_REPORTS {
+        compare(&rt, rt.alloc(), words, deck, 0, out, "")?;
+    }
+    Ok(())
+}
+
+#[test]
+fn a_canonical_deck(rt: HostRuntime) -> Result<(), Fail> {
+    let out = "source a=7\nsignal c=(a+1)*2\nfold n=-1:acc-(a-1)\nthread\nfire a=-5 look c,n\n";
+    compare(&rt, rt.alloc(), "print", PRINTED, 0, out, "")?;
     Ok(())
 }
 
@@ -168,9 +195,6 @@ fn refusals(rt: HostRuntime) -> Result<(), Fail> {
 
 // More calls of a device than any of these runs makes.
 const CALLS: u64 = 300;
-
-const PRINTED: &str =
-    "source  a = 007\nsignal c = ((a + 1)) * 2  # twice\nfold n = -1 : acc - (a - 1)\nthread\nfire a = - 5 look c, n";
 
 // Runs words on a deck while one read fails, each in turn, in pieces of `most` bytes, until none does.
 fn reads_fail(
