@@ -193,6 +193,24 @@ fn refusals(rt: HostRuntime) -> Result<(), Fail> {
     Ok(())
 }
 
+// A write that fails behind four bytes, and a read that fails behind twenty.
+#[test]
+fn faults_at_a_call(rt: HostRuntime) -> Result<(), Fail> {
+    let alloc = rt.alloc();
+    let words = words_of(alloc, "run")?;
+    let mut source = SureSource::new(alloc, TWO.as_bytes(), 7)?;
+    let mut out = MemSink::new(alloc, ROOM, 4, &[2])?;
+    let mut err = SureSink::new(alloc, ROOM, 7)?;
+    let status = framesweep(alloc, &words, &mut source, &mut out, &mut err);
+    assert_eq!(rt; (status, out.held()), (4, b"call".as_slice()));
+    let mut source = MemSource::new(alloc, TWO.as_bytes(), 10, &[3])?;
+    let mut out = SureSink::new(alloc, ROOM, 7)?;
+    let mut err = SureSink::new(alloc, ROOM, 7)?;
+    let status = framesweep(alloc, &words, &mut source, &mut out, &mut err);
+    assert_eq!(rt; (status, out.kept()), (3, b"".as_slice()));
+    Ok(())
+}
+
 // More calls of a device than any of these runs makes.
 const CALLS: u64 = 300;
 
