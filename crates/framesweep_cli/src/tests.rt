@@ -202,12 +202,12 @@ fn faults_at_a_call(rt: HostRuntime) -> Result<(), Fail> {
     let mut out = MemSink::new(alloc, ROOM, 4, &[2])?;
     let mut err = SureSink::new(alloc, ROOM, 7)?;
     let status = framesweep(alloc, &words, &mut source, &mut out, &mut err);
-    assert_eq!(rt; (status, out.held()), (4, b"call".as_slice()));
+    assert!(rt; status == 4 && out.held() == b"call".as_slice());
     let mut source = MemSource::new(alloc, TWO.as_bytes(), 10, &[3])?;
     let mut out = SureSink::new(alloc, ROOM, 7)?;
     let mut err = SureSink::new(alloc, ROOM, 7)?;
     let status = framesweep(alloc, &words, &mut source, &mut out, &mut err);
-    assert_eq!(rt; (status, out.kept()), (3, b"".as_slice()));
+    assert!(rt; status == 3 && out.kept().is_empty());
     Ok(())
 }
 
