@@ -1,5 +1,5 @@
 -- What no line of a report begins a text.
-use Rattle.std.proofs.Common.{◌≡◌, ◌≢◌, ℕ, ◌<◌, Bool, true, false, true≢false, List, [], ◌∷◌, ◌++◌, length, refl, sym, ap, ◌∙◌, append_assoc, arith, codes}
+use Rattle.std.proofs.Common.{◌≡◌, ◌≢◌, ℕ, ◌<◌, true≢false, List, [], ◌∷◌, ◌++◌, length, refl, sym, ap, ◌∙◌, append_assoc, arith, codes}
 use Rattle.std.specs.Prelude.{◌^◌, decimal, IsTrue}
 use Rattle.std.specs.List.{zip}
 use Rattle.std.proofs.lemmas.List.{append_cancel_left}
@@ -14,7 +14,7 @@ use Rattle.signal_graph.specs.declared.log.Why.TheVariants.{UnknownName, Version
 use Rattle.report_text.specs.declared.data.CallLine.{CallLine}
 use Rattle.report_text.specs.Pieces.{Ends, IsBlankFirst, IsValue}
 use Rattle.report_text.specs.Report.{counted, named_value, more_looks, looks_text, fire_looks, fire_text, reply_text, line_end, why_text, refused_line, final_line, done_line}
-use Rattle.report_text.specs.Printed.{line_text, IsLook, AreLooks, IsReply, IsWhy, IsRefusal, IsLine, NoCall, NoRefusal, NoFinal}
+use Rattle.report_text.specs.Printed.{line_text, IsLook, AreLooks, IsReply, IsWhy, NoCall, NoRefusal, NoFinal}
 use Rattle.report_text.proofs.Unique.{one_piece, one_named, inner_name, same_head, same_tail, not_empty, numbers_differ, blank_ends, behind_count}
 use Rattle.report_text.proofs.LooksLaws.{looks_end}
 

@@ -1,16 +1,13 @@
 -- Reading on through looks.
-use Rattle.std.proofs.Common.{◌≡◌, ◌≢◌, ℕ, ◌<◌, List, [], ◌∷◌, ◌++◌, length, refl, sym, ap, ◌∙◌, append_assoc, arith, codes}
-use Rattle.std.specs.Prelude.{◌^◌, decimal, IsTrue}
-use Rattle.std.specs.List.{AllByRecursion, flat_map, zip}
+use Rattle.std.proofs.Common.{◌≡◌, ℕ, List, [], ◌∷◌, ◌++◌, length, refl, sym, ◌∙◌, append_assoc, arith, codes}
+use Rattle.std.specs.List.{zip}
 use Rattle.std.proofs.lemmas.List.{append_cancel_left}
 use Rattle.script_tree.specs.declared.value.Value.{Value}
-use Rattle.signal_graph.specs.declared.call.Reply.{Reply}
-use Rattle.signal_graph.specs.declared.call.Reply.TheVariants.{Fire as Fired, Read as Seen}
 use Rattle.report_text.specs.Pieces.{Ends}
-use Rattle.report_text.specs.Report.{counted, named_value, more_looks, looks_text, fire_looks, fire_text, reply_text}
-use Rattle.report_text.specs.Printed.{IsLook, AreLooks, IsReply}
+use Rattle.report_text.specs.Report.{named_value, more_looks}
+use Rattle.report_text.specs.Printed.{IsLook, AreLooks}
 use Rattle.report_text.proofs.LineLaws.{all_added, zip_added}
-use Rattle.report_text.proofs.Unique.{one_named, same_head, same_tail, not_empty, numbers_differ}
+use Rattle.report_text.proofs.Unique.{one_named, same_head, not_empty, numbers_differ}
 
 -- where a text is looks up to the end of a line, so is what is left of it
 pub record Left (rest after : List ℕ) : Type 0 where

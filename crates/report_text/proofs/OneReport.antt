@@ -1,6 +1,6 @@
 -- Bytes are the report of one data alone.
 use Rattle.std.proofs.Common.{◌≡◌, ◌≢◌, ℕ, ◌<◌, List, [], ◌∷◌, ◌++◌, length, map, refl, sym, ap, ◌∙◌, append_assoc, append-nil, arith, codes, ⊎_elim}
-use Rattle.std.specs.Prelude.{◌^◌, decimal}
+use Rattle.std.specs.Prelude.{◌^◌, Result, Ok, Err}
 use Rattle.std.specs.List.{AllByRecursion, flat_map, zip}
 use Rattle.std.proofs.lemmas.List.{append_cancel_left}
 use Rattle.script_tree.specs.declared.value.Value.{Value}
@@ -11,11 +11,14 @@ use Rattle.signal_graph.specs.declared.log.Refused.{Refused}
 use Rattle.signal_graph.specs.declared.log.Why.{Why}
 use Rattle.report_text.specs.declared.data.CallLine.{CallLine}
 use Rattle.report_text.specs.declared.data.Report.{Report}
+use Rattle.report_text.specs.declared.reading.ReportFault.{ReportFault}
+use Rattle.report_text.specs.declared.reading.ReportFault.TheVariants.{Syntax, Memory}
 use Rattle.report_text.specs.Report.{counted, named_value, more_looks, looks_text, fire_looks, reply_text, why_text, refused_line, final_line, done_line, call_line, report_of}
-use Rattle.report_text.specs.Printed.{line_text, line_of, data_of, lines_before, printed, IsLook, AreLooks, IsReply, IsLine, IsRefusal, AreLines, AreRefusals, IsReport, NoCall, NoRefusal, NoFinal, NoDone, StopsWithin, StopsBehind, Stops}
-use Rattle.report_text.proofs.Unique.{one_named, same_head, same_tail, not_empty, numbers_differ, blank_ends, behind_count}
+use Rattle.report_text.specs.Printed.{line_text, line_of, data_of, lines_before, printed, IsLook, AreLooks, IsReply, IsLine, IsRefusal, AreLines, AreRefusals, IsReport, NoCall, NoRefusal, NoFinal, StopsWithin, StopsBehind, Stops}
+use Rattle.report_text.specs.Reading.{IsReadAs}
+use Rattle.report_text.proofs.Unique.{one_named, same_head, same_tail, numbers_differ, behind_count}
 use Rattle.report_text.proofs.LooksLaws.{looks_end}
-use Rattle.report_text.proofs.EntryLaws.{flat, not_at_end, fire_flat, fire_looks_end, done_flat, refused_flat, why_ends, one_why, line_flat, reply_ends}
+use Rattle.report_text.proofs.EntryLaws.{not_at_end, fire_flat, fire_looks_end, done_flat, refused_flat, why_ends, one_why, line_flat, reply_ends}
 
 -- ---- looks
 same_look : (a b : List ℕ × Value) → a.0 ≡ b.0 → a.1 ≡ b.1 → a ≡ b
@@ -232,3 +235,9 @@ lines_of_calls (entry ∷ log) = ap (λ t. call_line entry ++ t) (lines_of_calls
 pub run_is_data : (log : List Logged) (refused : List Refused) (names : List (List ℕ)) (finals : List Value) → report_of log refused names finals ≡ printed (data_of log refused names finals)
 run_is_data log refused names finals =
     ap (λ t. t ++ (flat_map refused_line refused ++ (flat_map final_line (zip names finals) ++ done_line (length log) (length refused)))) (sym (lines_of_calls log))
+
+-- ---- a report is read as its data
+pub read_back : (report : Report) (bytes : List ℕ) (answer : Result Report ReportFault) → IsReport report → bytes ≡ printed report → IsReadAs bytes answer → answer ≢ Err Memory → answer ≡ Ok report
+read_back report bytes (Ok other) is e right known = ap Ok (one_report other report right.1 is (sym right.0 ∙ e))
+read_back report bytes (Err (Syntax line)) is e right known = absurd (whole_reports report bytes line is e right)
+read_back report bytes (Err Memory) is e right known = absurd (known refl)

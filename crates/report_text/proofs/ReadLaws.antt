@@ -1,13 +1,12 @@
 -- Where bytes stop to be a report.
-use Rattle.std.proofs.Common.{◌≡◌, ◌≢◌, ℕ, ◌+◌, ◌<◌, List, [], ◌∷◌, ◌++◌, length, refl, sym, ap, ◌∙◌, append_assoc, inl, inr}
-use Rattle.std.specs.Prelude.{◌^◌}
+use Rattle.std.proofs.Common.{◌≡◌, ◌≢◌, ℕ, ◌+◌, List, [], ◌++◌, length, sym, ap, ◌∙◌, append_assoc, inl, inr}
 use Rattle.std.specs.List.{flat_map}
 use Rattle.script_tree.specs.declared.value.Value.{Value}
 use Rattle.signal_graph.specs.declared.log.Refused.{Refused}
 use Rattle.report_text.specs.declared.data.CallLine.{CallLine}
 use Rattle.report_text.specs.declared.data.Report.{Report}
 use Rattle.report_text.specs.Report.{refused_line, final_line, done_line}
-use Rattle.report_text.specs.Printed.{line_text, lines_before, printed, AreLines, AreRefusals, AreLooks, IsReport, NoCall, NoRefusal, NoFinal, NoDone, StopsWithin, StopsBehind, Stops}
+use Rattle.report_text.specs.Printed.{line_text, AreLines, AreRefusals, AreLooks, IsReport, NoCall, NoRefusal, NoFinal, NoDone, Stops}
 
 joined : (bytes a r1 b r2 c r3 : List ℕ) → bytes ≡ a ++ r1 → r1 ≡ b ++ r2 → r2 ≡ c ++ r3 → bytes ≡ a ++ (b ++ (c ++ r3))
 joined bytes a r1 b r2 c r3 one two three = one ∙ ap (λ t. a ++ t) (two ∙ ap (λ t. b ++ t) three)

@@ -1,6 +1,6 @@
 -- A piece, a number and a value can be read from the front of a text in one way alone.
-use Rattle.std.proofs.Common.{◌≡◌, ◌≢◌, ℕ, suc, ◌<◌, Bool, true, false, true≢false, ◌&&◌, List, [], ◌∷◌, ◌++◌, length, refl, sym, ap, ◌∙◌, append_assoc, arith, rules, codes, ⊎_elim}
-use Rattle.std.specs.Prelude.{◌^◌, decimal, ℤ, pos, negsuc, FitsSigned, IsTrue, ◌||◌, ◌==◌, nat_lt, if◌then◌else◌, Option, Some, None, IfNone}
+use Rattle.std.proofs.Common.{◌≡◌, ℕ, suc, ◌<◌, Bool, true, false, true≢false, ◌&&◌, List, [], ◌∷◌, ◌++◌, refl, sym, ap, ◌∙◌, append_assoc, arith, rules, codes, ⊎_elim}
+use Rattle.std.specs.Prelude.{◌^◌, decimal, ℤ, pos, negsuc, FitsSigned, IsTrue, ◌==◌, nat_lt, if◌then◌else◌, Option, Some, None, IfNone}
 use Rattle.std.specs.Int.{w64, IsInRange}
 use Rattle.std.specs.Fmt.{signed_decimal}
 use Rattle.std.specs.List.{list_all}

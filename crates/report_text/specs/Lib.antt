@@ -1,5 +1,5 @@
-pub mod Faults
 pub mod Json
 pub mod Pieces
 pub mod Printed
+pub mod Reading
 pub mod Report

@@ -1,7 +1,9 @@
-// The lines of a report.
+// The lines of a report. What is printed is what the data of a report can hold, and each function says so: a name is a
+// name, and a number has its room.
 
-ghost use Rattle.std.specs.Prelude.{◌≡◌, ◌++◌, length, OnOk, decimal};
+ghost use Rattle.std.specs.Prelude.{◌≡◌, ◌<◌, ◌^◌, ◌++◌, length, OnOk, decimal};
 ghost use Rattle.std.specs.List.{zip};
+ghost use Rattle.report_text.specs.Printed.{line_of, IsLook, AreLooks, IsReply, IsLine, IsWhy, IsRefusal};
 ghost use Rattle.report_text.specs.Report.{named_value, more_looks, looks_text, fire_looks, fire_text, reply_text, call_line, why_text, refused_line, final_line, done_line, names_of, values_of, Answers};
 
 use itoa::Buffer;
@@ -13,18 +15,20 @@ use script_tree::value::Value;
 use signal_graph::call::{Call, Reply};
 use signal_graph::log::{Logged, Refused, Why};
 
-// A name with a value.
+// A name with a value. With the name's text comes that it is a name.
 fn print_named(out: &mut Text, name: &Name, value: Value) -> Result<(), OutOfMemory>
-    ensures { OnOk result (out.new ≡ out.old ++ named_value (name.now, value)) }
+    ensures text { OnOk result (out.new ≡ out.old ++ named_value (name.now, value)) }
+    ensures look { IsLook (name.now, value) }
 {
-    out.extend_from_slice(name.as_slice())?;
+    out.extend_from_slice(name.as_str().as_bytes())?;
     out.extend_from_slice(b"=")?;
     print_value(out, value)
 }
 
 // A label with a number behind it.
 fn print_count(out: &mut Text, label: &[u8], number: u32) -> Result<(), OutOfMemory>
-    ensures { OnOk result (out.new ≡ out.old ++ (label.now ++ decimal number)) }
+    ensures text { OnOk result (out.new ≡ out.old ++ (label.now ++ decimal number)) }
+    ensures fits { number < 2 ^ 32 }
 {
     out.extend_from_slice(label)?;
     print_number(out, number)
@@ -33,7 +37,8 @@ fn print_count(out: &mut Text, label: &[u8], number: u32) -> Result<(), OutOfMem
 // Looks, each behind a comma and a space.
 fn print_more_looks(out: &mut Text, names: &[Name], values: &[Value]) -> Result<(), OutOfMemory>
     requires { length values.now ≡ length names.now }
-    ensures { OnOk result (out.new ≡ out.old ++ more_looks (zip names.now values.now)) }
+    ensures text { OnOk result (out.new ≡ out.old ++ more_looks (zip names.now values.now)) }
+    ensures looks { OnOk result (AreLooks (zip names.now values.now)) }
 {
     for (index, name) in names.iter().enumerate() {
         out.extend_from_slice(b", ")?;
@@ -45,7 +50,8 @@ fn print_more_looks(out: &mut Text, names: &[Name], values: &[Value]) -> Result<
 // Looks, joined by a comma and a space.
 fn print_looks(out: &mut Text, names: &[Name], values: &[Value]) -> Result<(), OutOfMemory>
     requires { length values.now ≡ length names.now }
-    ensures { OnOk result (out.new ≡ out.old ++ looks_text (zip names.now values.now)) }
+    ensures text { OnOk result (out.new ≡ out.old ++ looks_text (zip names.now values.now)) }
+    ensures looks { OnOk result (AreLooks (zip names.now values.now)) }
 {
     match names {
         [] => Ok(()),
@@ -59,7 +65,8 @@ fn print_looks(out: &mut Text, names: &[Name], values: &[Value]) -> Result<(), O
 // What a fire looked at, if it looked at anything.
 fn print_fire_looks(out: &mut Text, names: &[Name], values: &[Value]) -> Result<(), OutOfMemory>
     requires { length values.now ≡ length names.now }
-    ensures { OnOk result (out.new ≡ out.old ++ fire_looks (zip names.now values.now)) }
+    ensures text { OnOk result (out.new ≡ out.old ++ fire_looks (zip names.now values.now)) }
+    ensures looks { OnOk result (AreLooks (zip names.now values.now)) }
 {
     match names {
         [] => Ok(()),
@@ -103,7 +110,8 @@ fn print_fire(
     values: &[Value],
 ) -> Result<(), OutOfMemory>
     requires { length values.now ≡ length names.now }
-    ensures { OnOk result (out.new ≡ out.old ++ fire_text changed evaluated (zip names.now values.now)) }
+    ensures text { OnOk result (out.new ≡ out.old ++ fire_text changed evaluated (zip names.now values.now)) }
+    ensures reply { OnOk result (IsReply names.now (Reply.Fire changed evaluated values.now)) }
 {
     print_count(out, b" fire changed ", changed)?;
     print_count(out, b" evaluated ", evaluated)?;
@@ -114,7 +122,8 @@ fn print_fire(
 // What a call did and saw.
 fn print_reply(out: &mut Text, names: &[Name], reply: &Reply) -> Result<(), OutOfMemory>
     requires { length (values_of reply.now) ≡ length names.now }
-    ensures { OnOk result (out.new ≡ out.old ++ reply_text names.now reply.now) }
+    ensures text { OnOk result (out.new ≡ out.old ++ reply_text names.now reply.now) }
+    ensures reply { OnOk result (IsReply names.now reply.now) }
 {
     match reply {
         Reply::Fire {
@@ -132,7 +141,8 @@ fn print_reply(out: &mut Text, names: &[Name], reply: &Reply) -> Result<(), OutO
 /// Adds the line of a call that was made.
 pub fn print_call(out: &mut Text, entry: &Logged) -> Result<(), OutOfMemory>
     requires { Answers entry.now.call entry.now.reply }
-    ensures { OnOk result (out.new ≡ out.old ++ call_line entry.now) }
+    ensures text { OnOk result (out.new ≡ out.old ++ call_line entry.now) }
+    ensures line { OnOk result (IsLine (line_of entry.now)) }
 {
     print_count(out, b"call ", entry.version)?;
     print_count(out, b" thread ", entry.caller)?;
@@ -142,7 +152,8 @@ pub fn print_call(out: &mut Text, entry: &Logged) -> Result<(), OutOfMemory>
 
 // Why a call was not made.
 fn print_why(out: &mut Text, why: Why) -> Result<(), OutOfMemory>
-    ensures { OnOk result (out.new ≡ out.old ++ why_text why) }
+    ensures text { OnOk result (out.new ≡ out.old ++ why_text why) }
+    ensures why { IsWhy why }
 {
     match why {
         Why::UnknownName(place) => print_count(out, b" unknown name ", place),
@@ -152,7 +163,8 @@ fn print_why(out: &mut Text, why: Why) -> Result<(), OutOfMemory>
 
 /// Adds the line of a call that was not made.
 pub fn print_refused(out: &mut Text, refused: Refused) -> Result<(), OutOfMemory>
-    ensures { OnOk result (out.new ≡ out.old ++ refused_line refused) }
+    ensures text { OnOk result (out.new ≡ out.old ++ refused_line refused) }
+    ensures refusal { IsRefusal refused }
 {
     print_count(out, b"refused thread ", refused.caller)?;
     print_count(out, b" call ", refused.number)?;
@@ -163,7 +175,8 @@ pub fn print_refused(out: &mut Text, refused: Refused) -> Result<(), OutOfMemory
 
 /// Adds the line of a node's last value.
 pub fn print_final(out: &mut Text, name: &Name, value: Value) -> Result<(), OutOfMemory>
-    ensures { OnOk result (out.new ≡ out.old ++ final_line (name.now, value)) }
+    ensures text { OnOk result (out.new ≡ out.old ++ final_line (name.now, value)) }
+    ensures look { OnOk result (IsLook (name.now, value)) }
 {
     out.extend_from_slice(b"final ")?;
     print_named(out, name, value)?;

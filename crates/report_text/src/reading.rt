@@ -1,9 +1,9 @@
 // Reading a report.
 
-ghost use Rattle.std.specs.Prelude.{◌≡◌, ◌++◌, ◌+◌, ◌-◌, ◌<◌, ◌≤◌, ◌^◌, [], length, IfOk, IfErr};
+ghost use Rattle.std.specs.Prelude.{◌≡◌, ◌++◌, ◌+◌, ◌-◌, ◌<◌, ◌≤◌, ◌^◌, [], length, IfOk};
 ghost use Rattle.std.specs.List.{flat_map};
-ghost use Rattle.report_text.specs.Faults.{IsFault};
-ghost use Rattle.report_text.specs.Printed.{line_text, AreLines, AreRefusals, AreLooks, IsReport, NoCall, NoRefusal, NoFinal, printed};
+ghost use Rattle.report_text.specs.Printed.{line_text, AreLines, AreRefusals, AreLooks, NoCall, NoRefusal, NoFinal};
+ghost use Rattle.report_text.specs.Reading.{IsReadAs};
 ghost use Rattle.report_text.specs.Report.{refused_line, final_line};
 
 use crate::data::{CallLine, Report};
@@ -110,11 +110,10 @@ fn read_finals<'a>(text: &'a [u8], lines: &mut Vec<(Name, Value)>) -> Result<&'a
 /// The report that bytes are: its lines as data, and the counts of its last line. Takes memory.
 ///
 /// Where they are none, `Syntax` names the first line that stands in no report behind the lines before it, or the one
-/// behind the last line where the report is cut.
+/// behind the last line where the report is cut. `Memory` says nothing of the bytes.
 pub fn read_report(alloc: Global, bytes: &[u8]) -> Result<Report, ReportFault>
     requires { length bytes.now < 2 ^ 32 - 1 }
-    ensures ok { IfOk result (λ report. (bytes.now ≡ printed report) × IsReport report) }
-    ensures err { IfErr result (IsFault bytes.now) }
+    ensures { IsReadAs bytes.now result }
 {
     let mut calls = Vec::new(alloc);
     let mut refused = Vec::new(alloc);

@@ -1,6 +1,6 @@
-// Reports that are read and those that are not, and a run as a report and as JSON.
+// Reports that are read and those that are not, and runs as reports, read back, and as JSON.
 
-ghost use Rattle.std.specs.Prelude.{◌≡◌, length, IfOk};
+ghost use Rattle.std.specs.Prelude.{◌≡◌, ◌<◌, ◌+◌, ◌-◌, ◌^◌, ◌++◌, ◌∷◌, [], length, IfOk, OnOk};
 ghost use Rattle.report_text.specs.Report.{Answers, AreAnswered};
 
 use crate::data::{CallLine, Report};
@@ -12,24 +12,111 @@ use script_tree::items::Items;
 use script_tree::name::{Name, NameList};
 use script_tree::value::{Fault, Value};
 use signal_graph::builder::{DeclKind, GraphBuilder};
-use signal_graph::call::{Call, Reply, ValueList};
+use signal_graph::call::{Call, Reply, SetList, ValueList};
 use signal_graph::graph::Graph;
+use signal_graph::log::RefusedList;
 use std::alloc::Global;
 use std::test::Fail;
 
-const FIRST_RUN: &str = "call 1 thread 1 fire changed 2 evaluated 1 look b=6
+const FIRST_REPORT: &str = "call 1 thread 1 fire changed 2 evaluated 1 look b=6
 call 2 thread 1 read a=5, b=6
 final a=5
 final b=6
 done 2 accepted 0 refused
 ";
 
-// The fault of a report, or none where it is read.
-fn judged(alloc: Global, text: &str) -> Option<ReportFault> {
+// Texts that are read.
+const READ: [&str; 7] = [
+    FIRST_REPORT,
+    "done 0 accepted 0 refused\n",
+    "done 7 accepted 4294967295 refused\n",
+    "call 0 thread 0 read \ndone 1 accepted 0 refused\n",
+    "call 9 thread 256 fire changed 0 evaluated 0\ndone 1 accepted 0 refused\n",
+    "refused thread 1 call 1 unknown name 1\nrefused thread 2 call 3 versions used up 0\ndone 0 accepted 2 refused\n",
+    "final a=fault no-choice\nfinal b=true\nfinal c=-9223372036854775808\ndone 0 accepted 0 refused\n",
+];
+
+// Texts with the line that they are refused at.
+const REFUSED: [(&str, u32); 35] = [
+    // Last lines, and texts without one.
+    ("", 1),
+    ("\n", 1),
+    ("done 0 accepted 0 refused", 1),
+    ("done 0 accepted 0 refused\n\n", 2),
+    ("done 0 accepted 0 refused\ndone 0 accepted 0 refused\n", 2),
+    ("done 0 accepted 0 refused\nx", 2),
+    ("done 00 accepted 0 refused\n", 1),
+    ("done 4294967296 accepted 0 refused\n", 1),
+    ("done -1 accepted 0 refused\n", 1),
+    ("done +1 accepted 0 refused\n", 1),
+    ("done  0 accepted 0 refused\n", 1),
+    ("done 0 accepted 0 refused \n", 1),
+    ("done 0 accepted 0 refused\r\n", 1),
+    ("final a=1\nfinal b=2\n", 3),
+    ("final a=1\nfinal b=2", 2),
+    // Last values.
+    ("final a=01\ndone 0 accepted 0 refused\n", 1),
+    ("final a=-0\ndone 0 accepted 0 refused\n", 1),
+    (
+        "final a=9223372036854775808\ndone 0 accepted 0 refused\n",
+        1,
+    ),
+    ("final a=fault\ndone 0 accepted 0 refused\n", 1),
+    ("final a=fault kinds\ndone 0 accepted 0 refused\n", 1),
+    ("final a=True\ndone 0 accepted 0 refused\n", 1),
+    ("final if=1\ndone 0 accepted 0 refused\n", 1),
+    ("final 1a=1\ndone 0 accepted 0 refused\n", 1),
+    ("final a =1\ndone 0 accepted 0 refused\n", 1),
+    ("final a= 1\ndone 0 accepted 0 refused\n", 1),
+    // Lines in another order.
+    (
+        "final a=1\ncall 1 thread 1 read a=1\ndone 1 accepted 0 refused\n",
+        2,
+    ),
+    (
+        "refused thread 1 call 1 unknown name 1\ncall 1 thread 1 read a=1\ndone 1 accepted 1 refused\n",
+        2,
+    ),
+    (
+        "final a=1\nrefused thread 1 call 1 unknown name 1\ndone 0 accepted 1 refused\n",
+        2,
+    ),
+    // Calls and a refusal.
+    (
+        "call 1 thread 1 fire evaluated 0 changed 0\ndone 1 accepted 0 refused\n",
+        1,
+    ),
+    (
+        "call 1 thread 1 fire changed 0 evaluated 0 \ndone 1 accepted 0 refused\n",
+        1,
+    ),
+    (
+        "call 1 thread 1 fire changed 0 evaluated 0 look \ndone 1 accepted 0 refused\n",
+        1,
+    ),
+    ("call 1 thread 1 read\ndone 1 accepted 0 refused\n", 1),
+    (
+        "call 1 thread 1 read a=1,b=2\ndone 1 accepted 0 refused\n",
+        1,
+    ),
+    ("call 1 thread 1 read a=1, \ndone 1 accepted 0 refused\n", 1),
+    (
+        "call 1 thread 1 read a=1\nrefused thread 1 call 2 unknown name\ndone 1 accepted 1 refused\n",
+        2,
+    ),
+];
+
+// What a text is read as. One of more than a million bytes is not tried.
+fn read(alloc: Global, text: &[u8]) -> Result<Report, ReportFault> {
     if text.len() > 1_000_000 {
-        return None;
+        return Err(ReportFault::Memory);
     }
-    match read_report(alloc, text.as_bytes()) {
+    read_report(alloc, text)
+}
+
+// The fault of a report, or none where it is read.
+fn fault_of(alloc: Global, text: &[u8]) -> Option<ReportFault> {
+    match read(alloc, text) {
         Ok(_) => None,
         Err(fault) => Some(fault),
     }
@@ -37,95 +124,155 @@ fn judged(alloc: Global, text: &str) -> Option<ReportFault> {
 
 #[test]
 fn texts_are_read_or_refused_at_their_line(rt: HostRuntime) {
-    for (text, fault) in [
-        (FIRST_RUN, None),
-        ("done 0 accepted 0 refused\n", None),
-        ("done 7 accepted 4294967295 refused\n", None),
-        ("call 0 thread 0 read \ndone 1 accepted 0 refused\n", None),
-        (
-            "call 9 thread 256 fire changed 0 evaluated 0\ndone 1 accepted 0 refused\n",
-            None,
-        ),
-        (
-            "refused thread 1 call 1 unknown name 1\nrefused thread 2 call 3 versions used up 0\ndone 0 accepted 2 refused\n",
-            None,
-        ),
-        (
-            "final a=fault no-choice\nfinal b=true\nfinal c=-9223372036854775808\ndone 0 accepted 0 refused\n",
-            None,
-        ),
-        ("", Some(1)),
-        ("\n", Some(1)),
-        ("done 0 accepted 0 refused", Some(1)),
-        ("done 0 accepted 0 refused\n\n", Some(2)),
-        (
-            "done 0 accepted 0 refused\ndone 0 accepted 0 refused\n",
-            Some(2),
-        ),
-        ("done 0 accepted 0 refused\nx", Some(2)),
-        ("done 00 accepted 0 refused\n", Some(1)),
-        ("done 4294967296 accepted 0 refused\n", Some(1)),
-        ("done -1 accepted 0 refused\n", Some(1)),
-        ("done +1 accepted 0 refused\n", Some(1)),
-        ("done  0 accepted 0 refused\n", Some(1)),
-        ("done 0 accepted 0 refused \n", Some(1)),
-        ("done 0 accepted 0 refused\r\n", Some(1)),
-        ("final a=1\nfinal b=2\n", Some(3)),
-        ("final a=1\nfinal b=2", Some(2)),
-        ("final a=01\ndone 0 accepted 0 refused\n", Some(1)),
-        ("final a=-0\ndone 0 accepted 0 refused\n", Some(1)),
-        (
-            "final a=9223372036854775808\ndone 0 accepted 0 refused\n",
-            Some(1),
-        ),
-        ("final a=fault\ndone 0 accepted 0 refused\n", Some(1)),
-        ("final a=fault kinds\ndone 0 accepted 0 refused\n", Some(1)),
-        ("final a=True\ndone 0 accepted 0 refused\n", Some(1)),
-        ("final if=1\ndone 0 accepted 0 refused\n", Some(1)),
-        ("final 1a=1\ndone 0 accepted 0 refused\n", Some(1)),
-        ("final a =1\ndone 0 accepted 0 refused\n", Some(1)),
-        ("final a= 1\ndone 0 accepted 0 refused\n", Some(1)),
-        (
-            "final a=1\ncall 1 thread 1 read a=1\ndone 1 accepted 0 refused\n",
-            Some(2),
-        ),
-        (
-            "refused thread 1 call 1 unknown name 1\ncall 1 thread 1 read a=1\ndone 1 accepted 1 refused\n",
-            Some(2),
-        ),
-        (
-            "final a=1\nrefused thread 1 call 1 unknown name 1\ndone 0 accepted 1 refused\n",
-            Some(2),
-        ),
-        (
-            "call 1 thread 1 fire evaluated 0 changed 0\ndone 1 accepted 0 refused\n",
-            Some(1),
-        ),
-        (
-            "call 1 thread 1 fire changed 0 evaluated 0 \ndone 1 accepted 0 refused\n",
-            Some(1),
-        ),
-        (
-            "call 1 thread 1 fire changed 0 evaluated 0 look \ndone 1 accepted 0 refused\n",
-            Some(1),
-        ),
-        ("call 1 thread 1 read\ndone 1 accepted 0 refused\n", Some(1)),
-        (
-            "call 1 thread 1 read a=1,b=2\ndone 1 accepted 0 refused\n",
-            Some(1),
-        ),
-        (
-            "call 1 thread 1 read a=1, \ndone 1 accepted 0 refused\n",
-            Some(1),
-        ),
-        (
-            "call 1 thread 1 read a=1\nrefused thread 1 call 2 unknown name\ndone 1 accepted 1 refused\n",
-            Some(2),
-        ),
-    ] {
-        let fault = fault.map(ReportFault::Syntax);
-        assert_eq!(rt; judged(rt.alloc(), text), fault, "{text}");
+    for text in READ {
+        assert_eq!(rt; fault_of(rt.alloc(), text.as_bytes()), None, "{text}");
     }
+    for (text, line) in REFUSED {
+        let fault = Some(ReportFault::Syntax(line));
+        assert_eq!(rt; fault_of(rt.alloc(), text.as_bytes()), fault, "{text}");
+    }
+}
+
+fn named(text: &str) -> Result<Name, Fail> {
+    Ok(Name::of(text).ok_or("no name")?)
+}
+
+fn add_source(builder: &mut GraphBuilder, name: &str) -> Result<(), Fail>
+    ensures { OnOk result (length builder.new.nodes ≡ length builder.old.nodes + 1) }
+{
+    match builder.add(named(name)?, DeclKind::Source(Value::Bool(true))) {
+        Ok(_) => Ok(()),
+        Err(_) => Err(Fail::from("no node")),
+    }
+}
+
+// A graph of one source.
+fn one_source(alloc: Global) -> Result<Graph, Fail>
+    ensures { IfOk result (λ graph. length graph.nodes ≡ 1) }
+{
+    let mut builder = GraphBuilder::new(alloc);
+    add_source(&mut builder, "a")?;
+    Ok(builder.build()?)
+}
+
+// A graph of two sources.
+fn two_sources(alloc: Global) -> Result<Graph, Fail>
+    ensures { IfOk result (λ graph. length graph.nodes ≡ 2) }
+{
+    let mut builder = GraphBuilder::new(alloc);
+    add_source(&mut builder, "a")?;
+    add_source(&mut builder, "b")?;
+    Ok(builder.build()?)
+}
+
+// A fire that sets `a` and looks at `b`.
+fn a_fire(alloc: Global) -> Result<Logged, Fail>
+    ensures { IfOk result (λ entry. Answers entry.call entry.reply) }
+{
+    let mut sets = SetList::new(alloc);
+    let mut names = NameList::new(alloc);
+    let mut looks = ValueList::new(alloc);
+    sets.push((named("a")?, Value::Int(5)))?;
+    names.push(named("b")?)?;
+    looks.push(Value::Int(6))?;
+    Ok(Logged {
+        caller: 1,
+        version: 1,
+        call: Call::Fire { sets, looks: names },
+        reply: Reply::Fire {
+            changed: 2,
+            evaluated: 1,
+            looks,
+        },
+    })
+}
+
+// A read of `a` and `b`.
+fn a_read_of_two(alloc: Global) -> Result<Logged, Fail>
+    ensures { IfOk result (λ entry. Answers entry.call entry.reply) }
+{
+    let mut names = NameList::new(alloc);
+    let mut looks = ValueList::new(alloc);
+    names.push(named("a")?)?;
+    names.push(named("b")?)?;
+    looks.push(Value::Int(5))?;
+    looks.push(Value::Int(6))?;
+    Ok(Logged {
+        caller: 1,
+        version: 2,
+        call: Call::Read { looks: names },
+        reply: Reply::Read { looks },
+    })
+}
+
+// A read of `a`, which is a fault.
+fn a_read(alloc: Global) -> Result<Logged, Fail>
+    ensures { IfOk result (λ entry. Answers entry.call entry.reply) }
+{
+    let mut names = NameList::new(alloc);
+    let mut looks = ValueList::new(alloc);
+    names.push(named("a")?)?;
+    looks.push(Value::Fault(Fault::NoChoice))?;
+    Ok(Logged {
+        caller: 2,
+        version: 1,
+        call: Call::Read { looks: names },
+        reply: Reply::Read { looks },
+    })
+}
+
+fn add_entry(log: &mut Log, entry: Logged) -> Result<(), Fail>
+    requires { length log.old.entries < 2 ^ 32 - 1 }
+    ensures { OnOk result (log.new.entries ≡ log.old.entries ++ entry ∷ []) }
+{
+    log.reserve_one()?;
+    log.append(entry);
+    Ok(())
+}
+
+// The run of the first report: two calls, no refusal, and two last values.
+fn first_run(alloc: Global) -> Result<Finished, Fail>
+    ensures finals { IfOk result (λ run. length run.finals ≡ 2) }
+    ensures replies { IfOk result (λ run. AreAnswered run.log.entries) }
+{
+    let mut log = Log::new(alloc);
+    let mut finals = ValueList::new(alloc);
+    add_entry(&mut log, a_fire(alloc)?)?;
+    add_entry(&mut log, a_read_of_two(alloc)?)?;
+    finals.push(Value::Int(5))?;
+    finals.push(Value::Int(6))?;
+    Ok(Finished {
+        log,
+        finals,
+        refused: Items::new(alloc),
+    })
+}
+
+// A run with one call, a refusal of each kind, and one last value.
+fn small_run(alloc: Global) -> Result<Finished, Fail>
+    ensures finals { IfOk result (λ run. length run.finals ≡ 1) }
+    ensures replies { IfOk result (λ run. AreAnswered run.log.entries) }
+{
+    let mut log = Log::new(alloc);
+    let mut finals = ValueList::new(alloc);
+    let mut refused = RefusedList::new(alloc);
+    add_entry(&mut log, a_read(alloc)?)?;
+    finals.push(Value::Bool(true))?;
+    refused.push(Refused {
+        caller: 1,
+        number: 1,
+        why: Why::UnknownName(2),
+    })?;
+    refused.push(Refused {
+        caller: 2,
+        number: 2,
+        why: Why::VersionsUsedUp(1),
+    })?;
+    Ok(Finished {
+        log,
+        finals,
+        refused,
+    })
 }
 
 // Whether a line is that of the fire of the first run.
@@ -148,91 +295,67 @@ fn is_fire(line: &CallLine) -> bool {
     }
 }
 
-#[test]
-fn a_report_is_its_data(rt: HostRuntime) -> Result<(), Fail> {
-    let report = read_report(rt.alloc(), FIRST_RUN.as_bytes())?;
-    let Report {
-        calls,
-        refused,
-        finals,
-        accepted,
-        refusals,
-    } = report;
-    assert_eq!(rt; calls.len(), 2);
-    assert!(rt; is_fire(calls.get(0)));
-    assert_eq!(rt; refused.len(), 0);
-    assert_eq!(rt; finals.len(), 2);
-    assert_eq!(rt; finals.get(1).1, Value::Int(6));
-    assert_eq!(rt; accepted, 2);
-    assert_eq!(rt; refusals, 0);
-    Ok(())
-}
-
-fn named(text: &str) -> Result<Name, Fail> {
-    Ok(Name::of(text).ok_or("no name")?)
-}
-
-// A graph of one source.
-fn one_source(alloc: Global) -> Result<Graph, Fail>
-    ensures { IfOk result (λ graph. length graph.nodes ≡ 1) }
-{
-    let mut builder = GraphBuilder::new(alloc);
-    match builder.add(named("a")?, DeclKind::Source(Value::Bool(true))) {
-        Ok(_) => Ok(builder.build()?),
-        Err(_) => Err(Fail::from("no node")),
+// Whether a line is that of the read of the first run.
+fn is_read(line: &CallLine) -> bool {
+    if line.version != 2 || line.caller != 1 || line.names.len() != 2 {
+        return false;
+    }
+    match &line.reply {
+        Reply::Fire {
+            changed: _,
+            evaluated: _,
+            looks: _,
+        } => false,
+        Reply::Read { looks } => {
+            looks.as_slice() == [Value::Int(5), Value::Int(6)].as_slice()
+                && line.names.get(0).as_slice() == b"a".as_slice()
+                && line.names.get(1).as_slice() == b"b".as_slice()
+        }
     }
 }
 
-// A read of the source.
-fn a_read(alloc: Global) -> Result<Logged, Fail>
-    ensures { IfOk result (λ entry. Answers entry.call entry.reply) }
-{
-    let mut looks = NameList::new(alloc);
-    let mut values = ValueList::new(alloc);
-    looks.push(named("a")?)?;
-    values.push(Value::Fault(Fault::NoChoice))?;
-    Ok(Logged {
-        caller: 2,
-        version: 1,
-        call: Call::Read { looks },
-        reply: Reply::Read { looks: values },
-    })
+// The first lines of a text.
+fn first_lines(text: &[u8], lines: usize) -> &[u8] {
+    let mut left = lines;
+    for (at, byte) in text.iter().enumerate() {
+        if left == 0 {
+            return &text[..at];
+        }
+        if *byte == b'\n' {
+            left -= 1;
+        }
+    }
+    text
 }
 
-fn log_of(alloc: Global, entry: Logged) -> Result<Log, Fail>
-    requires { Answers entry.call entry.reply }
-    ensures { IfOk result (λ log. AreAnswered log.entries) }
-{
-    let mut log = Log::new(alloc);
-    log.reserve_one()?;
-    log.append(entry);
-    Ok(log)
+#[test]
+fn a_run_is_read_back_from_its_report(rt: HostRuntime) -> Result<(), Fail> {
+    let alloc = rt.alloc();
+    let text = report(alloc, &two_sources(alloc)?, &first_run(alloc)?)?;
+    assert!(rt; text.as_slice() == FIRST_REPORT.as_bytes());
+    let back = read(alloc, text.as_slice())?;
+    assert_eq!(rt; back.calls.len(), 2);
+    assert!(rt; is_fire(back.calls.get(0)));
+    assert!(rt; is_read(back.calls.get(1)));
+    assert_eq!(rt; back.refused.len(), 0);
+    assert_eq!(rt; back.finals.len(), 2);
+    assert!(rt; back.finals.get(0).0.as_slice() == b"a".as_slice());
+    assert_eq!(rt; back.finals.get(0).1, Value::Int(5));
+    assert!(rt; back.finals.get(1).0.as_slice() == b"b".as_slice());
+    assert_eq!(rt; back.finals.get(1).1, Value::Int(6));
+    assert_eq!(rt; back.accepted, 2);
+    assert_eq!(rt; back.refusals, 0);
+    Ok(())
 }
 
-// A run with one call, a refusal of each kind, and one last value.
-fn small_run(alloc: Global) -> Result<Finished, Fail>
-    ensures finals { IfOk result (λ run. length run.finals ≡ 1) }
-    ensures replies { IfOk result (λ run. AreAnswered run.log.entries) }
-{
-    let log = log_of(alloc, a_read(alloc)?)?;
-    let mut finals = ValueList::new(alloc);
-    let mut refused = Items::new(alloc);
-    finals.push(Value::Bool(true))?;
-    refused.push(Refused {
-        caller: 1,
-        number: 1,
-        why: Why::UnknownName(2),
-    })?;
-    refused.push(Refused {
-        caller: 2,
-        number: 2,
-        why: Why::VersionsUsedUp(1),
-    })?;
-    Ok(Finished {
-        log,
-        finals,
-        refused,
-    })
+#[test]
+fn a_cut_report_is_refused_behind_its_last_line(rt: HostRuntime) -> Result<(), Fail> {
+    let alloc = rt.alloc();
+    let text = report(alloc, &two_sources(alloc)?, &first_run(alloc)?)?;
+    let cut = first_lines(text.as_slice(), 3);
+    assert!(rt; cut.ends_with(b"\nfinal a=5\n"));
+    assert_eq!(rt; fault_of(alloc, cut), Some(ReportFault::Syntax(4)));
+    Ok(())
 }
 
 const SMALL_REPORT: &str = "call 1 thread 2 read a=fault no-choice
@@ -252,7 +375,9 @@ fn a_run_is_a_report_and_json(rt: HostRuntime) -> Result<(), Fail> {
     let run = small_run(alloc)?;
     let text = report(alloc, &graph, &run)?;
     assert!(rt; text.as_slice() == SMALL_REPORT.as_bytes());
-    assert_eq!(rt; judged(alloc, SMALL_REPORT), None);
+    let back = read(alloc, text.as_slice())?;
+    assert!(rt; back.refused.as_slice() == run.refused.as_slice());
+    assert_eq!(rt; back.refusals, 2);
     let json = report_json(alloc, &graph, &run)?;
     assert!(rt; json.as_slice() == SMALL_JSON.as_bytes());
     Ok(())

@@ -1,6 +1,5 @@
-use Rattle.std.proofs.Common.{◌≡◌, ℕ, List, ◌++◌, ◌∷◌, ◌<◌, length}
+use Rattle.std.proofs.Common.{◌≡◌, ◌++◌, ◌<◌, length}
 use Rattle.std.specs.List.{zip}
-use Rattle.script_tree.specs.declared.value.Value.{Value}
 use Rattle.report_text.specs.Report.{looks_text}
 use Rattle.report_text.specs.Printed.{AreLooks}
 use Rattle.report_text.proofs.LooksLaws.{StaysWithin}

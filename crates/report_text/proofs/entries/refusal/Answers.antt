@@ -1,8 +1,6 @@
-use Rattle.std.proofs.Common.{◌≡◌, ◌++◌, ◌∷◌, ℕ, List, ◌<◌, ◌∙◌, codes, refl, rules}
+use Rattle.std.proofs.Common.{◌++◌, ◌∷◌, ◌<◌, ◌∙◌, codes, refl, rules}
 use Rattle.std.specs.Prelude.{◌^◌}
-use Rattle.signal_graph.specs.declared.log.Refused.{Refused}
-use Rattle.report_text.specs.Report.{why_text, refused_line}
-use Rattle.report_text.specs.Printed.{IsRefusal}
+use Rattle.report_text.specs.Report.{why_text}
 use Rattle.report_text.proofs.EntryLaws.{behind_counts, refused_flat, why_ends, one_why}
 use Rattle.report_text.proofs.entries.refusal.Goals as goal
 

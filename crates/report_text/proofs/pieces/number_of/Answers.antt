@@ -1,4 +1,3 @@
-use Rattle.std.proofs.Common.{refl}
 use Rattle.report_text.proofs.PieceLaws.{decimal_is_utf8, number_not_refused, number_alone, not_so}
 use Rattle.report_text.proofs.pieces.number_of.Goals as goal
 
