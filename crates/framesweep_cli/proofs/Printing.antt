@@ -7,7 +7,7 @@ use Rattle.command_words.specs.declared.command.Command.TheVariants.{Print}
 use Rattle.deck_text.specs.Decks.{Decked}
 use Rattle.deck_text.specs.Printed.{canonical}
 use Rattle.deck_text.specs.Spelled.{Spell, SpellsDeck}
-use Rattle.framesweep_cli.specs.Endings.{IsOutput, Makes}
+use Rattle.framesweep_cli.specs.Endings.{Makes}
 
 -- bytes spell one deck
 abbrev pub OneDeck : Type 0

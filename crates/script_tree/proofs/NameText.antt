@@ -1,11 +1,11 @@
 -- A name is text: its bytes are ASCII.
 use Rattle.std.proofs.Common.{◌≡◌, ℕ, zero, suc, Bool, true, false, List, [], ◌∷◌, refl, sym, arith, true≢false}
-use Rattle.std.specs.Prelude.{◌<◌, ◌&&◌, ◌||◌, IsTrue, nat_le, not, length}
+use Rattle.std.specs.Prelude.{◌<◌, ◌&&◌}
 use Rattle.std.specs.List.{list_all}
 use Rattle.std.specs.Str.{IsUtf8, IsAscii}
 use Rattle.std.proofs.lemmas.Str.{IsUtf8-from_ascii}
 use Rattle.std.proofs.lemmas.Bool.Decides.{nat_tests}
-use Rattle.script_tree.specs.Names.{is_word, is_name, is_reserved, starts_well}
+use Rattle.script_tree.specs.Names.{is_word, is_name, starts_well}
 
 both : (a b : Bool) → (a && b) ≡ true → (a ≡ true) × (b ≡ true)
 both true b h = (refl, h)
