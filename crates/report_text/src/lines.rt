@@ -15,12 +15,14 @@ use script_tree::value::Value;
 use signal_graph::call::{Call, Reply};
 use signal_graph::log::{Logged, Refused, Why};
 
-// A name with a value. With the name's text comes that it is a name.
+// A name with a value.
 fn print_named(out: &mut Text, name: &Name, value: Value) -> Result<(), OutOfMemory>
     ensures text { OnOk result (out.new ≡ out.old ++ named_value (name.now, value)) }
     ensures look { IsLook (name.now, value) }
 {
-    out.extend_from_slice(name.as_str().as_bytes())?;
+    // With the length comes that the bytes are a name's.
+    let _ = name.len();
+    out.extend_from_slice(name.as_slice())?;
     out.extend_from_slice(b"=")?;
     print_value(out, value)
 }

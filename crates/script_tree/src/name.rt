@@ -116,9 +116,10 @@ impl Name {
         Name::of_bytes(text.as_bytes())
     }
 
-    /// How many bytes it has.
+    /// How many bytes it has. With it comes what every name keeps.
     pub fn len(&self) -> usize
-        ensures { result ≡ length self.now }
+        ensures value { result ≡ length self.now }
+        ensures kept { IsTrue (is_name self.now) }
     {
         self.bytes.len()
     }
