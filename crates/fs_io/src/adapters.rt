@@ -1,15 +1,68 @@
 // Std's readers and writers as sources and sinks.
 
-ghost use Rattle.std.specs.Prelude.{◌≡◌, ◌<◌, ◌≤◌, length, true, false};
+ghost use Rattle.std.specs.Prelude.{◌≡◌, ◌<◌, ◌≤◌, length, take, true, false, IfOk, OnOk, OnErr};
+ghost use Rattle.std.specs.Io.KnownBytes.{Appends, Consumes, IsAtEnd, Keeps};
 ghost use Rattle.fs_io.specs.Answers.{IfGot, OnReadFailed, IfPut, OnWriteFailed, OnFlushed, OnFlushFailed};
 ghost use Rattle.fs_io.specs.Count.{raised};
 
 use crate::sink::{Flushed, Given, Sink};
 use crate::source::{Source, Taken};
+use std::io;
 use std::io::{Read, Write};
 use std::marker::Model;
 
-/// A reader of std as a source. It tells nothing of what is left. Each `Err` of the reader counts as a fault.
+// A source's answer for a reader's: an `Err` is no end of input but a fault, and is counted.
+fn taken(answer: io::Result<usize>, faults: &mut u64) -> Taken
+    ensures got { IfOk answer (λ n. (result ≡ Taken.Got n) × (faults.new ≡ faults.old)) }
+    ensures failed { OnErr answer ((result ≡ Taken.Failed) × (faults.new ≡ raised faults.old)) }
+    ensures never_falls { faults.old ≤ faults.new }
+{
+    match answer {
+        Ok(n) => Taken::Got(n),
+        Err(_) => {
+            *faults = faults.saturating_add(1);
+            Taken::Failed
+        }
+    }
+}
+
+// A sink's answer for a writer's that was given these bytes: an `Err` is a fault, and so is nothing taken of some bytes.
+fn given(answer: io::Result<usize>, bytes: &[u8], faults: &mut u64) -> Given
+    ensures some { IfOk answer (λ n. 0 < n → (result ≡ Given.Put n) × (faults.new ≡ faults.old)) }
+    ensures empty { IfOk answer (λ n. length bytes.now ≡ 0 → (result ≡ Given.Put n) × (faults.new ≡ faults.old)) }
+    ensures nothing { IfOk answer (λ n. n ≡ 0 → 0 < length bytes.now → (result ≡ Given.Failed) × (faults.new ≡ raised faults.old)) }
+    ensures failed { OnErr answer ((result ≡ Given.Failed) × (faults.new ≡ raised faults.old)) }
+    ensures never_falls { faults.old ≤ faults.new }
+{
+    match answer {
+        Ok(n) if n > 0 || bytes.is_empty() => Given::Put(n),
+        _ => {
+            *faults = faults.saturating_add(1);
+            Given::Failed
+        }
+    }
+}
+
+// A sink's answer for a writer's that was flushed: an `Err` is a fault, and leaves the mark as it was.
+fn flushed(answer: io::Result<()>, is_clean: &mut bool, faults: &mut u64) -> Flushed
+    ensures flushed { OnOk answer ((result ≡ Flushed.Flushed) × (is_clean.new ≡ true) × (faults.new ≡ faults.old)) }
+    ensures failed { OnErr answer ((result ≡ Flushed.Failed) × (is_clean.new ≡ is_clean.old) × (faults.new ≡ raised faults.old)) }
+    ensures never_falls { faults.old ≤ faults.new }
+{
+    match answer {
+        Ok(()) => {
+            *is_clean = true;
+            Flushed::Flushed
+        }
+        Err(_) => {
+            *faults = faults.saturating_add(1);
+            Flushed::Failed
+        }
+    }
+}
+
+/// A reader of std as a source. It tells what is left where the reader tells it, as one of bytes in memory does;
+/// standard input tells nothing. Each `Err` of the reader counts as a fault.
 #[derive(Debug, Drop)]
 pub struct ReadSource<R> {
     reader: R,
@@ -49,31 +102,26 @@ impl<R> ReadSource<R> {
 }
 
 impl<R: Read> Source for ReadSource<R> {
-    ghost use Rattle.std.specs.Prelude.{None};
-
-    ghost left = { λ _. None };
+    ghost left = { λ s. R.remaining s.reader };
 
     ghost faults = { λ s. s.faults };
 
     fn read(&mut self, buf: &mut [u8]) -> Taken
         ensures within { IfGot result (λ n. n ≤ length buf.new) }
+        ensures bytes { IfGot result (λ n. Consumes (R.remaining self.old.reader) (R.remaining self.new.reader) (take n buf.new)) }
+        ensures end { IfGot result (λ n. n ≡ 0 → 0 < length buf.new → IsAtEnd (R.remaining self.old.reader)) }
         ensures never_falls { self.old.faults ≤ self.new.faults }
 
         ensures got { IfGot result (λ _. self.new.faults ≡ self.old.faults) }
         ensures failed { OnReadFailed result (self.new.faults ≡ raised self.old.faults) }
+        ensures kept { OnReadFailed result (Keeps (R.remaining self.old.reader) (R.remaining self.new.reader)) }
     {
-        match self.reader.read(buf) {
-            Ok(n) => Taken::Got(n),
-            Err(_) => {
-                self.faults = self.faults.saturating_add(1);
-                Taken::Failed
-            }
-        }
+        taken(self.reader.read(buf), &mut self.faults)
     }
 }
 
-/// A writer of std as a sink. It tells nothing of what it holds. Each `Err` of the writer counts as a fault, and so does
-/// a write that takes none of at least one byte.
+/// A writer of std as a sink. It tells nothing of what it holds; what the writer tells of it grows by exactly the bytes
+/// that were put. Each `Err` of the writer counts as a fault, and so does a write that takes none of at least one byte.
 #[derive(Debug, Drop)]
 pub struct WriteSink<W> {
     writer: W,
@@ -138,15 +186,11 @@ impl<W: Write> Sink for WriteSink<W> {
 
         ensures put { IfPut result (λ _. self.new.faults ≡ self.old.faults) }
         ensures failed { OnWriteFailed result (self.new.faults ≡ raised self.old.faults) }
+        ensures grew { IfPut result (λ n. Appends (W.contents self.old.writer) (W.contents self.new.writer) (take n bytes.now)) }
+        ensures stayed { OnWriteFailed result (Keeps (W.contents self.old.writer) (W.contents self.new.writer)) }
     {
         self.is_clean = false;
-        match self.writer.write(bytes) {
-            Ok(n) if n > 0 || bytes.is_empty() => Given::Put(n),
-            _ => {
-                self.faults = self.faults.saturating_add(1);
-                Given::Failed
-            }
-        }
+        given(self.writer.write(bytes), bytes, &mut self.faults)
     }
 
     fn flush(&mut self) -> Flushed
@@ -154,16 +198,8 @@ impl<W: Write> Sink for WriteSink<W> {
 
         ensures flushed { OnFlushed result ((self.new.clean ≡ true) × (self.new.faults ≡ self.old.faults)) }
         ensures failed { OnFlushFailed result ((self.new.clean ≡ self.old.clean) × (self.new.faults ≡ raised self.old.faults)) }
+        ensures stayed { Keeps (W.contents self.old.writer) (W.contents self.new.writer) }
     {
-        match self.writer.flush() {
-            Ok(()) => {
-                self.is_clean = true;
-                Flushed::Flushed
-            }
-            Err(_) => {
-                self.faults = self.faults.saturating_add(1);
-                Flushed::Failed
-            }
-        }
+        flushed(self.writer.flush(), &mut self.is_clean, &mut self.faults)
     }
 }

@@ -1,12 +1,16 @@
 // Whole texts through sources and sinks that give and take little a call, or fail.
 
+ghost use Rattle.std.specs.Prelude.{◌≤◌, IfOk};
+
 use crate::adapters::{ReadSource, WriteSink};
 use crate::fault::ReadFault;
 use crate::mem_sink::MemSink;
 use crate::mem_source::MemSource;
-use crate::sure_sink::SureSink;
-use crate::sure_source::SureSource;
+use crate::sink::{Flushed, Given, Sink};
+use crate::source::{Source, Taken};
 use crate::whole::{read_all, write_all};
+use std::io;
+use std::io::{Read, Write};
 use std::test::Fail;
 
 const DIGITS: &[u8] = b"0123456789";
@@ -33,28 +37,10 @@ fn a_failing_read_ends_the_reading(rt: HostRuntime) -> Result<(), Fail> {
 }
 
 #[test]
-fn reads_to_the_end_or_one_byte_past_the_limit(rt: HostRuntime) -> Result<(), Fail> {
-    for most in 0..13usize {
-        let mut source = MemSource::new(rt.alloc(), DIGITS, 7, &[])?;
-        let text = read_all(rt.alloc(), &mut source, most as u64)?;
-        assert_eq!(rt; text.as_slice(), &DIGITS[..DIGITS.len().min(most + 1)]);
-        assert!(rt; source.calls() <= 3);
-    }
-    Ok(())
-}
-
-#[test]
-fn a_sure_source_gives_a_byte_a_call(rt: HostRuntime) -> Result<(), Fail> {
-    let mut source = SureSource::new(rt.alloc(), DIGITS, 1)?;
-    assert_eq!(rt;
-        read_all(rt.alloc(), &mut source, 8)?.as_slice(),
-        &DIGITS[..9]
-    );
-    assert_eq!(rt; source.left(), b"9".as_slice());
-    assert_eq!(rt;
-        read_all(rt.alloc(), &mut source, 1)?.as_slice(),
-        b"9".as_slice()
-    );
+fn reads_in_large_pieces(rt: HostRuntime) -> Result<(), Fail> {
+    let mut source = MemSource::new(rt.alloc(), DIGITS, 7, &[])?;
+    assert_eq!(rt; read_all(rt.alloc(), &mut source, 10)?.as_slice(), DIGITS);
+    assert_eq!(rt; source.calls(), 3);
     Ok(())
 }
 
@@ -69,32 +55,6 @@ fn writes_up_to_the_room(rt: HostRuntime) -> Result<(), Fail> {
 }
 
 #[test]
-fn a_sure_sink_tells_what_it_holds_up_to_its_room(rt: HostRuntime) -> Result<(), Fail> {
-    for room in 0..13usize {
-        let mut sink = SureSink::new(rt.alloc(), room, 7)?;
-        assert!(rt; write_all(&mut sink, DIGITS), "at {room}");
-        assert_eq!(rt;
-            sink.held(),
-            (DIGITS.len() <= room).then_some(DIGITS),
-            "at {room}"
-        );
-        assert_eq!(rt; sink.kept(), &DIGITS[..room.min(10)], "at {room}");
-        assert!(rt; sink.is_clean(), "at {room}");
-    }
-    Ok(())
-}
-
-#[test]
-fn a_flush_that_fails_is_a_fault(rt: HostRuntime) -> Result<(), Fail> {
-    let mut sink = MemSink::new(rt.alloc(), 10, 10, &[2])?;
-    assert!(rt; !write_all(&mut sink, DIGITS));
-    assert_eq!(rt; sink.held(), DIGITS);
-    assert!(rt; write_all(&mut sink, b""));
-    assert_eq!(rt; sink.faults(), 1);
-    Ok(())
-}
-
-#[test]
 fn std_readers_and_writers_serve(rt: HostRuntime) -> Result<(), Fail> {
     let mut source = ReadSource::new(DIGITS);
     assert_eq!(rt; read_all(rt.alloc(), &mut source, 9)?.as_slice(), DIGITS);
@@ -105,10 +65,87 @@ fn std_readers_and_writers_serve(rt: HostRuntime) -> Result<(), Fail> {
     Ok(())
 }
 
+// A device of std that fails at one of its calls, and else gives or takes at most so many bytes a call.
+#[derive(Drop)]
+struct Faltering {
+    calls: u64,
+    failing: u64,
+    most: usize,
+}
+
+impl Faltering {
+    fn new(failing: u64, most: usize) -> Faltering {
+        Faltering {
+            calls: 0,
+            failing,
+            most,
+        }
+    }
+
+    fn answer(&mut self, len: usize) -> io::Result<usize>
+        ensures { IfOk result (λ n. n ≤ len) }
+    {
+        self.calls = self.calls.saturating_add(1);
+        if self.calls == self.failing {
+            return Err(io::Error::from(io::ErrorKind::BrokenPipe));
+        }
+        Ok(self.most.min(len))
+    }
+}
+
+impl Read for Faltering {
+    fn read(&mut self, buf: &mut [u8]) -> io::Result<usize> {
+        self.answer(buf.len())
+    }
+}
+
+impl Write for Faltering {
+    fn write(&mut self, buf: &[u8]) -> io::Result<usize> {
+        self.answer(buf.len())
+    }
+
+    fn flush(&mut self) -> io::Result<()> {
+        self.answer(0)?;
+        Ok(())
+    }
+}
+
+#[test]
+fn an_error_of_a_reader_is_a_fault_and_no_end(rt: HostRuntime) {
+    let mut source = ReadSource::new(Faltering::new(2, 3));
+    let mut buf = [0u8; 8];
+    assert_eq!(rt; source.read(&mut buf), Taken::Got(3));
+    assert_eq!(rt; source.read(&mut buf), Taken::Failed);
+    assert_eq!(rt; source.faults(), 1);
+    assert_eq!(rt; source.read(&mut buf), Taken::Got(3));
+    assert_eq!(rt; source.faults(), 1);
+}
+
+#[test]
+fn an_error_of_a_writer_is_a_fault(rt: HostRuntime) {
+    let mut sink = WriteSink::new(Faltering::new(2, 3));
+    assert_eq!(rt; sink.write(DIGITS), Given::Put(3));
+    assert_eq!(rt; sink.write(DIGITS), Given::Failed);
+    assert_eq!(rt; sink.faults(), 1);
+    assert_eq!(rt; sink.write(DIGITS), Given::Put(3));
+    assert_eq!(rt; sink.flush(), Flushed::Flushed);
+    assert_eq!(rt; sink.faults(), 1);
+}
+
+#[test]
+fn an_error_of_a_flush_is_a_fault(rt: HostRuntime) {
+    let mut sink = WriteSink::new(Faltering::new(1, 3));
+    assert_eq!(rt; sink.flush(), Flushed::Failed);
+    assert_eq!(rt; sink.faults(), 1);
+    assert_eq!(rt; sink.flush(), Flushed::Flushed);
+    assert_eq!(rt; sink.faults(), 1);
+}
+
 #[test]
 fn a_write_of_nothing_is_a_fault(rt: HostRuntime) {
-    let mut room = [0u8; 4];
-    let mut sink = WriteSink::new(room.as_mut_slice());
-    assert!(rt; !write_all(&mut sink, DIGITS));
+    let mut sink = WriteSink::new(Faltering::new(0, 0));
+    assert_eq!(rt; sink.write(DIGITS), Given::Failed);
+    assert_eq!(rt; sink.faults(), 1);
+    assert_eq!(rt; sink.write(b""), Given::Put(0));
     assert_eq!(rt; sink.faults(), 1);
 }
