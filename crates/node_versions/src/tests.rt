@@ -1,4 +1,4 @@
-// The worked example, and lists with Marks between Dones, ended first parts, full rooms, and first and last places.
+// The worked example, and a list with Marks between Dones whose first part has ended.
 ghost use Rattle.std.specs.Prelude.{◌≡◌, pos, nat_lt, [], ◌∷◌, Some, None, true, false, IfOk};
 ghost use Rattle.script_tree.specs.declared.value.Value.TheVariants.{Int};
 ghost use Rattle.node_versions.specs.Entries.{Mark, Frame, Done, HasEndedPrefix, collected, with_entries};
@@ -53,16 +53,6 @@ fn compare(rt: &impl Abort, list: &NodeList, expected: &[(u32, u32, char)]) {
     }
 }
 
-// The out-edges, in order.
-fn compare_outs(rt: &impl Abort, list: &NodeList, expected: &[(u32, u32)]) {
-    assert_eq!(rt; list.outs_len() as usize, expected.len());
-    for (index, edge) in expected.iter().enumerate() {
-        if index < list.outs_len() as usize {
-            assert_eq!(rt; list.out(index as u32), *edge, "out-edge {index}");
-        }
-    }
-}
-
 fn picks_of(first: Option<u32>, second: Option<u32>) -> Picks
     ensures { result ≡ first ∷ second ∷ [] }
 {
@@ -107,73 +97,6 @@ fn worked_example(rt: HostRuntime) -> Result<(), Fail> {
     Ok(())
 }
 
-#[test]
-fn places(rt: HostRuntime) -> Result<(), Fail> {
-    let mut list = sample(rt.alloc())?;
-    let rows = [
-        (0, 0, 's'),
-        (4, 3, 'm'),
-        (2, 4, 'd'),
-        (9, 3, 'm'),
-        (6, 4, 'f'),
-    ];
-    compare(&rt, &list, &rows);
-    assert_eq!(rt; list.first_open(), Some(4));
-    assert_eq!(rt; list.place_of(|entry| entry.slot == 0), 0);
-    assert_eq!(rt; list.place_of(|entry| entry.slot == 3), 1);
-    assert_eq!(rt; list.place_of(|entry| entry.state.is_frame()), 4);
-    assert_eq!(rt; list.place_of(|_| false), 5);
-    assert_eq!(rt; list.place_of(|_| true), 0);
-    assert!(rt; list.entry_of(5).is_none());
-    list.insert_at(0, frame(1));
-    assert_eq!(rt; list.first_open(), Some(0));
-    assert_eq!(rt; list.entry_of(6), Some(5));
-    Ok(())
-}
-
-#[test]
-fn values(rt: HostRuntime) -> Result<(), Fail> {
-    let list = sample(rt.alloc())?;
-    assert_eq!(rt; list.value_for(0), Value::Int(10));
-    assert_eq!(rt; list.value_for(4), Value::Int(10));
-    assert_eq!(rt; list.value_for(2), Value::Int(20));
-    assert_eq!(rt; list.value_for(6), Value::Int(20));
-    assert_eq!(rt; list.value_before(4), Value::Int(10));
-    assert_eq!(rt; list.value_before(2), Value::Int(10));
-    assert_eq!(rt; list.value_before(9), Value::Int(20));
-    Ok(())
-}
-
-#[test]
-fn picks(rt: HostRuntime) -> Result<(), Fail> {
-    let list = sample(rt.alloc())?;
-    assert_eq!(rt; list.picks_for(4).get(0), Some(7));
-    assert_eq!(rt; list.picks_for(2).get(1), Some(8));
-    assert_eq!(rt; list.picks_before(2).get(1), None);
-    assert_eq!(rt; list.picks_before(6).get(0), None);
-    Ok(())
-}
-
-#[test]
-fn out_edges(rt: HostRuntime) -> Result<(), Fail> {
-    let mut list = NodeList::new(rt.alloc(), 3, 3, Value::Int(1), Picks::new())?;
-    list.insert_at(1, mark(5));
-    list.insert_at(2, mark(3));
-    list.add_out(8, 5);
-    list.add_out(9, 5);
-    list.add_out(8, 7);
-    compare_outs(&rt, &list, &[(8, 5), (9, 5), (8, 7)]);
-    assert!(rt; !list.active(0, 0));
-    assert!(rt; list.active(0, 5));
-    assert!(rt; list.active(1, 3));
-    assert!(rt; list.active(2, 0));
-    list.remove_out(8, 5);
-    compare_outs(&rt, &list, &[(9, 5), (8, 7)]);
-    list.add_out(8, 3);
-    compare_outs(&rt, &list, &[(9, 5), (8, 7), (8, 3)]);
-    Ok(())
-}
-
 // Collects as if the calls with a version below the limit had ended.
 fn collect_below(list: &mut NodeList, limit: u32) -> u32
     requires { HasEndedPrefix (λ e. nat_lt e.version limit) list.old.entries }
@@ -185,18 +108,8 @@ fn collect_below(list: &mut NodeList, limit: u32) -> u32
 #[test]
 fn collecting(rt: HostRuntime) -> Result<(), Fail> {
     let mut list = sample(rt.alloc())?;
+    assert_eq!(rt; list.place_of(|entry| entry.slot == 3), 1);
     assert_eq!(rt; collect_below(&mut list, 5), 2);
     compare(&rt, &list, &[(2, 4, 'd'), (9, 3, 'm'), (6, 4, 'f')]);
-    Ok(())
-}
-
-#[test]
-fn full_rooms(rt: HostRuntime) -> Result<(), Fail> {
-    let mut list = NodeList::new(rt.alloc(), 1, 0, Value::Bool(true), Picks::new())?;
-    assert_eq!(rt; list.value_for(0), Value::Bool(true));
-    assert_eq!(rt; collect_below(&mut list, 1), 0);
-    compare(&rt, &list, &[(0, 0, 's')]);
-    compare_outs(&rt, &list, &[]);
-    list.is_kept();
     Ok(())
 }
