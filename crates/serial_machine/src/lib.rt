@@ -2,6 +2,7 @@
 #![tactic(auto)]
 
 mod compare;
+pub mod laws;
 mod machine;
 mod pass;
 mod run;

@@ -1,6 +1,6 @@
 // The run of all scripts, thread after thread.
 
-ghost use Rattle.std.specs.Prelude.{◌≡◌, ◌<◌, ◌≤◌, ◌+◌, ◌^◌, ◌∷◌, [], ◌++◌, length, None, IfOk, OnOk, All};
+ghost use Rattle.std.specs.Prelude.{◌≡◌, ◌<◌, ◌≤◌, ◌+◌, ◌^◌, ◌∷◌, [], ◌++◌, length, take, None, IfOk, OnOk, All};
 ghost use Rattle.signal_graph.specs.Machine.{misnamed};
 ghost use Rattle.signal_graph.specs.Legal.{Legal, state_after, finals};
 ghost use Rattle.signal_graph.specs.Values.{values};
@@ -8,7 +8,7 @@ ghost use Rattle.call_log.specs.LeftOut.{why_not, refusal};
 ghost use Rattle.call_log.specs.Merge.{Merge};
 ghost use Rattle.serial_machine.specs.Progress.{why_not_next, entry_of, called, all_called, all_run, nothing_yet};
 ghost use Rattle.serial_machine.specs.Running.{IsWithinLimits};
-ghost use Rattle.serial_machine.specs.SerialOrder.{IsThreadAfterThread, CountsVersions};
+ghost use Rattle.serial_machine.specs.SerialOrder.{made_in, serial_calls, CountsVersions};
 
 use crate::machine::Machine;
 use call_log::{Finished, Log, Logged, Refused, RefusedList, Why};
@@ -165,7 +165,7 @@ pub fn serial(
     requires within { All (All IsWithinLimits) scripts.now }
     ensures legal { IfOk result (λ run. Legal graph.now run.log.entries) }
     ensures merge { IfOk result (λ run. Merge graph.now scripts.now versions run.log.entries run.refused) }
-    ensures order { IfOk result (λ run. IsThreadAfterThread run.log.entries) }
+    ensures calls { IfOk result (λ run. made_in run.log.entries ≡ take versions (serial_calls graph.now scripts.now)) }
     ensures versions { IfOk result (λ run. CountsVersions run.log.entries) }
     ensures finals { IfOk result (λ run. run.finals ≡ finals graph.now run.log.entries) }
 {

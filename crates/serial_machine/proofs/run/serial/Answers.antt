@@ -1,4 +1,4 @@
-use Rattle.std.proofs.Common.{◌≡◌, ◌≤◌, ◌+◌, ℕ, List, drop, length, sym, ap, ◌∙◌, subst, arith, rules}
+use Rattle.std.proofs.Common.{◌≡◌, ◌≤◌, ◌+◌, ℕ, List, drop, take, length, sym, ap, ◌∙◌, subst, arith, rules}
 use Rattle.std.proofs.lemmas.Grind.{common_steps}
 use Rattle.signal_graph.specs.declared.log.Logged.{Logged}
 use Rattle.signal_graph.specs.declared.log.Refused.{Refused}
@@ -7,10 +7,9 @@ use Rattle.signal_graph.specs.Graph.{Graph}
 use Rattle.signal_graph.specs.Legal.{Legal}
 use Rattle.call_log.specs.Merge.{Merge}
 use Rattle.serial_machine.specs.Progress.{Progress, all_run, nothing_yet}
-use Rattle.serial_machine.specs.SerialOrder.{IsThreadAfterThread, CountsVersions}
+use Rattle.serial_machine.specs.SerialOrder.{made_in, serial_calls, CountsVersions}
 use Rattle.serial_machine.proofs.Runs.{run_is_legal, run_ends}
-use Rattle.serial_machine.proofs.Merging.{run_is_merge, run_counts_versions}
-use Rattle.serial_machine.proofs.ThreadByThread.{run_is_thread_by_thread}
+use Rattle.serial_machine.proofs.Merging.{run_is_merge, run_makes_first, run_counts_versions}
 use Rattle.serial_machine.proofs.run.serial.Goals as goal
 
 -- where the loop has gone over all scripts, the run is that of all of them
@@ -26,8 +25,8 @@ merge graph limit scripts log refused progress e f h =
     (subst (λ r. Merge graph scripts limit (all_run graph limit 1 scripts nothing_yet).log r) (sym (f ∙ ap (λ (p : Progress). p.refused) h))
     (run_is_merge graph limit scripts))
 
-in_order : (graph : Graph) (limit : ℕ) (scripts : List (List Call)) (log : List Logged) (progress : Progress) → log ≡ progress.log → progress ≡ all_run graph limit 1 scripts nothing_yet → IsThreadAfterThread log
-in_order graph limit scripts log progress e h = subst IsThreadAfterThread (sym (e ∙ ap (λ (p : Progress). p.log) h)) (run_is_thread_by_thread graph limit scripts)
+in_order : (graph : Graph) (limit : ℕ) (scripts : List (List Call)) (log : List Logged) (progress : Progress) → log ≡ progress.log → progress ≡ all_run graph limit 1 scripts nothing_yet → made_in log ≡ take limit (serial_calls graph scripts)
+in_order graph limit scripts log progress e h = ap made_in (e ∙ ap (λ (p : Progress). p.log) h) ∙ run_makes_first graph limit scripts
 
 counting : (graph : Graph) (limit : ℕ) (scripts : List (List Call)) (log : List Logged) (progress : Progress) → log ≡ progress.log → progress ≡ all_run graph limit 1 scripts nothing_yet → CountsVersions log
 counting graph limit scripts log progress e h = subst (λ l. CountsVersions l) (sym (e ∙ ap (λ (p : Progress). p.log) h)) (run_counts_versions graph limit scripts)
@@ -48,8 +47,8 @@ returns-clause-merge c =
     merge c.args.graph.now c.args.versions scripts c.finish.result.log.entries c.finish.result.refused c.loop-index.run.progress c.finish.ensures.log c.finish.ensures.refused
     (whole c.args.graph.now c.args.versions scripts c.loop-index.index c.loop-index.run.progress done c.loop-index.invariant.2)
 
-pub returns-clause-order : goal.returns-clause-order
-returns-clause-order c =
+pub returns-clause-calls : goal.returns-clause-calls
+returns-clause-calls c =
     let scripts = c.args.scripts.now in
     let same : length c.as_slice-calls-items.result.now ≡ length scripts = ap length c.as_slice-calls-items.ensures in
     let done : length scripts ≤ c.loop-index.index = first_of (omega arith, first_of (search rules, grind (arith, common_steps))) in
