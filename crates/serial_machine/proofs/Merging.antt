@@ -32,13 +32,13 @@ upto_more from (suc n) =
     ap (upto from) e ∙ ap (λ vs. from ∷ vs) (upto_more (from + 1) n) ∙ ap (λ k. from ∷ (upto (from + 1) n ++ k ∷ [])) v
 
 -- what calls of one caller do to a log
-record Grown (caller : ℕ) (before after : List Logged) (made : List Call) : Type 0 where
-  own : calls_in (entries_of caller after) ≡ calls_in (entries_of caller before) ++ made
-  made_next : made_in after ≡ made_in before ++ made_by caller made
-  others : (c : ℕ) → (c ≡ caller → ⊥) → entries_of c after ≡ entries_of c before
-  size : length after ≡ length before + length made
-  versions : versions_in before ≡ upto 1 (length before) → versions_in after ≡ upto 1 (length after)
-  callers : (n : ℕ) → 1 ≤ caller → caller ≤ n → All (IsOfCaller n) before → All (IsOfCaller n) after
+pub record Grown (caller : ℕ) (before after : List Logged) (made : List Call) : Type 0 where
+  pub own : calls_in (entries_of caller after) ≡ calls_in (entries_of caller before) ++ made
+  pub made_next : made_in after ≡ made_in before ++ made_by caller made
+  pub others : (c : ℕ) → (c ≡ caller → ⊥) → entries_of c after ≡ entries_of c before
+  pub size : length after ≡ length before + length made
+  pub versions : versions_in before ≡ upto 1 (length before) → versions_in after ≡ upto 1 (length after)
+  pub callers : (n : ℕ) → 1 ≤ caller → caller ≤ n → All (IsOfCaller n) before → All (IsOfCaller n) after
 
 grown_by_none : (caller : ℕ) (log : List Logged) → Grown caller log log []
 grown_by_none caller log = record {
@@ -130,7 +130,7 @@ grown_case graph limit caller number call calls progress None (suc left) e later
     (subst (λ k. Grown caller p.log (all_called graph limit caller (number + 1) calls p).log (take k (well_named graph calls))) rest (later p))
 
 -- of a caller's well-named calls the first are made, as many as there are versions
-grown_all : (graph : Graph) (limit caller number : ℕ) (calls : List Call) (progress : Progress) → Grown caller progress.log (all_called graph limit caller number calls progress).log (take (limit - length progress.log) (well_named graph calls))
+pub grown_all : (graph : Graph) (limit caller number : ℕ) (calls : List Call) (progress : Progress) → Grown caller progress.log (all_called graph limit caller number calls progress).log (take (limit - length progress.log) (well_named graph calls))
 grown_all graph limit caller number [] progress = subst (Grown caller progress.log progress.log) (sym (take_none (limit - length progress.log))) (grown_by_none caller progress.log)
 grown_all graph limit caller number (call ∷ calls) progress =
     grown_case graph limit caller number call calls progress (misnamed graph call) (limit - length progress.log) refl (λ p. grown_all graph limit caller (number + 1) calls p)
@@ -208,7 +208,7 @@ run_in_order graph limit caller (calls ∷ scripts) progress fresh (suc k) h =
     subst (λ c. IsPrefix (calls_in (entries_of c (all_run graph limit caller (calls ∷ scripts) progress).log)) (well_named graph (script_of scripts k))) e
     (run_in_order graph limit (caller + 1) scripts (all_called graph limit caller 1 calls progress) (fresh_after graph limit caller calls progress fresh) k (omega arith))
 
-run_size : (graph : Graph) (limit caller : ℕ) (scripts : List (List Call)) (progress : Progress) → length (all_run graph limit caller scripts progress).log ≡ length progress.log + min (limit - length progress.log) (count_well_named graph scripts)
+pub run_size : (graph : Graph) (limit caller : ℕ) (scripts : List (List Call)) (progress : Progress) → length (all_run graph limit caller scripts progress).log ≡ length progress.log + min (limit - length progress.log) (count_well_named graph scripts)
 run_size graph limit caller [] progress = omega arith
 run_size graph limit caller (calls ∷ scripts) progress =
     let first = (grown_all graph limit caller 1 calls progress).size in
