@@ -69,9 +69,9 @@ pub room_for_next : (graph graph_now : Graph) (limit limit_now caller n : ℕ) (
 room_for_next graph graph_now limit limit_now caller n call rest items calls progress first capacity capacity_now g l c steps whole room =
     let moved = called graph limit caller (n + 1) call progress in
     let fits : length moved.log ≤ capacity_now = le_through (length moved.log) (length (all_called graph limit caller (n + 1 + 1) rest moved).log) (length (all_called graph limit caller 1 calls first).log) capacity capacity_now
-            (grows_all graph limit caller (n + 1 + 1) rest moved)
-            (ap (λ (p : Progress). length p.log) (ap (λ cs. all_called graph limit caller (n + 1) cs progress) (sym steps) ∙ whole))
-            room c in
+    (grows_all graph limit caller (n + 1 + 1) rest moved)
+    (ap (λ (p : Progress). length p.log) (ap (λ cs. all_called graph limit caller (n + 1) cs progress) (sym steps) ∙ whole))
+    room c in
     subst (λ gr. length (called gr limit_now caller (n + 1) call progress).log ≤ capacity_now) (sym g)
     (subst (λ li. length (called graph li caller (n + 1) call progress).log ≤ capacity_now) (sym l) fits)
 
@@ -89,9 +89,9 @@ room_for_caller graph graph_now limit limit_now n calls rest items scripts progr
     let size = whole_size graph limit scripts in
     let room : length (all_run graph limit 1 scripts nothing_yet).log ≤ capacity = omega (arith, size, count) in
     let fits : length moved.log ≤ capacity_now = le_through (length moved.log) (length (all_run graph limit (n + 1 + 1) rest moved).log) (length (all_run graph limit 1 scripts nothing_yet).log) capacity capacity_now
-            (grows_run graph limit (n + 1 + 1) rest moved)
-            (ap (λ (p : Progress). length p.log) (ap (λ cs. all_run graph limit (n + 1) cs progress) (sym steps) ∙ whole))
-            room c in
+    (grows_run graph limit (n + 1 + 1) rest moved)
+    (ap (λ (p : Progress). length p.log) (ap (λ cs. all_run graph limit (n + 1) cs progress) (sym steps) ∙ whole))
+    room c in
     subst (λ gr. length (all_called gr limit_now (n + 1) 1 calls progress).log ≤ capacity_now) (sym g)
     (subst (λ li. length (all_called graph li (n + 1) 1 calls progress).log ≤ capacity_now) (sym l) fits)
 

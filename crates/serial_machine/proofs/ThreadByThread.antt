@@ -89,9 +89,9 @@ same_log graph kept from (a ∷ log) (b ∷ other) made counts counts_too legal 
     let version : a.version ≡ b.version = counts 0 a (omega arith) ∙ sym (counts_too 0 a (omega arith)) in
     let reply : a.reply ≡ b.reply = legal.0 ∙ ap (reply graph kept) call ∙ sym legal_too.0 in
     let later = same_log graph (after graph kept a.call) (from + 1) log other
-            (other_pairs (a.caller, a.call) (b.caller, b.call) (made_in log) (made_in other) made)
-            (counts_later from a log counts) (counts_later from b other counts_too)
-            legal.1 (subst (λ c. LegalFrom graph (after graph kept c) other) (sym call) legal_too.1) in
+    (other_pairs (a.caller, a.call) (b.caller, b.call) (made_in log) (made_in other) made)
+    (counts_later from a log counts) (counts_later from b other counts_too)
+    legal.1 (subst (λ c. LegalFrom graph (after graph kept c) other) (sym call) legal_too.1) in
     ap (λ e. e ∷ log) (same_entry a b caller version call reply) ∙ ap (λ es. b ∷ es) later
 
 -- so two runs of the same scripts left the same
