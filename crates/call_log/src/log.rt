@@ -44,7 +44,16 @@ impl Log {
         ensures ok { OnOk result (self.new.spare ≡ self.old.spare + 1) }
         ensures err { OnErr result (self.new.spare ≡ self.old.spare) }
     {
-        let spare = match self.spare.checked_add(1) {
+        self.reserve(1)
+    }
+
+    /// Keeps room for so many entries more, all at once. Takes memory; where there is none the log is as it was.
+    pub fn reserve(&mut self, count: usize) -> Result<(), OutOfMemory>
+        ensures entries { self.new.entries ≡ self.old.entries }
+        ensures ok { OnOk result (self.new.spare ≡ self.old.spare + count) }
+        ensures err { OnErr result (self.new.spare ≡ self.old.spare) }
+    {
+        let spare = match self.spare.checked_add(count) {
             Some(spare) => spare,
             None => return Err(OutOfMemory),
         };

@@ -59,4 +59,15 @@ impl Deck {
     {
         &self.scripts
     }
+
+    /// The graph and the calls of each thread, thread 1 first. With them comes what every deck keeps. Takes no memory.
+    pub fn into_parts(self) -> (Graph, Scripts)
+        ensures graph { result.0 ≡ self.graph }
+        ensures scripts { result.1 ≡ self.scripts }
+        ensures kept { IsDeck self }
+        ensures threads { AreThreads result.1 }
+    {
+        let Deck { graph, scripts } = self;
+        (graph, scripts)
+    }
 }

@@ -3,7 +3,7 @@ use Rattle.std.proofs.Common.{◌≡◌, ℕ, zero, suc, ◌+◌, ◌-◌, ◌<�
 use Rattle.std.specs.Prelude.{◌==◌, is_none, slice_index, slice_index_or, count_by, All}
 use Rattle.std.specs.List.Sorted.{IsStrictlyIncreasing}
 use Rattle.std.proofs.lemmas.Bool.Decides.{eqb_tells}
-use Rattle.std.proofs.lemmas.List.{length-take, map-append, take_min}
+use Rattle.std.proofs.lemmas.List.{length-take, length-map, map-append, take-map, take_min}
 use Rattle.std.proofs.lemmas.List.Sums.{sum_by-cons}
 use Rattle.std.proofs.lemmas.List.Elements.{filter-append, All-append}
 use Rattle.signal_graph.specs.declared.call.Call.{Call}
@@ -16,7 +16,7 @@ use Rattle.signal_graph.specs.Machine.{misnamed}
 use Rattle.call_log.specs.Made.{entries_of, calls_in, versions_in, well_named, count_well_named, script_of, IsPrefix}
 use Rattle.call_log.specs.LeftOut.{why_not, left_behind, refusal, left_out_from, left_out_of}
 use Rattle.call_log.specs.Merge.{IsOfCaller, AreVersions, Merge}
-use Rattle.serial_machine.specs.SerialOrder.{CountsVersions}
+use Rattle.serial_machine.specs.SerialOrder.{made_in, made_by, serial_calls_from, serial_calls, CountsVersions}
 use Rattle.serial_machine.specs.Progress.{Progress, entry_of, with_entry, all_called, all_run, nothing_yet}
 
 -- so many numbers from one on
@@ -32,22 +32,28 @@ upto_more from (suc n) =
     ap (upto from) e ∙ ap (λ vs. from ∷ vs) (upto_more (from + 1) n) ∙ ap (λ k. from ∷ (upto (from + 1) n ++ k ∷ [])) v
 
 -- what calls of one caller do to a log
-record Grown (caller : ℕ) (before after : List Logged) (made : List Call) : Type 0 where
-  own : calls_in (entries_of caller after) ≡ calls_in (entries_of caller before) ++ made
-  others : (c : ℕ) → (c ≡ caller → ⊥) → entries_of c after ≡ entries_of c before
-  size : length after ≡ length before + length made
-  versions : versions_in before ≡ upto 1 (length before) → versions_in after ≡ upto 1 (length after)
-  callers : (n : ℕ) → 1 ≤ caller → caller ≤ n → All (IsOfCaller n) before → All (IsOfCaller n) after
+pub record Grown (caller : ℕ) (before after : List Logged) (made : List Call) : Type 0 where
+  pub own : calls_in (entries_of caller after) ≡ calls_in (entries_of caller before) ++ made
+  pub made_next : made_in after ≡ made_in before ++ made_by caller made
+  pub others : (c : ℕ) → (c ≡ caller → ⊥) → entries_of c after ≡ entries_of c before
+  pub size : length after ≡ length before + length made
+  pub versions : versions_in before ≡ upto 1 (length before) → versions_in after ≡ upto 1 (length after)
+  pub callers : (n : ℕ) → 1 ≤ caller → caller ≤ n → All (IsOfCaller n) before → All (IsOfCaller n) after
 
 grown_by_none : (caller : ℕ) (log : List Logged) → Grown caller log log []
 grown_by_none caller log = record {
   own = sym (append_none (calls_in (entries_of caller log)));
+  made_next = sym (append_no_pair (made_in log));
   others = λ c other. refl;
   size = omega arith;
   versions = λ h. h;
   callers = λ n low high h. h;
 }
   where
+    append_no_pair : (xs : List (ℕ × Call)) → xs ++ [] ≡ xs
+    append_no_pair [] = refl
+    append_no_pair (x ∷ xs) = ap (λ ys. x ∷ ys) (append_no_pair xs)
+
     append_none : (xs : List Call) → xs ++ [] ≡ xs
     append_none [] = refl
     append_none (x ∷ xs) = ap (λ ys. x ∷ ys) (append_none xs)
@@ -65,6 +71,7 @@ grown_by_one graph caller call log =
     record {
       own = ap calls_in (filter-append (λ (e : Logged). e.caller == caller) log (entry ∷ []) ∙ ap (λ b. entries_of caller log ++ cond b (entry ∷ []) []) (itself caller))
           ∙ map-append (λ (e : Logged). e.call) (entries_of caller log) (entry ∷ []);
+      made_next = map-append (λ (e : Logged). (e.caller, e.call)) log (entry ∷ []);
       others = λ c other. filter-append (λ (e : Logged). e.caller == c) log (entry ∷ []) ∙ ap (λ b. entries_of c log ++ cond b (entry ∷ []) []) (apart c other) ∙ append_none (entries_of c log);
       size = length-append log (entry ∷ []);
       versions = λ h. map-append (λ (e : Logged). e.version) log (entry ∷ []) ∙ ap (λ vs. vs ++ (length log + 1) ∷ []) h ∙ ap (λ v. upto 1 (length log) ++ v ∷ []) swapped ∙ sym (upto_more 1 (length log)) ∙ ap (upto 1) (sym (length-append log (entry ∷ [])));
@@ -84,6 +91,10 @@ grown_by_one graph caller call log =
 grown_then : (caller : ℕ) (a b c : List Logged) (first second : List Call) → Grown caller a b first → Grown caller b c second → Grown caller a c (first ++ second)
 grown_then caller a b c first second g h = record {
   own = h.own ∙ ap (λ cs. cs ++ second) g.own ∙ append_assoc (calls_in (entries_of caller a)) first second;
+  made_next = h.made_next
+      ∙ ap (λ ps. ps ++ made_by caller second) g.made_next
+      ∙ append_assoc (made_in a) (made_by caller first) (made_by caller second)
+      ∙ ap (λ ps. made_in a ++ ps) (sym (map-append (λ (c : Call). (caller, c)) first second));
   others = λ n other. h.others n other ∙ g.others n other;
   size = omega (arith, g.size, h.size, length-append first second);
   versions = λ v. h.versions (g.versions v);
@@ -119,7 +130,7 @@ grown_case graph limit caller number call calls progress None (suc left) e later
     (subst (λ k. Grown caller p.log (all_called graph limit caller (number + 1) calls p).log (take k (well_named graph calls))) rest (later p))
 
 -- of a caller's well-named calls the first are made, as many as there are versions
-grown_all : (graph : Graph) (limit caller number : ℕ) (calls : List Call) (progress : Progress) → Grown caller progress.log (all_called graph limit caller number calls progress).log (take (limit - length progress.log) (well_named graph calls))
+pub grown_all : (graph : Graph) (limit caller number : ℕ) (calls : List Call) (progress : Progress) → Grown caller progress.log (all_called graph limit caller number calls progress).log (take (limit - length progress.log) (well_named graph calls))
 grown_all graph limit caller number [] progress = subst (Grown caller progress.log progress.log) (sym (take_none (limit - length progress.log))) (grown_by_none caller progress.log)
 grown_all graph limit caller number (call ∷ calls) progress =
     grown_case graph limit caller number call calls progress (misnamed graph call) (limit - length progress.log) refl (λ p. grown_all graph limit caller (number + 1) calls p)
@@ -197,7 +208,7 @@ run_in_order graph limit caller (calls ∷ scripts) progress fresh (suc k) h =
     subst (λ c. IsPrefix (calls_in (entries_of c (all_run graph limit caller (calls ∷ scripts) progress).log)) (well_named graph (script_of scripts k))) e
     (run_in_order graph limit (caller + 1) scripts (all_called graph limit caller 1 calls progress) (fresh_after graph limit caller calls progress fresh) k (omega arith))
 
-run_size : (graph : Graph) (limit caller : ℕ) (scripts : List (List Call)) (progress : Progress) → length (all_run graph limit caller scripts progress).log ≡ length progress.log + min (limit - length progress.log) (count_well_named graph scripts)
+pub run_size : (graph : Graph) (limit caller : ℕ) (scripts : List (List Call)) (progress : Progress) → length (all_run graph limit caller scripts progress).log ≡ length progress.log + min (limit - length progress.log) (count_well_named graph scripts)
 run_size graph limit caller [] progress = omega arith
 run_size graph limit caller (calls ∷ scripts) progress =
     let first = (grown_all graph limit caller 1 calls progress).size in
@@ -209,6 +220,44 @@ run_callers graph limit caller n [] progress low high h = h
 run_callers graph limit caller n (calls ∷ scripts) progress low high h =
     run_callers graph limit (caller + 1) n scripts (all_called graph limit caller 1 calls progress) (omega arith) (omega arith)
     ((grown_all graph limit caller 1 calls progress).callers n low (omega arith) h)
+
+take_parts : (n : ℕ) (xs ys : List (ℕ × Call)) → take n (xs ++ ys) ≡ take n xs ++ take (n - length xs) ys
+take_parts zero xs ys = let e : 0 ≡ 0 - length xs = omega arith in ap (λ k. take k ys) e
+take_parts (suc n) [] ys = let e : suc n ≡ suc n - 0 = omega arith in ap (λ k. take k ys) e
+take_parts (suc n) (x ∷ xs) ys =
+    let e : n - length xs ≡ suc n - suc (length xs) = omega arith in
+    ap (λ zs. x ∷ zs) (take_parts n xs ys) ∙ ap (λ k. x ∷ (take n xs ++ take k ys)) e
+
+-- a run makes the first of all callers' well-named calls laid end to end, as many as there are versions left
+run_made : (graph : Graph) (limit caller : ℕ) (scripts : List (List Call)) (progress : Progress) → made_in (all_run graph limit caller scripts progress).log ≡ made_in progress.log ++ take (limit - length progress.log) (serial_calls_from graph caller scripts)
+run_made graph limit caller [] progress = nothing (limit - length progress.log)
+  where
+    append_none : (xs : List (ℕ × Call)) → xs ≡ xs ++ []
+    append_none [] = refl
+    append_none (x ∷ xs) = ap (λ ys. x ∷ ys) (append_none xs)
+
+    nothing : (n : ℕ) → made_in progress.log ≡ made_in progress.log ++ take n (serial_calls_from graph caller [])
+    nothing zero = append_none (made_in progress.log)
+    nothing (suc n) = append_none (made_in progress.log)
+run_made graph limit caller (calls ∷ scripts) progress =
+    let left = limit - length progress.log in
+    let W = well_named graph calls in
+    let p = all_called graph limit caller 1 calls progress in
+    let later = serial_calls_from graph (caller + 1) scripts in
+    let grown = grown_all graph limit caller 1 calls progress in
+    let rest : limit - length p.log ≡ left - length (made_by caller W) = omega (arith, grown.size, length-take left W, length-map {B = ℕ × Call} W (λ (c : Call). (caller, c))) in
+    run_made graph limit (caller + 1) scripts p
+    ∙ ap (λ ps. ps ++ take (limit - length p.log) later) grown.made_next
+    ∙ append_assoc (made_in progress.log) (made_by caller (take left W)) (take (limit - length p.log) later)
+    ∙ ap (λ ps. made_in progress.log ++ (ps ++ take (limit - length p.log) later)) (sym (take-map (λ (c : Call). (caller, c)) left W))
+    ∙ ap (λ k. made_in progress.log ++ (take left (made_by caller W) ++ take k later)) rest
+    ∙ ap (λ ps. made_in progress.log ++ ps) (sym (take_parts left (made_by caller W) later))
+
+-- a run makes the first of all callers' well-named calls, in the order of the callers
+pub run_makes_first : (graph : Graph) (limit : ℕ) (scripts : List (List Call)) → made_in (all_run graph limit 1 scripts nothing_yet).log ≡ take limit (serial_calls graph scripts)
+run_makes_first graph limit scripts =
+    let e : limit - 0 ≡ limit = omega arith in
+    run_made graph limit 1 scripts nothing_yet ∙ ap (λ k. take k (serial_calls graph scripts)) e
 
 run_versions : (graph : Graph) (limit caller : ℕ) (scripts : List (List Call)) (progress : Progress) → versions_in progress.log ≡ upto 1 (length progress.log) → versions_in (all_run graph limit caller scripts progress).log ≡ upto 1 (length (all_run graph limit caller scripts progress).log)
 run_versions graph limit caller [] progress h = h

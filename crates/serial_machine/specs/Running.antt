@@ -6,10 +6,11 @@ use Rattle.signal_graph.specs.Graph.{Graph}
 use Rattle.signal_graph.specs.Machine.{sets_of, looks_of}
 use Rattle.serial_machine.specs.Progress.{Progress}
 
--- the graph, the limit of versions, and what is made and refused so far
+-- the graph, the limit of versions, how many entries the log has room for, and what is made and refused so far
 pub record Running : Type 0 where
   pub graph : Graph
   pub limit : ℕ
+  pub capacity : ℕ
   pub progress : Progress
 
 -- a call has no more sets and looks than a call may have

@@ -2,9 +2,11 @@
 #![tactic(auto)]
 
 mod compare;
+mod count;
+pub mod laws;
 mod machine;
 mod pass;
 mod run;
 
 pub use machine::Machine;
-pub use run::serial;
+pub use run::{serial, serial_owned};

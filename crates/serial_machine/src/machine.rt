@@ -69,7 +69,7 @@ fn look(
 ) -> Result<ValueList, OutOfMemory>
     ensures { IfOk result (λ seen. seen ≡ looked_in graph.now values.now looks.now) }
 {
-    let mut seen = Items::new(alloc);
+    let mut seen = Items::from_vec(Vec::with_capacity(alloc, looks.len())?);
     for name in looks.as_slice() {
         seen.push(value_at(values, number_of(graph, name)))?;
     }

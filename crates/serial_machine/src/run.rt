@@ -1,6 +1,6 @@
 // The run of all scripts, thread after thread.
 
-ghost use Rattle.std.specs.Prelude.{◌≡◌, ◌<◌, ◌≤◌, ◌+◌, ◌^◌, ◌∷◌, [], ◌++◌, length, None, IfOk, OnOk, All};
+ghost use Rattle.std.specs.Prelude.{◌≡◌, ◌<◌, ◌≤◌, ◌+◌, ◌^◌, ◌∷◌, [], ◌++◌, length, take, None, IfOk, OnOk, All};
 ghost use Rattle.signal_graph.specs.Machine.{misnamed};
 ghost use Rattle.signal_graph.specs.Legal.{Legal, state_after, finals};
 ghost use Rattle.signal_graph.specs.Values.{values};
@@ -8,8 +8,9 @@ ghost use Rattle.call_log.specs.LeftOut.{why_not, refusal};
 ghost use Rattle.call_log.specs.Merge.{Merge};
 ghost use Rattle.serial_machine.specs.Progress.{why_not_next, entry_of, called, all_called, all_run, nothing_yet};
 ghost use Rattle.serial_machine.specs.Running.{IsWithinLimits};
-ghost use Rattle.serial_machine.specs.SerialOrder.{IsThreadAfterThread, CountsVersions};
+ghost use Rattle.serial_machine.specs.SerialOrder.{made_in, serial_calls, CountsVersions};
 
+use crate::count::count_to_make;
 use crate::machine::Machine;
 use call_log::{Finished, Log, Logged, Refused, RefusedList, Why};
 use script_tree::items::Items;
@@ -30,7 +31,7 @@ struct Run<'g> {
 }
 
 impl<'g> Model for Run<'g> {
-    ghost use Rattle.std.specs.Prelude.{◌<◌, ◌≤◌, ◌^◌, length};
+    ghost use Rattle.std.specs.Prelude.{◌+◌, ◌<◌, ◌≤◌, ◌^◌, length};
     ghost use Rattle.std.specs.Coded.{codes};
     ghost use Rattle.script_tree.specs.TreeCode.{tree_code};
     ghost use Rattle.signal_graph.specs.Legal.{state_after};
@@ -41,22 +42,29 @@ impl<'g> Model for Run<'g> {
 
     ghost coded = { Prim.hlevel (codes, tree_code) };
 
-    ghost view = { λ run. record { graph = run.machine.graph; limit = run.limit; progress = record { log = run.log.entries; refused = run.refused } } };
+    ghost view = { λ run. record { graph = run.machine.graph; limit = run.limit; capacity = length run.log.entries + run.log.spare; progress = record { log = run.log.entries; refused = run.refused } } };
 
     ghost invariant = { λ run. IsAt run.machine (state_after run.machine.graph run.log.entries) × (length run.log.entries ≤ run.limit) × (run.limit < 2 ^ 32) };
 }
 
 impl<'g> Run<'g> {
-    /// A run that has not made a call.
-    fn new(alloc: Global, graph: &'g Graph, limit: u32) -> Result<Run<'g>, OutOfMemory>
-        ensures { IfOk result (λ run. run ≡ record { graph = graph.now; limit = limit; progress = nothing_yet }) }
+    /// A run that has not made a call, with room for so many.
+    fn new(
+        alloc: Global,
+        graph: &'g Graph,
+        limit: u32,
+        capacity: u32,
+    ) -> Result<Run<'g>, OutOfMemory>
+        ensures { IfOk result (λ run. run ≡ record { graph = graph.now; limit = limit; capacity = capacity; progress = nothing_yet }) }
     {
         let machine = Machine::new(alloc, graph)?;
+        let mut log = Log::new(alloc);
+        log.reserve(capacity as usize)?;
         Ok(Run {
             alloc,
             limit,
             machine,
-            log: Log::new(alloc),
+            log,
             refused: Items::new(alloc),
         })
     }
@@ -77,36 +85,38 @@ impl<'g> Run<'g> {
     }
 
     /// Makes a call with the next version.
-    fn make(&mut self, caller: u32, call: &Call) -> Result<(), OutOfMemory>
-        requires named { misnamed self.old.graph call.now ≡ None }
-        requires room { length self.old.progress.log < self.old.limit }
+    fn make(&mut self, caller: u32, call: Call) -> Result<(), OutOfMemory>
+        requires named { misnamed self.old.graph call ≡ None }
+        requires below { length self.old.progress.log < self.old.limit }
+        requires room { length self.old.progress.log < self.old.capacity }
         ensures graph { self.new.graph ≡ self.old.graph }
         ensures limit { self.new.limit ≡ self.old.limit }
-        ensures log { OnOk result (self.new.progress.log ≡ self.old.progress.log ++ entry_of self.old.graph caller self.old.progress.log call.now ∷ []) }
+        ensures capacity { OnOk result (self.new.capacity ≡ self.old.capacity) }
+        ensures log { OnOk result (self.new.progress.log ≡ self.old.progress.log ++ entry_of self.old.graph caller self.old.progress.log call ∷ []) }
         ensures refused { self.new.progress.refused ≡ self.old.progress.refused }
     {
-        let copy = call.copy(self.alloc)?;
-        self.log.reserve_one()?;
         let version = self.log.len() + 1;
-        let reply = self.machine.step(call)?;
+        let reply = self.machine.step(&call)?;
         self.log.append(Logged {
             caller,
             version,
-            call: copy,
+            call,
             reply,
         });
         Ok(())
     }
 
     /// Makes a call, or refuses it.
-    #[tactic(auto, using(crate::proofs::Runs::is_named, crate::proofs::Runs::is_below))]
-    fn call(&mut self, caller: u32, number: u32, call: &Call) -> Result<(), OutOfMemory>
-        requires { IsWithinLimits call.now }
+    #[tactic(auto, using(crate::proofs::Runs::is_named, crate::proofs::Runs::is_below, crate::proofs::Moving::fits_one_more))]
+    fn call(&mut self, caller: u32, number: u32, call: Call) -> Result<(), OutOfMemory>
+        requires within { IsWithinLimits call }
+        requires room { length (called self.old.graph self.old.limit caller number call self.old.progress).log ≤ self.old.capacity }
         ensures graph { self.new.graph ≡ self.old.graph }
         ensures limit { self.new.limit ≡ self.old.limit }
-        ensures called { OnOk result (self.new.progress ≡ called self.old.graph self.old.limit caller number call.now self.old.progress) }
+        ensures capacity { OnOk result (self.new.capacity ≡ self.old.capacity) }
+        ensures called { OnOk result (self.new.progress ≡ called self.old.graph self.old.limit caller number call self.old.progress) }
     {
-        match self.why_not(call) {
+        match self.why_not(&call) {
             None => self.make(caller, call),
             Some(why) => self.refused.push(Refused {
                 caller,
@@ -117,16 +127,19 @@ impl<'g> Run<'g> {
     }
 
     /// Makes or refuses all calls of a caller.
-    #[tactic(auto, using(crate::proofs::Runs::next_called))]
-    fn call_all(&mut self, caller: u32, calls: &CallList) -> Result<(), OutOfMemory>
-        requires few { length calls.now < 2 ^ 32 }
-        requires within { All IsWithinLimits calls.now }
+    fn call_all(&mut self, caller: u32, calls: CallList) -> Result<(), OutOfMemory>
+        requires few { length calls < 2 ^ 32 }
+        requires within { All IsWithinLimits calls }
+        requires room { length (all_called self.old.graph self.old.limit caller 1 calls self.old.progress).log ≤ self.old.capacity }
         ensures graph { self.new.graph ≡ self.old.graph }
         ensures limit { self.new.limit ≡ self.old.limit }
-        ensures called { OnOk result (self.new.progress ≡ all_called self.old.graph self.old.limit caller 1 calls.now self.old.progress) }
+        ensures capacity { OnOk result (self.new.capacity ≡ self.old.capacity) }
+        ensures called { OnOk result (self.new.progress ≡ all_called self.old.graph self.old.limit caller 1 calls self.old.progress) }
     {
-        for (index, call) in calls.as_slice().iter().enumerate() {
-            self.call(caller, index as u32 + 1, call)?;
+        let mut number = 0;
+        for call in calls.into_vec() {
+            number += 1;
+            self.call(caller, number, call)?;
         }
         Ok(())
     }
@@ -134,6 +147,7 @@ impl<'g> Run<'g> {
     /// What the run leaves.
     fn finish(self) -> Finished
         ensures log { result.log.entries ≡ self.entry.progress.log }
+        ensures spare { length self.entry.progress.log + result.log.spare ≡ self.entry.capacity }
         ensures refused { result.refused ≡ self.entry.progress.refused }
         ensures finals { result.finals ≡ finals self.entry.graph self.entry.progress.log }
     {
@@ -151,9 +165,30 @@ impl<'g> Run<'g> {
     }
 }
 
+// A copy of calls.
+fn copied_calls(alloc: Global, calls: &CallList) -> Result<CallList, OutOfMemory>
+    ensures { IfOk result (λ copied. copied ≡ calls.now) }
+{
+    let mut copied = Items::new(alloc);
+    for call in calls.as_slice() {
+        copied.push(call.copy(alloc)?)?;
+    }
+    Ok(copied)
+}
+
+// A copy of scripts.
+fn copied_scripts(alloc: Global, scripts: &Scripts) -> Result<Scripts, OutOfMemory>
+    ensures { IfOk result (λ copied. copied ≡ scripts.now) }
+{
+    let mut copied = Items::new(alloc);
+    for calls in scripts.as_slice() {
+        copied.push(copied_calls(alloc, calls)?)?;
+    }
+    Ok(copied)
+}
+
 /// Runs all calls of thread 1, then all of thread 2, and so on. The log has them in that order, with versions that count
 /// from 1. A misnamed call is not made, and neither is a well-named one that finds `versions` calls made. Takes memory.
-#[tactic(auto, using(crate::proofs::Runs::next_caller))]
 pub fn serial(
     alloc: Global,
     graph: &Graph,
@@ -165,13 +200,39 @@ pub fn serial(
     requires within { All (All IsWithinLimits) scripts.now }
     ensures legal { IfOk result (λ run. Legal graph.now run.log.entries) }
     ensures merge { IfOk result (λ run. Merge graph.now scripts.now versions run.log.entries run.refused) }
-    ensures order { IfOk result (λ run. IsThreadAfterThread run.log.entries) }
+    ensures calls { IfOk result (λ run. made_in run.log.entries ≡ take versions (serial_calls graph.now scripts.now)) }
     ensures versions { IfOk result (λ run. CountsVersions run.log.entries) }
+    ensures spare { IfOk result (λ run. run.log.spare ≡ 0) }
     ensures finals { IfOk result (λ run. run.finals ≡ finals graph.now run.log.entries) }
 {
-    let mut run = Run::new(alloc, graph, versions)?;
-    for (index, calls) in scripts.as_slice().iter().enumerate() {
-        run.call_all(index as u32 + 1, calls)?;
+    let scripts = copied_scripts(alloc, scripts)?;
+    serial_owned(alloc, graph, scripts, versions)
+}
+
+/// The run of `serial` where the scripts are not needed any more: each call moves into the log, and the log's memory is
+/// taken at once. Takes memory.
+pub fn serial_owned(
+    alloc: Global,
+    graph: &Graph,
+    scripts: Scripts,
+    versions: u32,
+) -> Result<Finished, OutOfMemory>
+    requires few { length scripts < 2 ^ 32 }
+    requires few_calls { All (λ calls. length calls < 2 ^ 32) scripts }
+    requires within { All (All IsWithinLimits) scripts }
+    ensures legal { IfOk result (λ run. Legal graph.now run.log.entries) }
+    ensures merge { IfOk result (λ run. Merge graph.now scripts versions run.log.entries run.refused) }
+    ensures calls { IfOk result (λ run. made_in run.log.entries ≡ take versions (serial_calls graph.now scripts)) }
+    ensures versions { IfOk result (λ run. CountsVersions run.log.entries) }
+    ensures spare { IfOk result (λ run. run.log.spare ≡ 0) }
+    ensures finals { IfOk result (λ run. run.finals ≡ finals graph.now run.log.entries) }
+{
+    let count = count_to_make(graph, scripts.as_slice(), versions);
+    let mut run = Run::new(alloc, graph, versions, count)?;
+    let mut caller = 0;
+    for calls in scripts.into_vec() {
+        caller += 1;
+        run.call_all(caller, calls)?;
     }
     Ok(run.finish())
 }

@@ -1,0 +1,107 @@
+-- A run that takes its scripts: the room of its log, and what is left of lists whose items move.
+use Rattle.std.proofs.Common.{◌≡◌, ℕ, zero, suc, ◌+◌, ◌-◌, ◌<◌, ◌≤◌, min, Bool, true, false, cond, List, [], ◌∷◌, ◌++◌, length, drop, get_or, Option, Some, None, refl, sym, ap, ◌∙◌, subst, arith, length-append}
+use Rattle.std.specs.Prelude.{All}
+use Rattle.std.proofs.lemmas.List.{drop_more, length-take}
+use Rattle.std.proofs.lemmas.List.Sums.{sum_by-cons}
+use Rattle.signal_graph.specs.declared.call.Call.{Call}
+use Rattle.signal_graph.specs.declared.log.Logged.{Logged}
+use Rattle.signal_graph.specs.declared.log.Why.{Why}
+use Rattle.signal_graph.specs.Graph.{Graph}
+use Rattle.call_log.specs.Made.{is_well_named, well_named, count_well_named}
+use Rattle.serial_machine.specs.Progress.{Progress, with_entry, called, all_called, all_run, nothing_yet}
+use Rattle.serial_machine.proofs.Merging.{grown_all, run_size}
+
+-- where there is room for the log with an entry, there is room for the entry
+pub fits_one_more : (log : List Logged) (entry : Logged) (why : Option Why) (capacity : ℕ) → why ≡ None → length (with_entry log entry why) ≤ capacity → length log < capacity
+fits_one_more log entry None capacity none h = omega (arith, h, length-append log (entry ∷ []))
+fits_one_more log entry (Some why) capacity none h = absurd (cc)
+
+-- calls make a log no shorter
+pub grows_all : (graph : Graph) (limit caller number : ℕ) (calls : List Call) (progress : Progress) → length progress.log ≤ length (all_called graph limit caller number calls progress).log
+grows_all graph limit caller number calls progress = let size = (grown_all graph limit caller number calls progress).size in omega (arith, size)
+
+pub grows_run : (graph : Graph) (limit caller : ℕ) (scripts : List (List Call)) (progress : Progress) → length progress.log ≤ length (all_run graph limit caller scripts progress).log
+grows_run graph limit caller scripts progress = let size = run_size graph limit caller scripts progress in omega (arith, size)
+
+-- a whole run's log has as many entries as there are well-named calls, up to the limit
+pub whole_size : (graph : Graph) (limit : ℕ) (scripts : List (List Call)) → length (all_run graph limit 1 scripts nothing_yet).log ≡ min limit (count_well_named graph scripts)
+whole_size graph limit scripts = let size = run_size graph limit 1 scripts nothing_yet in omega (arith, size)
+
+pub all_first : {A : Type 0} (P : A → Type 0) (x : A) (xs : List A) → All P (x ∷ xs) → P x
+all_first P x xs h = h 0 x (omega arith)
+
+pub all_rest : {A : Type 0} (P : A → Type 0) (x : A) (xs : List A) → All P (x ∷ xs) → All P xs
+all_rest P x xs h k d within = h (suc k) d (omega arith)
+
+pub nothing_left : {A : Type 0} (xs : List A) → length xs ≡ 0 → xs ≡ []
+nothing_left [] h = refl
+nothing_left (x ∷ xs) h = absurd (omega arith)
+
+named_cond : (b : Bool) (call : Call) (calls : List Call) → length (cond b (call ∷ calls) calls) ≡ length calls + cond b 1 0
+named_cond true call calls = omega arith
+named_cond false call calls = omega arith
+
+-- the well-named calls from an index on
+pub one_named : (graph : Graph) (calls : List Call) (i : ℕ) (d : Call) → i < length calls → is_well_named graph (get_or calls i d) ≡ true → length (well_named graph (drop i calls)) ≡ length (well_named graph (drop (i + 1) calls)) + 1
+one_named graph calls i d within h =
+    ap (λ cs. length (well_named graph cs)) (drop_more calls i d within)
+    ∙ named_cond (is_well_named graph (get_or calls i d)) (get_or calls i d) (well_named graph (drop (i + 1) calls))
+    ∙ ap (λ b. length (well_named graph (drop (i + 1) calls)) + cond b 1 0) h
+
+pub none_named : (graph : Graph) (calls : List Call) (i : ℕ) (d : Call) → i < length calls → is_well_named graph (get_or calls i d) ≡ false → length (well_named graph (drop i calls)) ≡ length (well_named graph (drop (i + 1) calls))
+none_named graph calls i d within h =
+    let none : length (well_named graph (drop (i + 1) calls)) + 0 ≡ length (well_named graph (drop (i + 1) calls)) = omega arith in
+    ap (λ cs. length (well_named graph cs)) (drop_more calls i d within)
+    ∙ named_cond (is_well_named graph (get_or calls i d)) (get_or calls i d) (well_named graph (drop (i + 1) calls))
+    ∙ ap (λ b. length (well_named graph (drop (i + 1) calls)) + cond b 1 0) h
+    ∙ none
+
+-- the well-named calls of the callers from an index on
+pub next_count : (graph : Graph) (scripts : List (List Call)) (i : ℕ) (d : List Call) → i < length scripts → count_well_named graph (drop i scripts) ≡ length (well_named graph (get_or scripts i d)) + count_well_named graph (drop (i + 1) scripts)
+next_count graph scripts i d within =
+    ap (count_well_named graph) (drop_more scripts i d within) ∙ sum_by-cons (λ (cs : List Call). length (well_named graph cs)) (get_or scripts i d) (drop (i + 1) scripts)
+
+le_through : (a b c d e : ℕ) → a ≤ b → b ≡ c → c ≤ d → e ≡ d → a ≤ e
+le_through a b c d e below same room kept = omega arith
+
+-- where a log has room for all calls of a caller, it has room for the next
+pub room_for_next : (graph graph_now : Graph) (limit limit_now caller n : ℕ) (call : Call) (rest items calls : List Call) (progress first : Progress) (capacity capacity_now : ℕ) → graph_now ≡ graph → limit_now ≡ limit → capacity_now ≡ capacity → items ≡ call ∷ rest → all_called graph limit caller (n + 1) items progress ≡ all_called graph limit caller 1 calls first → length (all_called graph limit caller 1 calls first).log ≤ capacity → length (called graph_now limit_now caller (n + 1) call progress).log ≤ capacity_now
+room_for_next graph graph_now limit limit_now caller n call rest items calls progress first capacity capacity_now g l c steps whole room =
+    let moved = called graph limit caller (n + 1) call progress in
+    let fits : length moved.log ≤ capacity_now = le_through (length moved.log) (length (all_called graph limit caller (n + 1 + 1) rest moved).log) (length (all_called graph limit caller 1 calls first).log) capacity capacity_now
+    (grows_all graph limit caller (n + 1 + 1) rest moved)
+    (ap (λ (p : Progress). length p.log) (ap (λ cs. all_called graph limit caller (n + 1) cs progress) (sym steps) ∙ whole))
+    room c in
+    subst (λ gr. length (called gr limit_now caller (n + 1) call progress).log ≤ capacity_now) (sym g)
+    (subst (λ li. length (called graph li caller (n + 1) call progress).log ≤ capacity_now) (sym l) fits)
+
+-- where the next call of a caller is made or refused, the others are left
+pub moved_next : (graph graph_now : Graph) (limit limit_now caller n : ℕ) (call : Call) (rest items calls : List Call) (progress after first : Progress) → graph_now ≡ graph → limit_now ≡ limit → items ≡ call ∷ rest → after ≡ called graph_now limit_now caller (n + 1) call progress → all_called graph limit caller (n + 1) items progress ≡ all_called graph limit caller 1 calls first → all_called graph limit caller (n + 1 + 1) rest after ≡ all_called graph limit caller 1 calls first
+moved_next graph graph_now limit limit_now caller n call rest items calls progress after first g l steps moved whole =
+    ap (all_called graph limit caller (n + 1 + 1) rest) (moved ∙ ap (λ gr. called gr limit_now caller (n + 1) call progress) g ∙ ap (λ li. called graph li caller (n + 1) call progress) l)
+    ∙ ap (λ cs. all_called graph limit caller (n + 1) cs progress) (sym steps)
+    ∙ whole
+
+-- where a log has room for all callers' calls, it has room for those of the next
+pub room_for_caller : (graph graph_now : Graph) (limit limit_now n : ℕ) (calls : List Call) (rest items scripts : List (List Call)) (progress : Progress) (capacity capacity_now : ℕ) → graph_now ≡ graph → limit_now ≡ limit → capacity_now ≡ capacity → items ≡ calls ∷ rest → all_run graph limit (n + 1) items progress ≡ all_run graph limit 1 scripts nothing_yet → capacity ≡ min limit (count_well_named graph scripts) → length (all_called graph_now limit_now (n + 1) 1 calls progress).log ≤ capacity_now
+room_for_caller graph graph_now limit limit_now n calls rest items scripts progress capacity capacity_now g l c steps whole count =
+    let moved = all_called graph limit (n + 1) 1 calls progress in
+    let size = whole_size graph limit scripts in
+    let room : length (all_run graph limit 1 scripts nothing_yet).log ≤ capacity = omega (arith, size, count) in
+    let fits : length moved.log ≤ capacity_now = le_through (length moved.log) (length (all_run graph limit (n + 1 + 1) rest moved).log) (length (all_run graph limit 1 scripts nothing_yet).log) capacity capacity_now
+    (grows_run graph limit (n + 1 + 1) rest moved)
+    (ap (λ (p : Progress). length p.log) (ap (λ cs. all_run graph limit (n + 1) cs progress) (sym steps) ∙ whole))
+    room c in
+    subst (λ gr. length (all_called gr limit_now (n + 1) 1 calls progress).log ≤ capacity_now) (sym g)
+    (subst (λ li. length (all_called graph li (n + 1) 1 calls progress).log ≤ capacity_now) (sym l) fits)
+
+-- where a caller has run, the others are left
+pub moved_caller : (graph graph_now : Graph) (limit limit_now n : ℕ) (calls : List Call) (rest items scripts : List (List Call)) (progress after : Progress) → graph_now ≡ graph → limit_now ≡ limit → items ≡ calls ∷ rest → after ≡ all_called graph_now limit_now (n + 1) 1 calls progress → all_run graph limit (n + 1) items progress ≡ all_run graph limit 1 scripts nothing_yet → all_run graph limit (n + 1 + 1) rest after ≡ all_run graph limit 1 scripts nothing_yet
+moved_caller graph graph_now limit limit_now n calls rest items scripts progress after g l steps moved whole =
+    ap (all_run graph limit (n + 1 + 1) rest) (moved ∙ ap (λ gr. all_called gr limit_now (n + 1) 1 calls progress) g ∙ ap (λ li. all_called graph li (n + 1) 1 calls progress) l)
+    ∙ ap (λ cs. all_run graph limit (n + 1) cs progress) (sym steps)
+    ∙ whole
+
+-- behind the last caller the run is that of all scripts
+pub whole_run : (graph : Graph) (limit caller : ℕ) (items scripts : List (List Call)) (progress : Progress) → items ≡ [] → all_run graph limit caller items progress ≡ all_run graph limit 1 scripts nothing_yet → progress ≡ all_run graph limit 1 scripts nothing_yet
+whole_run graph limit caller items scripts progress empty h = ap (λ cs. all_run graph limit caller cs progress) (sym empty) ∙ h
