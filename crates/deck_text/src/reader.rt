@@ -246,7 +246,6 @@ impl Reader {
 /// looked up. Takes memory; `Memory` comes only for want of it, at whichever line there is none.
 #[tactic(auto, using(crate::proofs::Spelling::led_laws))]
 pub fn read_deck(alloc: Global, bytes: &[u8]) -> Result<Deck, DeckFault>
-    requires { length bytes.now < 2 ^ 32 }
     ensures ok { IfOk result (SpellsDeck bytes.now) }
     ensures err { IfErr result (IsDeckFault bytes.now) }
     ensures names { IfErr result (NamesLine (length (lines bytes.now))) }
@@ -257,7 +256,8 @@ pub fn read_deck(alloc: Global, bytes: &[u8]) -> Result<Deck, DeckFault>
     while !rest.is_empty() {
         let (line, after) = first_line(rest);
         number += 1;
-        if (bytes.len() - after.len()) as u64 > DECK_BYTES {
+        let end = (bytes.len() - after.len()) as u64;
+        if end > DECK_BYTES {
             return Err(DeckFault::TooMany(number, What::Bytes));
         }
         if let Err(reason) = reader.read(line) {
