@@ -40,6 +40,15 @@ pub struct Reader {
     calls: Vec<Call>,
 }
 
+// The calls of a thread that has all of them. The room for more is given back.
+fn whole_thread(calls: Vec<Call>) -> CallList
+    ensures { result ≡ calls.items }
+{
+    let mut calls = calls;
+    calls.shrink_to_fit();
+    Items::from_vec(calls)
+}
+
 impl Reader {
     fn new(alloc: Global) -> Reader
         ensures reads { Reads result }
@@ -124,7 +133,7 @@ impl Reader {
             return Err(Reason::TooMany(What::Threads));
         }
         let calls = mem::replace(&mut self.calls, Vec::new(self.alloc));
-        self.threads.push(Items::from_vec(calls))?;
+        self.threads.push(whole_thread(calls))?;
         Ok(())
     }
 
@@ -214,7 +223,7 @@ impl Reader {
             calls,
         } = self;
         let mut threads = threads;
-        threads.push(Items::from_vec(calls))?;
+        threads.push(whole_thread(calls))?;
         let graph = builder.build()?;
         Ok(Deck::new(graph, Items::from_vec(threads)))
     }
