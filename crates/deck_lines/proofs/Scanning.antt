@@ -94,8 +94,8 @@ counts_here word text pieces at count d p h e f n =
     let rest = words_among text (drop (at + 1) pieces) in
     let w = bytes_of text p in
     let here : length (cut word (words_among text (drop at pieces))) ≡ suc (length (cut word rest)) =
-        ap (λ ps. length (cut word (words_among text ps))) (drop_at pieces at d p h e)
-        ∙ ap (λ t. length (if t then [] ∷ cut word rest else onto_first w (cut word rest))) f in
+    ap (λ ps. length (cut word (words_among text ps))) (drop_at pieces at d p h e)
+    ∙ ap (λ t. length (if t then [] ∷ cut word rest else onto_first w (cut word rest))) f in
     let so_far = n.so_far in
     let few = n.few in
     record { so_far = omega (arith, so_far, here); few = omega (arith, few) }
@@ -105,9 +105,9 @@ counts_none word text pieces at count d p h e f n =
     let rest = words_among text (drop (at + 1) pieces) in
     let w = bytes_of text p in
     let here : length (cut word (words_among text (drop at pieces))) ≡ length (cut word rest) =
-        ap (λ ps. length (cut word (words_among text ps))) (drop_at pieces at d p h e)
-        ∙ ap (λ t. length (if t then [] ∷ cut word rest else onto_first w (cut word rest))) f
-        ∙ length_onto w (cut word rest) (cut_some word rest) in
+    ap (λ ps. length (cut word (words_among text ps))) (drop_at pieces at d p h e)
+    ∙ ap (λ t. length (if t then [] ∷ cut word rest else onto_first w (cut word rest))) f
+    ∙ length_onto w (cut word rest) (cut_some word rest) in
     let so_far = n.so_far in
     let few = n.few in
     record { so_far = omega (arith, so_far, here); few = omega (arith, few) }
