@@ -20,7 +20,8 @@ use Rattle.deck_lines.specs.Forms.{Words}
 use Rattle.deck_lines.specs.Texts.{is_end, is_hash, without_comment, without_return, said}
 use Rattle.deck_lines.proofs.Cutting.{same_word, or_no, no_or}
 use Rattle.deck_lines.proofs.NoSigns.{is_stray, has_stray, no_strays}
-use Rattle.deck_lines.proofs.Wholes.{IsClean, name_word, all_digits, bytes_clean}
+use Rattle.expr_script.proofs.TokenBack.{digits_words}
+use Rattle.deck_lines.proofs.Wholes.{IsClean, name_word, bytes_clean}
 use Rattle.deck_lines.proofs.Wording.{no_yes, both}
 
 -- a word is clean, or stands in no script
@@ -59,7 +60,7 @@ other_clean (Body k) w =
 token_clean : (atoms : Atoms) (known : List (List ℕ)) (w : List ℕ) → CleanToken w (token atoms known w)
 token_clean atoms known w =
     either w (list_all is_ascii_digit w) (number w) (if is_name w then name_token atoms known w else other_token atoms w)
-    (λ d. record { clean = λ s. bytes_clean w (all_digits w d) })
+    (λ d. record { clean = λ s. bytes_clean w (digits_words w d) })
     (either w (is_name w) (name_token atoms known w) (other_token atoms w) (λ n. record { clean = λ s. bytes_clean w (name_word w n).all }) (other_clean atoms w))
 
 words_clean : (atoms : Atoms) (known : List (List ℕ)) (ws : Words) → has_stray (tokens_among atoms known ws) ≡ false → AllByRecursion IsClean ws

@@ -1,12 +1,16 @@
 -- Going over pieces until one is a word.
-use Rattle.std.proofs.Common.{◌≡◌, ℕ, ◌+◌, ◌<◌, ◌≤◌, true, false, List, [], ◌∷◌, ◌++◌, length, take, drop, get_or, refl, sym, ap, ◌∙◌, arith, drop-cons, add-one, append_assoc, append-nil}
+use Rattle.std.proofs.Common.{◌≡◌, ℕ, suc, ◌+◌, ◌<◌, ◌≤◌, true, false, List, [], ◌∷◌, ◌++◌, length, take, drop, get_or, refl, sym, ap, ◌∙◌, arith, drop-cons, add-one, append_assoc, append-nil}
 use Rattle.std.proofs.Math.ListN.{drop_of_length-le}
 use Rattle.std.specs.Prelude.{if◌then◌else◌, ◌||◌}
+use Rattle.std.specs.List.{onto_first}
 use Rattle.std.specs.Str.{bytes_eq}
 use Rattle.std.proofs.lemmas.Grind.{common_steps}
 use Rattle.expr_script.specs.declared.pieces.Piece.{Piece}
 use Rattle.expr_script.specs.Pieces.{words_among, bytes_of}
 use Rattle.deck_lines.specs.Cuts.{has, before, behind}
+use Rattle.deck_lines.specs.Reading.{cut}
+use Rattle.deck_lines.specs.Forms.{Words}
+use Rattle.deck_lines.proofs.Cutting.{cut_some}
 
 -- no piece before a place is the word
 pub record NotYet (word text : List ℕ) (pieces : List Piece) (at : ℕ) : Type 0 where
@@ -72,3 +76,46 @@ pub never : (word text : List ℕ) (pieces : List Piece) (at : ℕ) → length p
 never word text pieces at h n = n.has_it ∙ ap (λ ps. has word (words_among text ps)) (drop_of_length-le pieces h)
 
 pub ruleset scan_laws = (not_yet, not_here, here_before, here_behind, here_has, never)
+
+-- how many lists the pieces before a place were counted into, the one that goes on there with them
+pub record Counted (word text : List ℕ) (pieces : List Piece) (at count : ℕ) : Type 0 where
+  pub so_far : length (cut word (words_among text pieces)) + 1 ≡ count + length (cut word (words_among text (drop at pieces)))
+  pub few : count ≤ at + 1
+
+length_onto : (w : List ℕ) (lists : List Words) → 1 ≤ length lists → length (onto_first w lists) ≡ length lists
+length_onto w [] h = absurd (omega (arith, h))
+length_onto w (first ∷ lists) h = refl
+
+pub count_starts : (word text : List ℕ) (pieces : List Piece) → Counted word text pieces 0 1
+count_starts word text pieces = record { so_far = omega arith; few = omega arith }
+
+pub counts_here : (word text : List ℕ) (pieces : List Piece) (at count : ℕ) (d p : Piece) → at < length pieces → p ≡ get_or pieces at d → bytes_eq (bytes_of text p) word ≡ true → Counted word text pieces at count → Counted word text pieces (at + 1) (count + 1)
+counts_here word text pieces at count d p h e f n =
+    let rest = words_among text (drop (at + 1) pieces) in
+    let w = bytes_of text p in
+    let here : length (cut word (words_among text (drop at pieces))) ≡ suc (length (cut word rest)) =
+    ap (λ ps. length (cut word (words_among text ps))) (drop_at pieces at d p h e)
+    ∙ ap (λ t. length (if t then [] ∷ cut word rest else onto_first w (cut word rest))) f in
+    let so_far = n.so_far in
+    let few = n.few in
+    record { so_far = omega (arith, so_far, here); few = omega (arith, few) }
+
+pub counts_none : (word text : List ℕ) (pieces : List Piece) (at count : ℕ) (d p : Piece) → at < length pieces → p ≡ get_or pieces at d → bytes_eq (bytes_of text p) word ≡ false → Counted word text pieces at count → Counted word text pieces (at + 1) count
+counts_none word text pieces at count d p h e f n =
+    let rest = words_among text (drop (at + 1) pieces) in
+    let w = bytes_of text p in
+    let here : length (cut word (words_among text (drop at pieces))) ≡ length (cut word rest) =
+    ap (λ ps. length (cut word (words_among text ps))) (drop_at pieces at d p h e)
+    ∙ ap (λ t. length (if t then [] ∷ cut word rest else onto_first w (cut word rest))) f
+    ∙ length_onto w (cut word rest) (cut_some word rest) in
+    let so_far = n.so_far in
+    let few = n.few in
+    record { so_far = omega (arith, so_far, here); few = omega (arith, few) }
+
+pub count_ends : (word text : List ℕ) (pieces : List Piece) (at count : ℕ) → length pieces ≤ at → Counted word text pieces at count → count ≡ length (cut word (words_among text pieces))
+count_ends word text pieces at count h n =
+    let last : length (cut word (words_among text (drop at pieces))) ≡ 1 = ap (λ ps. length (cut word (words_among text ps))) (drop_of_length-le pieces h) in
+    let so_far = n.so_far in
+    omega (arith, so_far, last)
+
+pub ruleset count_laws = (count_starts, counts_here, counts_none, count_ends)

@@ -11,7 +11,7 @@ ghost use Rattle.deck_lines.specs.Kept.{IsKept, SetsWell};
 ghost use Rattle.deck_lines.specs.Lines.{IsRead, IsReadAs, SaysSet};
 ghost use Rattle.deck_lines.specs.Reading.{set_said, sets_said, fire_of, read_of};
 
-use crate::cut::cut;
+use crate::cut::{cut, parts};
 use crate::fault::{Limit, LineFault};
 use crate::line::Line;
 use crate::names::{head, names};
@@ -37,7 +37,7 @@ fn set(text: &[u8], pieces: &[Piece]) -> Option<(Name, Value)>
     Some((name, value))
 }
 
-// Such pairs, with commas between them.
+// Such pairs, with commas between them. Room for them is made once.
 #[tactic(auto, using(crate::proofs::Going::going_laws))]
 fn sets(alloc: Global, text: &[u8], pieces: &[Piece]) -> Result<SetList, LineFault>
     requires { Within text.now pieces.now }
@@ -45,7 +45,7 @@ fn sets(alloc: Global, text: &[u8], pieces: &[Piece]) -> Result<SetList, LineFau
     ensures some { IfOk result (λ sets. 1 ≤ length sets) }
     ensures well { IfOk result (λ sets. All SetsWell sets) }
 {
-    let mut sets = Vec::new(alloc);
+    let mut sets = Vec::with_capacity(alloc, parts(text, pieces, b","))?;
     let mut rest = pieces;
     while let Some((before, after)) = cut(text, rest, b",") {
         let Some(one) = set(text, before) else {

@@ -4,6 +4,7 @@ ghost use Rattle.std.specs.Prelude.{◌≡◌, ◌+◌, ◌≤◌, [], ◌∷◌
 ghost use Rattle.std.specs.Str.{bytes_eq};
 ghost use Rattle.expr_script.specs.Pieces.{words_among, bytes_of};
 ghost use Rattle.deck_lines.specs.Cuts.{has, before, behind, Within};
+ghost use Rattle.deck_lines.specs.Reading.{cut as split};
 
 use expr_script::pieces::Piece;
 
@@ -34,6 +35,21 @@ pub fn cut<'a>(text: &[u8], pieces: &'a [Piece], word: &[u8]) -> Option<(&'a [Pi
         }
     }
     None
+}
+
+/// How many lists of pieces the ones that are this word separate.
+#[tactic(auto, using(crate::proofs::Scanning::count_laws))]
+pub fn parts(text: &[u8], pieces: &[Piece], word: &[u8]) -> usize
+    requires { Within text.now pieces.now }
+    ensures { result ≡ length (split word.now (words_among text.now pieces.now)) }
+{
+    let mut count = 1;
+    for piece in pieces {
+        if is_word(text, *piece, word) {
+            count += 1;
+        }
+    }
+    count
 }
 
 /// The first piece and those behind it.

@@ -35,8 +35,8 @@ pub fn one_line()
 }
 
 /// The canonical text of a line that some words say: its words stand apart, so it is cut into the line's canonical words,
-/// which say the same line.
-/// So it is read as the same line again. It is one line, and no longer than a line that it was read from.
+/// which say the same line. So it is read as the same line again. It is one line, and no longer than a line that it was
+/// read from.
 pub fn canonical_line()
     ensures says { (words : Words) (line : Line) → IsLine words line → IsLine (canonical_words line) line }
     ensures apart { (words : Words) (line : Line) → IsLine words line → StandApart [] (canonical_words line) }

@@ -6,7 +6,7 @@ ghost use Rattle.deck_lines.specs.Cuts.{Within};
 ghost use Rattle.deck_lines.specs.Answers.{Reads};
 ghost use Rattle.deck_lines.specs.Reading.{name_of, names_of, head_of};
 
-use crate::cut::{cut, first, is_word};
+use crate::cut::{cut, first, is_word, parts};
 use crate::fault::LineFault;
 use expr_script::pieces::Piece;
 use script_tree::items::Items;
@@ -27,14 +27,14 @@ pub fn name(text: &[u8], pieces: &[Piece]) -> Option<Name>
     Name::of_bytes(word.bytes_of(text))
 }
 
-/// The names that pieces are, with commas between them.
+/// The names that pieces are, with commas between them. Room for them is made once.
 #[tactic(auto, using(crate::proofs::Going::going_laws))]
 pub fn names(alloc: Global, text: &[u8], pieces: &[Piece]) -> Result<NameList, LineFault>
     requires { Within text.now pieces.now }
     ensures read { Reads (names_of (words_among text.now pieces.now)) result }
     ensures some { IfOk result (λ names. 1 ≤ length names) }
 {
-    let mut names = Vec::new(alloc);
+    let mut names = Vec::with_capacity(alloc, parts(text, pieces, b","))?;
     let mut rest = pieces;
     while let Some((before, after)) = cut(text, rest, b",") {
         let Some(one) = name(text, before) else {

@@ -4,15 +4,14 @@ use Rattle.std.specs.Prelude.{if◌then◌else◌, Result, Ok, Err}
 use Rattle.std.specs.List.{All, AllByRecursion, flat_map, list_any, onto_first}
 use Rattle.std.proofs.lemmas.List.{map_push}
 use Rattle.std.proofs.lemmas.List.Concat.{flat_map-append}
-use Rattle.std.proofs.lemmas.List.Elements.{All-nil, All-from_recursion, recursion_from_All}
+use Rattle.std.proofs.lemmas.List.Elements.{All-nil, All-from_recursion}
 use Rattle.script_tree.specs.declared.limits.TheConstants.{DECK_BYTES}
 use Rattle.signal_graph.specs.declared.call.Call.{Call}
 use Rattle.deck_lines.specs.declared.line.Line as said_lines
 use Rattle.deck_lines.specs.declared.line.Line.TheVariants as said
 use Rattle.deck_lines.specs.Canonical.{canonical_words, line_text}
-use Rattle.deck_lines.specs.Forms as form
-use Rattle.deck_lines.specs.Forms.{Words, Form, IsName, IsProper}
-use Rattle.deck_lines.specs.Lines.{IsLine, Says}
+use Rattle.deck_lines.specs.Forms.{Words}
+use Rattle.deck_lines.specs.Lines.{IsLine}
 use Rattle.deck_lines.specs.Texts.{is_end, line_words}
 use Rattle.deck_text.specs.declared.fault.DeckFault.{DeckFault}
 use Rattle.deck_text.specs.declared.fault.DeckFault.TheVariants as fault
@@ -37,37 +36,22 @@ pub record OneAnswer : Type 0 where
   pub deck : (bytes : List ℕ) (a b : Decked) → SpellsDeck bytes a → SpellsDeck bytes b → a ≡ b
   pub apart : (bytes : List ℕ) (deck : Decked) (f : DeckFault) → SpellsDeck bytes deck → IsDeckFault bytes f → f ≡ fault.Memory
 
--- what a line declares, if it declares anything, has a name
-abbrev IsNamed : said_lines.Line → Type 0
-IsNamed (said.Declares name kind) = IsName name
-IsNamed line = Unit {0}
-
-says_named : (f : Form) (line : said_lines.Line) → IsProper f → Says f line → IsNamed line
-says_named form.Nothing line p s = subst IsNamed (sym s) tt
-says_named (form.Source name start) line p s = subst IsNamed (sym s.2) p.0
-says_named (form.Signal name words) line p s = subst IsNamed (sym s.2) p
-says_named (form.Fold name start words) line p s = subst IsNamed (sym s.4) p.0
-says_named (form.Choose name words over) line p s = subst IsNamed (sym s.4) p.0
-says_named form.Thread line p s = subst IsNamed (sym s) tt
-says_named (form.Fire words looks) line p s = subst IsNamed (sym s.2) tt
-says_named (form.Read looks) line p s = subst IsNamed (sym s) tt
-
 -- a line leaves a graph in order
-order_added : (line : said_lines.Line) (old new : Decked) → IsNamed line → Adds line old new → IsInOrder old.graph → IsInOrder new.graph
-order_added said.Nothing old new named x h = subst (λ (d : Decked). IsInOrder d.graph) (sym x) h
-order_added (said.Declares name kind) old new named x h = subst IsInOrder (sym x.2) (order_declared old.graph name kind named h)
-order_added said.Thread old new named x h = subst IsInOrder (sym x.1) h
-order_added (said.Calls call) old new named x h = subst IsInOrder (sym x.1) h
+order_added : (line : said_lines.Line) (old new : Decked) → Adds line old new → IsInOrder old.graph → IsInOrder new.graph
+order_added said.Nothing old new x h = subst (λ (d : Decked). IsInOrder d.graph) (sym x) h
+order_added (said.Declares name kind) old new x h = subst IsInOrder (sym x.2) (order_declared old.graph name kind h)
+order_added said.Thread old new x h = subst IsInOrder (sym x.1) h
+order_added (said.Calls call) old new x h = subst IsInOrder (sym x.1) h
 
 order_extended : (line : List ℕ) (old new : Decked) → Extends line old new → IsInOrder old.graph → IsInOrder new.graph
-order_extended line old new x h = order_added x.said old new (says_named x.says.f x.said x.says.fits.proper x.says.says) x.adds h
+order_extended line old new x h = order_added x.said old new x.adds h
 
 order_led : (text : List (List ℕ)) (old new : Decked) → Lead text old new → IsInOrder old.graph → IsInOrder new.graph
 order_led [] old new l h = subst (λ (d : Decked). IsInOrder d.graph) (sym l) h
 order_led (line ∷ rest) old new l h = order_led rest l.0 new l.2 (order_extended line old l.0 l.1 h)
 
 nothing_in_order : IsInOrder nothing_yet.graph
-nothing_in_order = record { even = refl; named = All-nil IsName; candidates = All-nil (CandidatesBelow 0) }
+nothing_in_order = record { even = refl; candidates = All-nil (CandidatesBelow 0) }
 
 in_order : (text : List (List ℕ)) (deck : Decked) → Spell text deck → IsInOrder deck.graph
 in_order text deck s = order_led text nothing_yet deck s.lead nothing_in_order
@@ -75,9 +59,6 @@ in_order text deck s = order_led text nothing_yet deck s.lead nothing_in_order
 -- a graph has as many names as nodes
 pub canonical_even : (text : List (List ℕ)) (deck : Decked) → Spell text deck → length deck.graph.names ≡ length deck.graph.nodes
 canonical_even text deck s = (in_order text deck s).even
-
-pub names_are_names : (text : List (List ℕ)) (deck : Decked) → Spell text deck → AllByRecursion IsName deck.graph.names
-names_are_names text deck s = recursion_from_All IsName deck.graph.names (in_order text deck s).named
 
 no_threads : (deck : Decked) → deck.scripts ≡ [] → lines_of deck ≡ declarations deck.graph
 no_threads deck e = ap (λ scripts. declarations deck.graph ++ flat_map thread_lines scripts) e ∙ append-nil (declarations deck.graph)

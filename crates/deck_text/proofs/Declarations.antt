@@ -1,9 +1,7 @@
 -- The declarations of a graph, and of a graph with one more node.
-use Rattle.std.proofs.Common.{◌≡◌, ℕ, ◌+◌, ◌<◌, ◌≤◌, Bool, true, false, List, [], ◌∷◌, ◌++◌, length, get_or, map, refl, ap, ◌∙◌, arith, add-one, length-append}
+use Rattle.std.proofs.Common.{◌≡◌, ℕ, ◌+◌, ◌<◌, ◌≤◌, Bool, true, List, [], ◌∷◌, ◌++◌, length, get_or, map, refl, ap, ◌∙◌, arith, length-append}
 use Rattle.std.specs.Prelude.{nat_lt, if◌then◌else◌, find, Option, Some, None}
 use Rattle.std.specs.List.{All, zip}
-use Rattle.std.specs.Str.{bytes_eq}
-use Rattle.std.specs.Cmp.Lexicographic.{bytes_decides}
 use Rattle.std.proofs.lemmas.Bool.Decides.{nat_tests}
 use Rattle.std.proofs.lemmas.List.{get_or_append_left, map_push}
 use Rattle.std.proofs.lemmas.List.Elements.{All-head, All-tail, All-push, All-weaker, All-map}
@@ -17,26 +15,17 @@ use Rattle.signal_graph.specs.declared.node.Selector.{Selector}
 use Rattle.signal_graph.specs.Declarations.{Part, is_undeclared, names_of, names_of_part, names_of_parts, node_of, refusal, selector_of, unknown_input, with_declaration}
 use Rattle.signal_graph.specs.Graph.{Graph, name_at, place_in}
 use Rattle.signal_graph.specs.Tables.{is_declared}
+use Rattle.signal_graph.proofs.GraphNames.{name_at_place, place_within}
 use Rattle.deck_lines.specs.declared.line.Line.{Line}
 use Rattle.deck_lines.specs.declared.line.Line.TheVariants.{Declares}
-use Rattle.deck_lines.specs.Forms.{IsName}
 use Rattle.deck_text.specs.Appended.{CandidatesBelow}
 use Rattle.deck_text.specs.Printed.{part_of, declared_as, declaration}
 
 -- a declared name stands at its place, whatever names come behind
 named_again : (names more : List (List ℕ)) (name : List ℕ) → is_declared names name ≡ true → get_or (names ++ more) (place_in names name) [] ≡ name
-named_again [] more name h = absurd (grind (arith, nat_tests))
-named_again (other ∷ names) more name h =
-    let rest = named_again names more name in
-    let same = (bytes_decides other name).0 in
-    elim (bytes_eq other name) as (λ b. bytes_eq other name ≡ b → get_or ((other ∷ names) ++ more) (if b then 0 else place_in names name + 1) [] ≡ name) [
-      | true ↦ λ e. same e
-      | false ↦ λ e. rw add-one (rest (grind (arith, nat_tests)))
-    ] refl
-
-place_within : (names : List (List ℕ)) (name : List ℕ) → place_in names name ≤ length names
-place_within [] name = omega arith
-place_within (other ∷ names) name = let rest = place_within names name in grind (arith, rest)
+named_again names more name h =
+    let within : place_in names name < length names = grind (arith, nat_tests, h) in
+    get_or_append_left names more [] (place_in names name) within ∙ name_at_place names name h
 
 -- what isn't found in two lists is in neither
 none_apart : (test : List ℕ → Bool) (xs ys : List (List ℕ)) → find test (xs ++ ys) ≡ None → (find test xs ≡ None) × (find test ys ≡ None)
@@ -96,10 +85,9 @@ module _ (old new : Graph) (more : List (List ℕ)) (grown : new.names ≡ old.n
   declared_again (kind.Choose parts body) h = ap (λ ps. kind.Choose ps body) (parts_again parts h)
   declared_again k h = refl
 
--- each node has a name, and its candidates are numbers of nodes
+-- there are as many names as nodes, and candidates are numbers of nodes
 pub record IsInOrder (graph : Graph) : Type 0 where
   pub even : length graph.names ≡ length graph.nodes
-  pub named : All IsName graph.names
   pub candidates : All (CandidatesBelow (length graph.names)) graph.nodes
 
 -- candidates stay below a number that grows
@@ -117,8 +105,8 @@ new_below names n h (kind.Choose parts body) =
     (λ j e under. omega (arith, h, place_within names (get_or (get_or parts i d).1 j e))))
 new_below names n h k = tt
 
-pub order_declared : (graph : Graph) (name : List ℕ) (k : DeclKind) → IsName name → IsInOrder graph → IsInOrder (with_declaration graph name k)
-order_declared graph name k named h =
+pub order_declared : (graph : Graph) (name : List ℕ) (k : DeclKind) → IsInOrder graph → IsInOrder (with_declaration graph name k)
+order_declared graph name k h =
     let n = length (graph.names ++ name ∷ []) in
     let more_names = length-append graph.names (name ∷ []) in
     let more_nodes = length-append graph.nodes (node_of graph.names k ∷ []) in
@@ -126,7 +114,6 @@ order_declared graph name k named h =
     let kept = All-weaker (CandidatesBelow (length graph.names)) (CandidatesBelow n) (still_below (length graph.names) n (omega (arith, more_names))) graph.nodes h.candidates in
     record {
       even = omega (arith, more_names, more_nodes, even);
-      named = All-push IsName graph.names name h.named named;
       candidates = All-push (CandidatesBelow n) graph.nodes (node_of graph.names k) kept (new_below graph.names n (omega (arith, more_names)) k);
     }
 

@@ -1,8 +1,7 @@
 //! Laws of decks as text.
 
-ghost use Rattle.std.specs.Prelude.{◌≡◌, ◌≢◌, ◌≤◌, ◌+◌, ℕ, List, length, map, All, IsTrue, Result, Ok, Err};
+ghost use Rattle.std.specs.Prelude.{◌≡◌, ◌≢◌, ◌≤◌, ◌+◌, ℕ, List, length, map, All, Result, Ok, Err};
 ghost use Rattle.script_tree.specs.declared.limits.TheConstants.{DECK_BYTES};
-ghost use Rattle.script_tree.specs.Names.{is_name};
 ghost use Rattle.deck_lines.specs.Canonical.{line_text};
 ghost use Rattle.deck_text.specs.declared.fault.DeckFault.{DeckFault};
 ghost use Rattle.deck_text.specs.declared.fault.DeckFault.TheVariants.{Memory};
@@ -39,8 +38,3 @@ pub fn canonical_deck()
     deck_lines::laws::canonical_line();
     one_answer();
 }
-
-/// The names of a deck that some lines spell are names, as the names of every `Deck` are.
-pub fn declared_names()
-    ensures { (text : List (List ℕ)) (deck : Decked) → Spell text deck → All (λ name. IsTrue (is_name name)) deck.graph.names }
-{}

@@ -40,6 +40,15 @@ pub struct Reader {
     calls: Vec<Call>,
 }
 
+// The calls of a thread that has all of them. The room for more is given back.
+fn whole_thread(calls: Vec<Call>) -> CallList
+    ensures { result ≡ calls.items }
+{
+    let mut calls = calls;
+    calls.shrink_to_fit();
+    Items::from_vec(calls)
+}
+
 impl Reader {
     fn new(alloc: Global) -> Reader
         ensures reads { Reads result }
@@ -124,7 +133,7 @@ impl Reader {
             return Err(Reason::TooMany(What::Threads));
         }
         let calls = mem::replace(&mut self.calls, Vec::new(self.alloc));
-        self.threads.push(Items::from_vec(calls))?;
+        self.threads.push(whole_thread(calls))?;
         Ok(())
     }
 
@@ -214,7 +223,7 @@ impl Reader {
             calls,
         } = self;
         let mut threads = threads;
-        threads.push(Items::from_vec(calls))?;
+        threads.push(whole_thread(calls))?;
         let graph = builder.build()?;
         Ok(Deck::new(graph, Items::from_vec(threads)))
     }
@@ -246,7 +255,6 @@ impl Reader {
 /// looked up. Takes memory; `Memory` comes only for want of it, at whichever line there is none.
 #[tactic(auto, using(crate::proofs::Spelling::led_laws))]
 pub fn read_deck(alloc: Global, bytes: &[u8]) -> Result<Deck, DeckFault>
-    requires { length bytes.now < 2 ^ 32 }
     ensures ok { IfOk result (SpellsDeck bytes.now) }
     ensures err { IfErr result (IsDeckFault bytes.now) }
     ensures names { IfErr result (NamesLine (length (lines bytes.now))) }
@@ -257,7 +265,8 @@ pub fn read_deck(alloc: Global, bytes: &[u8]) -> Result<Deck, DeckFault>
     while !rest.is_empty() {
         let (line, after) = first_line(rest);
         number += 1;
-        if (bytes.len() - after.len()) as u64 > DECK_BYTES {
+        let end = (bytes.len() - after.len()) as u64;
+        if end > DECK_BYTES {
             return Err(DeckFault::TooMany(number, What::Bytes));
         }
         if let Err(reason) = reader.read(line) {

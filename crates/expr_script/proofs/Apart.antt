@@ -52,7 +52,7 @@ not_both {b} t f = let e : true ≡ false = sym t ∙ f in cc
 pub record Closed (w : List ℕ) : Type 0 where
   pub closed : (v : List ℕ) → merges w v ≡ false
 
-word_closed : (w : List ℕ) → begins_word w ≡ true → Closed w
+pub word_closed : (w : List ℕ) → begins_word w ≡ true → Closed w
 word_closed w e = record { closed = by_form w e }
   where
     by_form : (w : List ℕ) → begins_word w ≡ true → (v : List ℕ) → merges w v ≡ false
@@ -80,7 +80,7 @@ after c cs h [] = refl
 after c cs h (b ∷ []) = h b
 after c cs h (b ∷ b' ∷ w) = refl
 
-word_after : (w last : List ℕ) → begins_word w ≡ true → merges last w ≡ false
+pub word_after : (w last : List ℕ) → begins_word w ≡ true → merges last w ≡ false
 word_after [] [] e = refl
 word_after [] (b ∷ []) e = refl
 word_after [] (b ∷ b' ∷ last) e = refl

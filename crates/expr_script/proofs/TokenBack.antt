@@ -151,13 +151,13 @@ all_run (b ∷ bs) h =
     ∙ ap (λ t. length (if t then b ∷ take_while is_word bs else [])) (and_left (is_word b) (list_all is_word bs) h)
     ∙ ap suc (all_run bs (and_right (is_word b) (list_all is_word bs) h))
 
-word_whole : (w : List ℕ) → 0 < length w → list_all is_word w ≡ true → IsWhole w × (begins_word w ≡ true)
+pub word_whole : (w : List ℕ) → 0 < length w → list_all is_word w ≡ true → IsWhole w × (begins_word w ≡ true)
 word_whole [] s h = absurd (omega (arith, s))
 word_whole (b ∷ bs) s h =
     let w = and_left (is_word b) (list_all is_word bs) h in
     (whole (b ∷ bs) s (word_no_blank (b ∷ bs) w) (ap (λ t. if t then length (take_while is_word (b ∷ bs)) else sign_len b bs) w ∙ all_run (b ∷ bs) h), w)
 
-digits_words : (ds : List ℕ) → list_all is_ascii_digit ds ≡ true → list_all is_word ds ≡ true
+pub digits_words : (ds : List ℕ) → list_all is_ascii_digit ds ≡ true → list_all is_word ds ≡ true
 digits_words [] h = refl
 digits_words (c ∷ cs) h = and_both (digit_word c (and_left (is_ascii_digit c) (list_all is_ascii_digit cs) h)) (digits_words cs (and_right (is_ascii_digit c) (list_all is_ascii_digit cs) h))
 

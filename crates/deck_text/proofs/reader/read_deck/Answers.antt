@@ -11,21 +11,22 @@ loop-rest-preserved c =
     let l = c.loop-rest in
     let r = c.first_line.result in
     let led = led_on c.args.bytes.now l.rest.now r.0.now r.1.now l.number (deck_of l.reader) (deck_of c.read.new.self) l.invariant.1
-    (has_bytes l.rest.now (sym c.is_empty.ensures ∙ c.loop-rest-test.true)) c.first_line.ensures.cut c.first_line.ensures.ends c.if-bytes-after-gt-DECK_BYTES.false c.in_default.ensures.extends in
+    (has_bytes l.rest.now (sym c.is_empty.ensures ∙ c.loop-rest-test.true)) c.first_line.ensures.cut c.first_line.ensures.ends c.if-end-gt-DECK_BYTES.false c.in_default.ensures.extends in
     let calls = c.in_default.ensures.calls in
     let were = l.invariant.2 in
     let shorter = c.first_line.ensures.shorter in
     let left = l.invariant.3 in
     let lines_left = l.invariant.4 in
     let cut = ap length c.first_line.ensures.cut in
-    (c.in_default.ensures.reads, led, omega (arith, calls, were), omega (arith, shorter, left), omega (arith, lines_left, cut))
+    let within = c.if-end-gt-DECK_BYTES.false in
+    (c.in_default.ensures.reads, led, omega (arith, calls, were), omega (arith, shorter, left), omega (arith, lines_left, cut), omega (arith, within))
 
-pub returns-then-bytes-after-gt-DECK_BYTES-clause-err : goal.returns-then-bytes-after-gt-DECK_BYTES-clause-err
-returns-then-bytes-after-gt-DECK_BYTES-clause-err c =
+pub returns-then-end-gt-DECK_BYTES-clause-err : goal.returns-then-end-gt-DECK_BYTES-clause-err
+returns-then-end-gt-DECK_BYTES-clause-err c =
     let l = c.loop-rest in
     let r = c.first_line.result in
     bytes_fault c.args.bytes.now l.rest.now r.0.now r.1.now l.number (deck_of l.reader) l.invariant.1
-    (has_bytes l.rest.now (sym c.is_empty.ensures ∙ c.loop-rest-test.true)) c.first_line.ensures.cut c.first_line.ensures.ends c.if-bytes-after-gt-DECK_BYTES.true
+    (has_bytes l.rest.now (sym c.is_empty.ensures ∙ c.loop-rest-test.true)) c.first_line.ensures.cut c.first_line.ensures.ends c.if-end-gt-DECK_BYTES.true
 
 pub returns-in-Err-clause-err : goal.returns-in-Err-clause-err
 returns-in-Err-clause-err c =
@@ -33,7 +34,7 @@ returns-in-Err-clause-err c =
     let r = c.first_line.result in
     subst (IsDeckFault c.args.bytes.now) (sym c.at.ensures)
     (read_fault c.args.bytes.now l.rest.now r.0.now r.1.now l.number (deck_of l.reader) c.in-Err.reason l.invariant.1
-    (has_bytes l.rest.now (sym c.is_empty.ensures ∙ c.loop-rest-test.true)) c.first_line.ensures.cut c.first_line.ensures.ends c.if-bytes-after-gt-DECK_BYTES.false c.in-Err.ensures.refuses)
+    (has_bytes l.rest.now (sym c.is_empty.ensures ∙ c.loop-rest-test.true)) c.first_line.ensures.cut c.first_line.ensures.ends c.if-end-gt-DECK_BYTES.false c.in-Err.ensures.refuses)
 
 pub returns-clause-ok : goal.returns-clause-ok
 returns-clause-ok c =

@@ -1,4 +1,5 @@
 use Rattle.std.proofs.Common.{◌≡◌, ◌+◌, ◌≤◌, length}
+use Rattle.script_tree.specs.declared.limits.TheConstants.{DECK_BYTES}
 use Rattle.deck_text.specs.Lines.{lines}
 use Rattle.deck_text.specs.Readers.{Reads, deck_of}
 use Rattle.deck_text.proofs.Spelling.{Led}
@@ -11,6 +12,7 @@ invariant-loop-rest l =
     × (length l.reader.calls.items ≤ l.number)
     × (l.number + length l.rest ≤ length l.bytes)
     × (l.number + length (lines l.rest) ≡ length (lines l.bytes))
+    × (length l.bytes ≤ DECK_BYTES + length l.rest)
 
 abbrev pub decreases-loop-rest : goal.decreases-loop-rest
 decreases-loop-rest l = length l.rest
