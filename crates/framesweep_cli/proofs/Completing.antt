@@ -127,4 +127,3 @@ is_not_one words command before after status o asks one = from o.read_as o.read 
     from (Ok c) read f = not_one f.ending (sym f.is ∙ one)
     from (Err reading.Refused) read f = read command asks
     from (Err reading.Memory) read f = absurd (omega (arith, f.is, one))
-
