@@ -105,10 +105,10 @@ abbrev rest_of_words : List Text → List Text
 rest_of_words [] = []
 rest_of_words (word ∷ words) = words
 
-first_same : (a b : Text) (xs ys : List Text) → a ∷ xs ≡ b ∷ ys → a ≡ b
+pub first_same : (a b : Text) (xs ys : List Text) → a ∷ xs ≡ b ∷ ys → a ≡ b
 first_same a b xs ys e = ap first_of_words e
 
-rest_same : (a b : Text) (xs ys : List Text) → a ∷ xs ≡ b ∷ ys → xs ≡ ys
+pub rest_same : (a b : Text) (xs ys : List Text) → a ∷ xs ≡ b ∷ ys → xs ≡ ys
 rest_same a b xs ys e = ap rest_of_words e
 
 -- a run

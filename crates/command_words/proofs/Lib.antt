@@ -4,3 +4,4 @@ pub mod Shapes
 pub mod Tested
 pub mod Found
 pub mod Asked
+pub mod OneCommand

@@ -1,5 +1,5 @@
 -- Which status comes, from what the top call left on its devices.
-use Rattle.std.proofs.Common.{◌≡◌, ℕ, ◌+◌, List, Option, Some, None, Result, Ok, Err, refl, sym, subst, ◌∙◌, inl, inr, arith}
+use Rattle.std.proofs.Common.{◌≡◌, ℕ, ◌+◌, List, Option, Some, None, Result, Ok, Err, refl, sym, subst, ◌∙◌, inl, inr, arith, ⊎_elim}
 use Rattle.std.specs.Prelude.{◌⊎◌, take}
 use Rattle.std.proofs.lemmas.List.{take_all}
 use Rattle.fs_io.specs.Count.{Rose}
@@ -16,7 +16,22 @@ use Rattle.deck_text.specs.Reasons.{IsDeckFault}
 use Rattle.framesweep_cli.specs.declared.ending.Ending.{Ending}
 use Rattle.framesweep_cli.specs.declared.ending.Ending.TheVariants.{Done, Refused, ReadFailed, WriteFailed, OutOfMemory}
 use Rattle.framesweep_cli.specs.Endings.{IsValid, IsInvalid, Refuses, Makes}
-use Rattle.framesweep_cli.specs.Statuses.{Devices, status_of, Happened, Follows, Obeys}
+use Rattle.framesweep_cli.specs.Devices.{Devices}
+use Rattle.framesweep_cli.specs.Lines.{memory_line}
+use Rattle.framesweep_cli.specs.Statuses.{status_of, Happened, Ends, Declines, Follows, Obeys}
+
+-- words ask for one command
+abbrev pub OneCommand : Type 0
+OneCommand = (words : List (List ℕ)) (a b : Command) → AsksFor words a → AsksFor words b → a ≡ b
+
+-- what words ask for is done, where there is memory to read them
+pub is_done : OneCommand → (words : List (List ℕ)) (command : Command) (before after : Devices) (status : ℕ) → Obeys words before after status → AsksFor words command → Ends command before after status ⊎ Declines before after memory_line 5 status
+is_done only words command before after status o asks = from o.read_as o.read o.followed
+  where
+    from : (r : Result Command WordsFault) → ReadsWords words r → Follows r before after status → Ends command before after status ⊎ Declines before after memory_line 5 status
+    from (Ok c) read f = inl (subst (λ (d : Command). Ends d before after status) (only words c command read asks) f)
+    from (Err reading.Refused) read f = absurd (read command asks)
+    from (Err reading.Memory) read f = inr f
 
 -- a text that spells a deck has no fault but want of memory
 abbrev pub OneAnswer : Type 0
@@ -31,57 +46,60 @@ not_refused one None fault valid refuses = absurd valid
 not_refused one (Some left) fault valid refuses =
     refuses.known (one left valid.0 fault valid.1 (subst (λ bytes. IsDeckFault bytes fault) (whole left refuses.bytes valid.0 valid.1 refuses.input) refuses.read))
 
-served : OneAnswer → (command : Command) (before after : Devices) (ending : Ending) → Happened command before after ending → IsValid before.left → (Rose before.source_faults after.source_faults → ⊥) → (Rose before.out_faults after.out_faults → ⊥) → (status_of ending ≡ 0) ⊎ (status_of ending ≡ 5)
+served : OneAnswer → (command : Command) (before after : Devices) (ending : Ending) → Happened command before after ending → IsValid before.source.left → (Rose before.source.faults after.source.faults → ⊥) → (Rose before.out.faults after.out.faults → ⊥) → (status_of ending ≡ 0) ⊎ (status_of ending ≡ 5)
 served one command before after Done h valid reads writes = inl refl
-served one command before after (Refused fault) h valid reads writes = absurd (not_refused one before.left fault valid h.0)
+served one command before after (Refused fault) h valid reads writes = absurd (not_refused one before.source.left fault valid h.0)
 served one command before after ReadFailed h valid reads writes = absurd (reads h.0)
 served one command before after WriteFailed h valid reads writes = absurd (writes h.0)
 served one command before after OutOfMemory h valid reads writes = inr refl
 
-pub is_served : OneAnswer → (words : List (List ℕ)) (command : Command) (before after : Devices) (status : ℕ) → Obeys words before after status → AsksFor words command → IsValid before.left → (Rose before.source_faults after.source_faults → ⊥) → (Rose before.out_faults after.out_faults → ⊥) → (status ≡ 0) ⊎ (status ≡ 5)
-is_served one words command before after status o asks valid reads writes = from o.read_as o.read o.followed
-  where
-    from : (r : Result Command WordsFault) → ReadsWords words r → Follows r before after status → (status ≡ 0) ⊎ (status ≡ 5)
-    from (Ok c) read f = subst (λ n. (n ≡ 0) ⊎ (n ≡ 5)) (sym f.is) (served one c before after f.ending f.happened valid reads writes)
-    from (Err reading.Refused) read f = absurd (read command asks)
-    from (Err reading.Memory) read f = inr f.is
+pub ends_served : OneAnswer → (command : Command) (before after : Devices) (status : ℕ) → Ends command before after status → IsValid before.source.left → (Rose before.source.faults after.source.faults → ⊥) → (Rose before.out.faults after.out.faults → ⊥) → (status ≡ 0) ⊎ (status ≡ 5)
+ends_served one command before after status ends valid reads writes =
+    subst (λ n. (n ≡ 0) ⊎ (n ≡ 5)) (sym ends.is) (served one command before after ends.ending ends.happened valid reads writes)
+
+pub is_served : OneAnswer → OneCommand → (words : List (List ℕ)) (command : Command) (before after : Devices) (status : ℕ) → Obeys words before after status → AsksFor words command → IsValid before.source.left → (Rose before.source.faults after.source.faults → ⊥) → (Rose before.out.faults after.out.faults → ⊥) → (status ≡ 0) ⊎ (status ≡ 5)
+is_served one only words command before after status o asks valid reads writes =
+    ⊎_elim (λ ends. ends_served one command before after status ends valid reads writes) (λ declines. inr declines.is) (is_done only words command before after status o asks)
 
 -- what was refused was not made
 
 not_made : OneAnswer → (command : Command) (left : Option (List ℕ)) (fault : DeckFault) (text : List ℕ) → IsInvalid left fault → Makes command left text → ⊥
 not_made one command None fault text invalid made = absurd invalid
 not_made one command (Some left) fault text invalid made =
-    invalid.1 (one made.bytes made.deck fault made.read (subst (λ bytes. IsDeckFault bytes fault) (sym made.input) invalid.0))
+    invalid.1 (one made.given.bytes made.deck fault made.given.read (subst (λ bytes. IsDeckFault bytes fault) (sym made.given.input) invalid.0))
 
-denied : OneAnswer → (command : Command) (fault : DeckFault) (before after : Devices) (ending : Ending) → Happened command before after ending → IsInvalid before.left fault → (Rose before.source_faults after.source_faults → ⊥) → (status_of ending ≡ 2) ⊎ (status_of ending ≡ 5)
-denied one command fault before after Done h invalid reads = absurd (not_made one command before.left fault h.0.text invalid h.0.made)
+denied : OneAnswer → (command : Command) (fault : DeckFault) (before after : Devices) (ending : Ending) → Happened command before after ending → IsInvalid before.source.left fault → (Rose before.source.faults after.source.faults → ⊥) → (status_of ending ≡ 2) ⊎ (status_of ending ≡ 5)
+denied one command fault before after Done h invalid reads = absurd (not_made one command before.source.left fault h.text invalid h.made)
 denied one command fault before after (Refused f) h invalid reads = inl refl
 denied one command fault before after ReadFailed h invalid reads = absurd (reads h.0)
-denied one command fault before after WriteFailed h invalid reads = absurd (not_made one command before.left fault h.1.text invalid h.1.made)
+denied one command fault before after WriteFailed h invalid reads = absurd (not_made one command before.source.left fault h.1.text invalid h.1.made)
 denied one command fault before after OutOfMemory h invalid reads = inr refl
 
-pub is_denied : OneAnswer → (words : List (List ℕ)) (command : Command) (fault : DeckFault) (before after : Devices) (status : ℕ) → Obeys words before after status → AsksFor words command → IsInvalid before.left fault → (Rose before.source_faults after.source_faults → ⊥) → (status ≡ 2) ⊎ (status ≡ 5)
-is_denied one words command fault before after status o asks invalid reads = from o.read_as o.read o.followed
-  where
-    from : (r : Result Command WordsFault) → ReadsWords words r → Follows r before after status → (status ≡ 2) ⊎ (status ≡ 5)
-    from (Ok c) read f = subst (λ n. (n ≡ 2) ⊎ (n ≡ 5)) (sym f.is) (denied one c fault before after f.ending f.happened invalid reads)
-    from (Err reading.Refused) read f = absurd (read command asks)
-    from (Err reading.Memory) read f = inr f.is
+pub ends_denied : OneAnswer → (command : Command) (fault : DeckFault) (before after : Devices) (status : ℕ) → Ends command before after status → IsInvalid before.source.left fault → (Rose before.source.faults after.source.faults → ⊥) → (status ≡ 2) ⊎ (status ≡ 5)
+ends_denied one command fault before after status ends invalid reads =
+    subst (λ n. (n ≡ 2) ⊎ (n ≡ 5)) (sym ends.is) (denied one command fault before after ends.ending ends.happened invalid reads)
+
+pub is_denied : OneAnswer → OneCommand → (words : List (List ℕ)) (command : Command) (fault : DeckFault) (before after : Devices) (status : ℕ) → Obeys words before after status → AsksFor words command → IsInvalid before.source.left fault → (Rose before.source.faults after.source.faults → ⊥) → (status ≡ 2) ⊎ (status ≡ 5)
+is_denied one only words command fault before after status o asks invalid reads =
+    ⊎_elim (λ ends. ends_denied one command fault before after status ends invalid reads) (λ declines. inr declines.is) (is_done only words command before after status o asks)
 
 -- status 2 comes for no valid input
 
-not_two : OneAnswer → (command : Command) (before after : Devices) (ending : Ending) → Happened command before after ending → IsValid before.left → status_of ending ≡ 2 → ⊥
+not_two : OneAnswer → (command : Command) (before after : Devices) (ending : Ending) → Happened command before after ending → IsValid before.source.left → status_of ending ≡ 2 → ⊥
 not_two one command before after Done h valid e = absurd (omega (arith, e))
-not_two one command before after (Refused fault) h valid e = not_refused one before.left fault valid h.0
+not_two one command before after (Refused fault) h valid e = not_refused one before.source.left fault valid h.0
 not_two one command before after ReadFailed h valid e = absurd (omega (arith, e))
 not_two one command before after WriteFailed h valid e = absurd (omega (arith, e))
 not_two one command before after OutOfMemory h valid e = absurd (omega (arith, e))
 
-pub is_not_two : OneAnswer → (words : List (List ℕ)) (before after : Devices) (status : ℕ) → Obeys words before after status → IsValid before.left → status ≡ 2 → ⊥
+pub ends_not_two : OneAnswer → (command : Command) (before after : Devices) (status : ℕ) → Ends command before after status → IsValid before.source.left → status ≡ 2 → ⊥
+ends_not_two one command before after status ends valid two = not_two one command before after ends.ending ends.happened valid (sym ends.is ∙ two)
+
+pub is_not_two : OneAnswer → (words : List (List ℕ)) (before after : Devices) (status : ℕ) → Obeys words before after status → IsValid before.source.left → status ≡ 2 → ⊥
 is_not_two one words before after status o valid two = from o.read_as o.followed
   where
     from : (r : Result Command WordsFault) → Follows r before after status → ⊥
-    from (Ok c) f = not_two one c before after f.ending f.happened valid (sym f.is ∙ two)
+    from (Ok c) f = ends_not_two one c before after status f valid two
     from (Err reading.Refused) f = absurd (omega (arith, f.is, two))
     from (Err reading.Memory) f = absurd (omega (arith, f.is, two))
 
@@ -109,5 +127,3 @@ is_not_one words command before after status o asks one = from o.read_as o.read 
     from (Ok c) read f = not_one f.ending (sym f.is ∙ one)
     from (Err reading.Refused) read f = read command asks
     from (Err reading.Memory) read f = absurd (omega (arith, f.is, one))
-
-pub ruleset words_laws = (is_refused, is_not_one)

@@ -1,15 +1,23 @@
 -- From what was read to what is written.
-use Rattle.std.proofs.Common.{ℕ, Bool, List, Option, Ok}
+use Rattle.std.proofs.Common.{◌≡◌, ℕ, Bool, List, Option, Result, Ok, Err, IfOk, subst}
 use Rattle.deck_text.specs.Decks.{Decked}
 use Rattle.deck_text.specs.Reasons.{ReadsDeck}
 use Rattle.command_words.specs.declared.command.Command.{Command}
 use Rattle.framesweep_cli.specs.declared.stop.Stop.{Stop}
 use Rattle.framesweep_cli.specs.declared.stop.Stop.TheVariants.{Read, Deck, Memory}
-use Rattle.framesweep_cli.specs.Endings.{IsInput, IsReport, IsSerial, IsAnyOrder, IsOutput, Makes}
+use Rattle.framesweep_cli.specs.Endings.{IsInput, IsReport, IsSerial, IsAnyOrder, IsOutput, IsReadAs, Makes}
 use Rattle.framesweep_cli.specs.Stops.{IsRefused, IsUnread, IsStopped}
 
-pub makes : (command : Command) (left : Option (List ℕ)) (bytes : List ℕ) (deck : Decked) (text : List ℕ) → IsInput left bytes → ReadsDeck bytes (Ok deck) → IsOutput command deck text → Makes command left text
-makes command left bytes deck text input read output = record { bytes = bytes; deck = deck; input = input; read = read; output = output }
+pub reads_deck : (left : Option (List ℕ)) (bytes : List ℕ) (deck : Decked) → IsInput left bytes → ReadsDeck bytes (Ok deck) → IsReadAs left deck
+reads_deck left bytes deck input read = record { bytes = bytes; input = input; read = read }
+
+-- bytes that were judged, as far as they were read as a deck
+pub judged : (left : Option (List ℕ)) (bytes slice : List ℕ) (r : Result Decked Stop) → IsInput left bytes → slice ≡ bytes → IfOk r (λ deck. ReadsDeck slice (Ok deck)) → IfOk r (IsReadAs left)
+judged left bytes slice (Ok deck) input same read = reads_deck left bytes deck input (subst (λ (b : List ℕ). ReadsDeck b (Ok deck)) same read)
+judged left bytes slice (Err stop) input same read = read
+
+pub makes : (command : Command) (left : Option (List ℕ)) (deck : Decked) (text : List ℕ) → IsReadAs left deck → IsOutput command deck text → Makes command left text
+makes command left deck text given output = record { deck = deck; given = given; output = output }
 
 -- input that was refused
 pub refused_stops : (left : Option (List ℕ)) (before after : ℕ) (bytes : List ℕ) (stop : Stop) → IsInput left bytes → IsRefused bytes stop → IsStopped left before after stop

@@ -1,7 +1,5 @@
 -- What the program reads, makes and says.
-use Rattle.std.specs.Prelude.{◌≡◌, ◌≢◌, ℕ, ◌+◌, Bool, true, false, ⊤, ◌⊎◌, List, take, Option, Some, None, Ok, Err}
-use Rattle.fs_io.specs.Bytes.{Adds, AddsFirst}
-use Rattle.fs_io.specs.Count.{Rose}
+use Rattle.std.specs.Prelude.{◌≡◌, ◌≢◌, ℕ, ◌+◌, Bool, true, false, ⊤, List, take, Option, Some, None, Ok, Err}
 use Rattle.script_tree.specs.declared.limits.TheConstants.{DECK_BYTES}
 use Rattle.script_tree.specs.declared.value.Value.{Value}
 use Rattle.signal_graph.specs.declared.log.Logged.{Logged}
@@ -54,12 +52,16 @@ IsOutput (Run versions json) deck text = IsReport deck versions json IsAnyOrder 
 IsOutput (Serial versions json) deck text = IsReport deck versions json IsSerial text
 IsOutput Print deck text = text ≡ canonical deck
 
--- the input is read as a deck, and the text is what the command writes for it
-pub record Makes (command : Command) (left : Option (List ℕ)) (text : List ℕ) : Type 0 where
+-- the input is read as a deck
+pub record IsReadAs (left : Option (List ℕ)) (deck : Decked) : Type 0 where
   pub bytes : List ℕ
-  pub deck : Decked
   pub input : IsInput left bytes
   pub read : ReadsDeck bytes (Ok deck)
+
+-- the text is what the command writes for the deck that the input is read as
+pub record Makes (command : Command) (left : Option (List ℕ)) (text : List ℕ) : Type 0 where
+  pub deck : Decked
+  pub given : IsReadAs left deck
   pub output : IsOutput command deck text
 
 -- the input is refused as a deck, for this fault
@@ -68,11 +70,6 @@ pub record Refuses (left : Option (List ℕ)) (fault : DeckFault) : Type 0 where
   pub input : IsInput left bytes
   pub read : ReadsDeck bytes (Err fault)
   pub known : fault ≢ Memory
-
--- a line came on standard error: whole, or a part of it, for which a write to it must have failed
-pub record Says (before after : Option (List ℕ)) (faults_before faults_after : ℕ) (line : List ℕ) : Type 0 where
-  pub part : AddsFirst before after line
-  pub whole : Adds before after line ⊎ Rose faults_before faults_after
 
 -- a source told what it had left, and that spells a deck
 abbrev pub IsValid : Option (List ℕ) → Type 0

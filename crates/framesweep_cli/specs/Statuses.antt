@@ -1,16 +1,15 @@
 -- How a run of the program ends: its status, and what it leaves on its devices.
-use Rattle.std.specs.Prelude.{◌≡◌, ℕ, Bool, IsTrue, ◌⊎◌, List, Option, Result, Ok, Err}
+use Rattle.std.specs.Prelude.{◌≡◌, ℕ, IsTrue, ◌⊎◌, List, Option, Some, None, Result, Ok, Err}
 use Rattle.fs_io.specs.Bytes as bytes
-use Rattle.fs_io.specs.Bytes.{Adds, AddsFirst, Stays}
+use Rattle.fs_io.specs.Bytes.{Adds, AddsFirst}
 use Rattle.fs_io.specs.Count.{Rose}
 use Rattle.command_words.specs.declared.command.Command.{Command}
 use Rattle.command_words.specs.declared.command.WordsFault.{WordsFault}
 use Rattle.command_words.specs.declared.command.WordsFault.TheVariants as words
 use Rattle.framesweep_cli.specs.declared.ending.Ending.{Ending}
 use Rattle.framesweep_cli.specs.declared.ending.Ending.TheVariants.{Done, Refused, ReadFailed, WriteFailed, OutOfMemory}
-use Rattle.framesweep_cli.specs.declared.stop.Stop.{Stop}
-use Rattle.framesweep_cli.specs.declared.stop.Stop.TheVariants.{Read, Deck, Memory}
-use Rattle.framesweep_cli.specs.Endings.{Makes, Refuses, Says}
+use Rattle.framesweep_cli.specs.Devices.{SinkState, Devices}
+use Rattle.framesweep_cli.specs.Endings.{Makes, Refuses}
 use Rattle.framesweep_cli.specs.Lines.{words_line, read_line, write_line, memory_line, fault_line}
 use Rattle.command_words.specs.Words.{ReadsWords}
 
@@ -21,53 +20,60 @@ status_of ReadFailed = 3
 status_of WriteFailed = 4
 status_of OutOfMemory = 5
 
--- the source, the output and standard error at one moment: what is left, what is held and said, as far as they tell it,
--- and how many faults there were
-pub record Devices : Type 0 where
-  pub left : Option (List ℕ)
-  pub source_faults : ℕ
-  pub held : Option (List ℕ)
-  pub out_faults : ℕ
-  pub clean : Bool
-  pub said : Option (List ℕ)
-  pub err_faults : ℕ
+-- the one line that an ending gives standard error, if any
+abbrev pub line_of : Ending → Option (List ℕ)
+line_of Done = None
+line_of (Refused fault) = Some (fault_line fault)
+line_of ReadFailed = Some read_line
+line_of WriteFailed = Some write_line
+line_of OutOfMemory = Some memory_line
 
--- the output grew by what the command makes of the input, of which nothing is left
+-- a line came on standard error: whole and flushed, or a part of it, for which a write or the flush must have failed
+pub record Says (before after : SinkState) (line : List ℕ) : Type 0 where
+  pub part : AddsFirst before.held after.held line
+  pub whole : (Adds before.held after.held line × IsTrue after.clean) ⊎ Rose before.faults after.faults
+
+-- standard error was given a line, or was let alone where there is none
+abbrev pub Tells : SinkState → SinkState → Option (List ℕ) → Type 0
+Tells before after None = after ≡ before
+Tells before after (Some line) = Says before after line
+
+-- the output grew by what the command makes of the input, of which nothing is left, and was flushed
 pub record Writes (command : Command) (before after : Devices) : Type 0 where
   pub text : List ℕ
-  pub made : Makes command before.left text
-  pub emptied : bytes.Ends before.left after.left
-  pub added : Adds before.held after.held text
+  pub made : Makes command before.source.left text
+  pub emptied : bytes.Ends before.source.left after.source.left
+  pub added : Adds before.out.held after.out.held text
+  pub flushed : IsTrue after.out.clean
 
--- the output grew by the first bytes of what the command makes of the input, or by all of them
+-- the output grew by the first bytes of what the command makes of the input, of which nothing is left, or by all of them
 pub record WritesPart (command : Command) (before after : Devices) : Type 0 where
   pub text : List ℕ
-  pub made : Makes command before.left text
-  pub added : AddsFirst before.held after.held text
+  pub made : Makes command before.source.left text
+  pub emptied : bytes.Ends before.source.left after.source.left
+  pub added : AddsFirst before.out.held after.out.held text
 
--- standard error was given this line
-abbrev pub Tells : Devices → Devices → List ℕ → Type 0
-Tells before after line = Says before.said after.said before.err_faults after.err_faults line
-
--- what each ending of a command means
+-- what each ending of a command means for the source and the output; where no output was begun it was let alone
 abbrev pub Happened : Command → Devices → Devices → Ending → Type 0
-Happened command before after Done = Writes command before after × IsTrue after.clean × Stays before.said after.said
-Happened command before after (Refused fault) = Refuses before.left fault × Stays before.held after.held × Tells before after (fault_line fault)
-Happened command before after ReadFailed = Rose before.source_faults after.source_faults × Stays before.held after.held × Tells before after read_line
-Happened command before after WriteFailed = Rose before.out_faults after.out_faults × WritesPart command before after × Tells before after write_line
-Happened command before after OutOfMemory = Stays before.held after.held × Tells before after memory_line
+Happened command before after Done = Writes command before after
+Happened command before after (Refused fault) = Refuses before.source.left fault × (after.out ≡ before.out)
+Happened command before after ReadFailed = Rose before.source.faults after.source.faults × (after.out ≡ before.out)
+Happened command before after WriteFailed = Rose before.out.faults after.out.faults × WritesPart command before after
+Happened command before after OutOfMemory = after.out ≡ before.out
 
 -- a command ended with this status
 pub record Ends (command : Command) (before after : Devices) (status : ℕ) : Type 0 where
   pub ending : Ending
   pub is : status ≡ status_of ending
   pub happened : Happened command before after ending
+  pub told : Tells before.err after.err (line_of ending)
 
--- nothing was done, standard error was given a line, and the status is this one
+-- nothing was read or written but a line on standard error, and the status is this one
 pub record Declines (before after : Devices) (line : List ℕ) (expected status : ℕ) : Type 0 where
   pub is : status ≡ expected
-  pub held : Stays before.held after.held
-  pub told : Tells before after line
+  pub unread : after.source ≡ before.source
+  pub unwritten : after.out ≡ before.out
+  pub told : Says before.err after.err line
 
 -- what comes of how the words were read: refused words end with 1, and nothing else does
 abbrev pub Follows : Result Command WordsFault → Devices → Devices → ℕ → Type 0
@@ -80,10 +86,3 @@ pub record Obeys (words : List (List ℕ)) (before after : Devices) (status : �
   pub read_as : Result Command WordsFault
   pub read : ReadsWords words read_as
   pub followed : Follows read_as before after status
-
--- how a stop ends, with the line that standard error was given
-abbrev pub StopsSaying : Stop → Option (List ℕ) → Option (List ℕ) → ℕ → ℕ → Ending → Type 0
-StopsSaying Read said now_said faults more ending = (ending ≡ ReadFailed) × Says said now_said faults more read_line
-StopsSaying (Deck fault) said now_said faults more ending =
-    ((ending ≡ Refused fault) × Says said now_said faults more (fault_line fault)) ⊎ ((ending ≡ OutOfMemory) × Says said now_said faults more memory_line)
-StopsSaying Memory said now_said faults more ending = (ending ≡ OutOfMemory) × Says said now_said faults more memory_line

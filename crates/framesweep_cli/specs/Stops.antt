@@ -1,7 +1,9 @@
 -- Why there is no output.
-use Rattle.std.specs.Prelude.{◌≢◌, ℕ, ⊤, List, Option, Err}
+use Rattle.std.specs.Prelude.{◌≡◌, ◌≢◌, ℕ, ⊤, ◌⊎◌, List, Option, Err}
 use Rattle.fs_io.specs.Count.{Rose}
 use Rattle.deck_text.specs.declared.fault.DeckFault.TheVariants as fault
+use Rattle.framesweep_cli.specs.declared.ending.Ending.{Ending}
+use Rattle.framesweep_cli.specs.declared.ending.Ending.TheVariants.{Refused, ReadFailed, OutOfMemory}
 use Rattle.framesweep_cli.specs.declared.stop.Stop.{Stop}
 use Rattle.framesweep_cli.specs.declared.stop.Stop.TheVariants.{Read, Deck, Memory}
 use Rattle.deck_text.specs.Reasons.{ReadsDeck}
@@ -24,3 +26,9 @@ abbrev pub IsStopped : Option (List ℕ) → ℕ → ℕ → Stop → Type 0
 IsStopped left before after Read = Rose before after
 IsStopped left before after (Deck f) = Refuses left f
 IsStopped left before after Memory = ⊤
+
+-- how a stop ends; a fault's line takes memory
+abbrev pub EndsAs : Stop → Ending → Type 0
+EndsAs Read ending = ending ≡ ReadFailed
+EndsAs (Deck f) ending = (ending ≡ Refused f) ⊎ (ending ≡ OutOfMemory)
+EndsAs Memory ending = ending ≡ OutOfMemory

@@ -4,8 +4,8 @@ ghost use Rattle.std.specs.Prelude.{◌≡◌, ◌+◌, ◌<◌, ◌≤◌, ◌^
 ghost use Rattle.script_tree.specs.declared.limits.TheConstants.{DECK_BYTES as MOST};
 ghost use Rattle.fs_io.specs.Bytes.{Ends};
 ghost use Rattle.deck_text.specs.Reasons.{ReadsDeck};
-ghost use Rattle.framesweep_cli.specs.Endings.{IsInput};
-ghost use Rattle.framesweep_cli.specs.Stops.{IsRefused, IsUnread};
+ghost use Rattle.framesweep_cli.specs.Endings.{IsInput, IsReadAs};
+ghost use Rattle.framesweep_cli.specs.Stops.{IsRefused, IsUnread, IsStopped};
 
 use crate::stop::Stop;
 use deck_text::{Deck, DeckFault, read_deck};
@@ -16,9 +16,9 @@ use script_tree::items::Text;
 use script_tree::limits::DECK_BYTES;
 use std::alloc::Global;
 
-/// All bytes of a source to the end of input, or one more than a deck may have. Takes memory.
+// All bytes of a source to the end of input, or one more than a deck may have.
 #[tactic(auto, using(crate::proofs::Inputs::given_first))]
-pub fn read_input<S: Source>(alloc: Global, source: &mut S) -> Result<Text, Stop>
+fn read_input<S: Source>(alloc: Global, source: &mut S) -> Result<Text, Stop>
     ensures ok { IfOk result (IsInput (S.left source.old)) }
     ensures small { IfOk result (λ bytes. length bytes < 2 ^ 32) }
     ensures end { IfOk result (λ bytes. length bytes ≤ MOST → Ends (S.left source.old) (S.left source.new)) }
@@ -31,8 +31,8 @@ pub fn read_input<S: Source>(alloc: Global, source: &mut S) -> Result<Text, Stop
     }
 }
 
-/// The deck that bytes are read as. Takes memory.
-pub fn judge(alloc: Global, bytes: &[u8]) -> Result<Deck, Stop>
+// The deck that bytes are read as.
+fn judge(alloc: Global, bytes: &[u8]) -> Result<Deck, Stop>
     requires { length bytes.now < 2 ^ 32 }
     ensures ok { IfOk result (λ deck. ReadsDeck bytes.now (Ok deck)) }
     ensures err { IfErr result (IsRefused bytes.now) }
@@ -42,4 +42,19 @@ pub fn judge(alloc: Global, bytes: &[u8]) -> Result<Deck, Stop>
         Err(DeckFault::Memory) => Err(Stop::Memory),
         Err(fault) => Err(Stop::Deck(fault)),
     }
+}
+
+/// The deck that a source is read as. Takes memory. The bytes that were read are gone when this returns, so what is done
+/// with the deck doesn't hold them.
+#[tactic(auto, using(crate::proofs::Making::refused_stops, crate::proofs::Making::unread_stops))]
+pub fn deck_of<S: Source>(alloc: Global, source: &mut S) -> Result<Deck, Stop>
+    ensures ok { IfOk result (IsReadAs (S.left source.old)) }
+    ensures emptied { IfOk result (λ deck. Ends (S.left source.old) (S.left source.new)) }
+    ensures err { IfErr result (IsStopped (S.left source.old) (S.faults source.old) (S.faults source.new)) }
+{
+    let bytes = match read_input(alloc, source) {
+        Ok(bytes) => bytes,
+        Err(stop) => return Err(stop),
+    };
+    judge(alloc, bytes.as_slice())
 }

@@ -8,29 +8,40 @@ ghost use Rattle.command_words.specs.declared.command.Command.{Command};
 ghost use Rattle.command_words.specs.declared.command.Command.TheVariants.{Print};
 ghost use Rattle.command_words.specs.Words.{AsksFor};
 ghost use Rattle.framesweep_cli.specs.Endings.{Makes, IsValid, IsInvalid};
-ghost use Rattle.framesweep_cli.specs.Statuses.{Devices, Obeys};
+ghost use Rattle.framesweep_cli.specs.Devices.{Devices};
+ghost use Rattle.framesweep_cli.specs.Lines.{memory_line};
+ghost use Rattle.framesweep_cli.specs.Statuses.{Ends, Declines, Obeys};
 
-/// Status 1 comes exactly where the words are no command line, want of memory aside.
+/// Status 1 comes exactly where the words are no command line, want of memory aside; and where they are one, the one
+/// command that they ask for is done, or there was no memory to read them.
 pub fn words_decide()
     ensures refused { (words : List (List ℕ)) (before after : Devices) (status : ℕ) → Obeys words before after status → ((command : Command) → AsksFor words command → ⊥) → (status ≡ 1) ⊎ (status ≡ 5) }
     ensures asked { (words : List (List ℕ)) (command : Command) (before after : Devices) (status : ℕ) → Obeys words before after status → AsksFor words command → status ≡ 1 → ⊥ }
-{}
-
-/// With the words of a command and valid input, and where neither the source's faults nor the output's rose, the status
-/// is 0 or 5.
-pub fn valid_input_is_served()
-    ensures { (words : List (List ℕ)) (command : Command) (before after : Devices) (status : ℕ) → Obeys words before after status → AsksFor words command → IsValid before.left → (Rose before.source_faults after.source_faults → ⊥) → (Rose before.out_faults after.out_faults → ⊥) → (status ≡ 0) ⊎ (status ≡ 5) }
+    ensures done { (words : List (List ℕ)) (command : Command) (before after : Devices) (status : ℕ) → Obeys words before after status → AsksFor words command → Ends command before after status ⊎ Declines before after memory_line 5 status }
 {
-    deck_text::laws::one_answer();
+    command_words::laws::words_ask_for_one_command();
 }
 
-/// With the words of a command and input that spells no deck, and where the source's faults did not rise, the status is 2
-/// or 5; and 2 comes for no valid input.
-pub fn invalid_input_is_refused()
-    ensures refused { (words : List (List ℕ)) (command : Command) (fault : DeckFault) (before after : Devices) (status : ℕ) → Obeys words before after status → AsksFor words command → IsInvalid before.left fault → (Rose before.source_faults after.source_faults → ⊥) → (status ≡ 2) ⊎ (status ≡ 5) }
-    ensures valid { (words : List (List ℕ)) (before after : Devices) (status : ℕ) → Obeys words before after status → IsValid before.left → status ≡ 2 → ⊥ }
+/// Where a command is done, or asked for by words, on valid input, and neither the source's faults nor the output's rose,
+/// the status is 0 or 5.
+pub fn valid_input_is_served()
+    ensures alone { (command : Command) (before after : Devices) (status : ℕ) → Ends command before after status → IsValid before.source.left → (Rose before.source.faults after.source.faults → ⊥) → (Rose before.out.faults after.out.faults → ⊥) → (status ≡ 0) ⊎ (status ≡ 5) }
+    ensures asked { (words : List (List ℕ)) (command : Command) (before after : Devices) (status : ℕ) → Obeys words before after status → AsksFor words command → IsValid before.source.left → (Rose before.source.faults after.source.faults → ⊥) → (Rose before.out.faults after.out.faults → ⊥) → (status ≡ 0) ⊎ (status ≡ 5) }
 {
     deck_text::laws::one_answer();
+    command_words::laws::words_ask_for_one_command();
+}
+
+/// Where a command is done, or asked for by words, on input that spells no deck, and the source's faults did not rise, the
+/// status is 2 or 5; and 2 comes for no valid input.
+pub fn invalid_input_is_refused()
+    ensures alone { (command : Command) (fault : DeckFault) (before after : Devices) (status : ℕ) → Ends command before after status → IsInvalid before.source.left fault → (Rose before.source.faults after.source.faults → ⊥) → (status ≡ 2) ⊎ (status ≡ 5) }
+    ensures asked { (words : List (List ℕ)) (command : Command) (fault : DeckFault) (before after : Devices) (status : ℕ) → Obeys words before after status → AsksFor words command → IsInvalid before.source.left fault → (Rose before.source.faults after.source.faults → ⊥) → (status ≡ 2) ⊎ (status ≡ 5) }
+    ensures valid_alone { (command : Command) (before after : Devices) (status : ℕ) → Ends command before after status → IsValid before.source.left → status ≡ 2 → ⊥ }
+    ensures valid { (words : List (List ℕ)) (before after : Devices) (status : ℕ) → Obeys words before after status → IsValid before.source.left → status ≡ 2 → ⊥ }
+{
+    deck_text::laws::one_answer();
+    command_words::laws::words_ask_for_one_command();
 }
 
 /// What `print` makes of an input can stand in its place, where it is within the bytes of a deck: each command makes of

@@ -2,12 +2,13 @@
 
 ghost use Rattle.std.specs.Prelude.{◌≡◌, IfOk, IfErr};
 ghost use Rattle.fs_io.specs.Bytes as bytes;
-ghost use Rattle.framesweep_cli.specs.Endings.{Makes, Says};
-ghost use Rattle.framesweep_cli.specs.Statuses.{Happened, Ends, Obeys, StopsSaying};
-ghost use Rattle.framesweep_cli.specs.Stops.{IsStopped};
+ghost use Rattle.framesweep_cli.specs.Devices.{source_state, sink_state};
+ghost use Rattle.framesweep_cli.specs.Endings.{Makes};
+ghost use Rattle.framesweep_cli.specs.Statuses.{line_of, Says, Tells, Happened, Ends, Obeys};
+ghost use Rattle.framesweep_cli.specs.Stops.{IsStopped, EndsAs};
 
 use crate::ending::Ending;
-use crate::input::{judge, read_input};
+use crate::input::deck_of;
 use crate::lines::{MEMORY_LINE, READ_LINE, WORDS_LINE, WRITE_LINE, fault_line};
 use crate::output::output;
 use crate::stop::Stop;
@@ -19,17 +20,12 @@ use script_tree::items::Text;
 use std::alloc::Global;
 
 // What the command makes of the input.
-#[tactic(auto, using(crate::proofs::Making::makes, crate::proofs::Making::refused_stops, crate::proofs::Making::unread_stops))]
 fn make<S: Source>(alloc: Global, command: &Command, source: &mut S) -> Result<Text, Stop>
     ensures ok { IfOk result (Makes command.now (S.left source.old)) }
     ensures emptied { IfOk result (λ text. bytes.Ends (S.left source.old) (S.left source.new)) }
     ensures err { IfErr result (IsStopped (S.left source.old) (S.faults source.old) (S.faults source.new)) }
 {
-    let bytes = match read_input(alloc, source) {
-        Ok(bytes) => bytes,
-        Err(stop) => return Err(stop),
-    };
-    let deck = match judge(alloc, bytes.as_slice()) {
+    let deck = match deck_of(alloc, source) {
         Ok(deck) => deck,
         Err(stop) => return Err(stop),
     };
@@ -41,14 +37,15 @@ fn make<S: Source>(alloc: Global, command: &Command, source: &mut S) -> Result<T
 
 // Gives standard error a line.
 fn say<E: Sink>(err: &mut E, line: &[u8])
-    ensures { Says (E.held err.old) (E.held err.new) (E.faults err.old) (E.faults err.new) line.now }
+    ensures { Says (sink_state (E.held err.old) (E.faults err.old) (E.clean err.old)) (sink_state (E.held err.new) (E.faults err.new) (E.clean err.new)) line.now }
 {
     let _ = write_all(err, line);
 }
 
 // Ends where there is no output.
 fn stopped<E: Sink>(alloc: Global, stop: Stop, err: &mut E) -> Ending
-    ensures { StopsSaying stop (E.held err.old) (E.held err.new) (E.faults err.old) (E.faults err.new) result }
+    ensures ending { EndsAs stop result }
+    ensures told { Tells (sink_state (E.held err.old) (E.faults err.old) (E.clean err.old)) (sink_state (E.held err.new) (E.faults err.new) (E.clean err.new)) (line_of result) }
 {
     match stop {
         Stop::Read => {
@@ -73,7 +70,7 @@ fn stopped<E: Sink>(alloc: Global, stop: Stop, err: &mut E) -> Ending
 }
 
 // Does what a command asks for, and answers how that ended.
-#[tactic(auto, using(crate::proofs::Stopping::untouched, crate::proofs::Stopping::stop_happened))]
+#[tactic(auto, using(crate::proofs::Stopping::stop_happened))]
 fn carry_out<S: Source, O: Sink, E: Sink>(
     alloc: Global,
     command: &Command,
@@ -81,10 +78,11 @@ fn carry_out<S: Source, O: Sink, E: Sink>(
     out: &mut O,
     err: &mut E,
 ) -> Ending
-    ensures { Happened command.now
-        (record { left = S.left source.old; source_faults = S.faults source.old; held = O.held out.old; out_faults = O.faults out.old; clean = O.clean out.old; said = E.held err.old; err_faults = E.faults err.old })
-        (record { left = S.left source.new; source_faults = S.faults source.new; held = O.held out.new; out_faults = O.faults out.new; clean = O.clean out.new; said = E.held err.new; err_faults = E.faults err.new })
+    ensures happened { Happened command.now
+        (record { source = source_state (S.left source.old) (S.faults source.old); out = sink_state (O.held out.old) (O.faults out.old) (O.clean out.old); err = sink_state (E.held err.old) (E.faults err.old) (E.clean err.old) })
+        (record { source = source_state (S.left source.new) (S.faults source.new); out = sink_state (O.held out.new) (O.faults out.new) (O.clean out.new); err = sink_state (E.held err.new) (E.faults err.new) (E.clean err.new) })
         result }
+    ensures told { Tells (sink_state (E.held err.old) (E.faults err.old) (E.clean err.old)) (sink_state (E.held err.new) (E.faults err.new) (E.clean err.new)) (line_of result) }
 {
     let text = match make(alloc, command, source) {
         Ok(text) => text,
@@ -102,7 +100,8 @@ fn carry_out<S: Source, O: Sink, E: Sink>(
 ///
 /// 0: the output was written whole and flushed. 2: the input is refused, and standard error has the line of its fault.
 /// 3: a read failed. 4: a write or the flush failed, and a part of the output may be there. 5: there was no memory.
-/// Only 0 and 4 leave bytes on `out`, and only 0 leaves nothing on `err`. A fault of `err` changes no status.
+/// With 2, 3 and 5 nothing was done with `out`, no flush either, and with 0 nothing with `err`. With each other status
+/// `err` was given the status's one line and was flushed, or a part of the line where that failed, which changes no status.
 pub fn framesweep_alone<S: Source, O: Sink, E: Sink>(
     alloc: Global,
     command: &Command,
@@ -111,8 +110,8 @@ pub fn framesweep_alone<S: Source, O: Sink, E: Sink>(
     err: &mut E,
 ) -> u8
     ensures { Ends command.now
-        (record { left = S.left source.old; source_faults = S.faults source.old; held = O.held out.old; out_faults = O.faults out.old; clean = O.clean out.old; said = E.held err.old; err_faults = E.faults err.old })
-        (record { left = S.left source.new; source_faults = S.faults source.new; held = O.held out.new; out_faults = O.faults out.new; clean = O.clean out.new; said = E.held err.new; err_faults = E.faults err.new })
+        (record { source = source_state (S.left source.old) (S.faults source.old); out = sink_state (O.held out.old) (O.faults out.old) (O.clean out.old); err = sink_state (E.held err.old) (E.faults err.old) (E.clean err.old) })
+        (record { source = source_state (S.left source.new) (S.faults source.new); out = sink_state (O.held out.new) (O.faults out.new) (O.clean out.new); err = sink_state (E.held err.new) (E.faults err.new) (E.clean err.new) })
         result }
 {
     carry_out(alloc, command, source, out, err).status()
@@ -120,8 +119,8 @@ pub fn framesweep_alone<S: Source, O: Sink, E: Sink>(
 
 /// Does what the words behind the program's name ask for, and answers the status. Takes memory.
 ///
-/// 1: the words are no command line; standard error says so, and nothing was read or written. The other statuses are
-/// those of `framesweep_alone`.
+/// 1: the words are no command line; standard error says so, and nothing was done with `source` and `out`. So it is with
+/// 5 where there was no memory to read the words. The other statuses are those of `framesweep_alone`.
 pub fn framesweep<S: Source, O: Sink, E: Sink>(
     alloc: Global,
     words: &[Text],
@@ -130,8 +129,8 @@ pub fn framesweep<S: Source, O: Sink, E: Sink>(
     err: &mut E,
 ) -> u8
     ensures { Obeys words.now
-        (record { left = S.left source.old; source_faults = S.faults source.old; held = O.held out.old; out_faults = O.faults out.old; clean = O.clean out.old; said = E.held err.old; err_faults = E.faults err.old })
-        (record { left = S.left source.new; source_faults = S.faults source.new; held = O.held out.new; out_faults = O.faults out.new; clean = O.clean out.new; said = E.held err.new; err_faults = E.faults err.new })
+        (record { source = source_state (S.left source.old) (S.faults source.old); out = sink_state (O.held out.old) (O.faults out.old) (O.clean out.old); err = sink_state (E.held err.old) (E.faults err.old) (E.clean err.old) })
+        (record { source = source_state (S.left source.new) (S.faults source.new); out = sink_state (O.held out.new) (O.faults out.new) (O.clean out.new); err = sink_state (E.held err.new) (E.faults err.new) (E.clean err.new) })
         result }
 {
     match read_words(alloc, words) {

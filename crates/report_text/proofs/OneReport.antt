@@ -21,7 +21,7 @@ use Rattle.report_text.proofs.LooksLaws.{looks_end}
 use Rattle.report_text.proofs.EntryLaws.{not_at_end, fire_flat, fire_looks_end, done_flat, refused_flat, why_ends, one_why, line_flat, reply_ends}
 
 -- ---- looks
-same_look : (a b : List ℕ × Value) → a.0 ≡ b.0 → a.1 ≡ b.1 → a ≡ b
+pub same_look : (a b : List ℕ × Value) → a.0 ≡ b.0 → a.1 ≡ b.1 → a ≡ b
 same_look a b names values = pair a.0 b.0 a.1 b.1 names values
   where
     pair : (n m : List ℕ) (v u : Value) → n ≡ m → v ≡ u → ◌≡◌ {A = List ℕ × Value} (n, v) (m, u)
@@ -68,7 +68,7 @@ values_back [] (v ∷ vs) e = absurd (omega (arith, e))
 values_back (n ∷ ns) [] e = absurd (omega (arith, e))
 values_back (n ∷ ns) (v ∷ vs) e = let shorter : length vs ≡ length ns = omega (arith, e) in ap (λ l. v ∷ l) (values_back ns vs shorter)
 
-one_zip : (n m : List (List ℕ)) (v u : List Value) → length v ≡ length n → length u ≡ length m → zip n v ≡ zip m u → (n ≡ m) × (v ≡ u)
+pub one_zip : (n m : List (List ℕ)) (v u : List Value) → length v ≡ length n → length u ≡ length m → zip n v ≡ zip m u → (n ≡ m) × (v ≡ u)
 one_zip n m v u hv hu e = (
   sym (names_back n v hv) ∙ ap (map (λ (l : List ℕ × Value). l.0)) e ∙ names_back m u hu,
   sym (values_back n v hv) ∙ ap (map (λ (l : List ℕ × Value). l.1)) e ∙ values_back m u hu,
@@ -93,7 +93,7 @@ one_reply n m (Seen v) (Fired c d u) x y hr hs e = absurd (numbers_differ 102 11
 line_from : ℕ → ℕ → Reply → List (List ℕ) → CallLine
 line_from version caller reply names = record { version = version; caller = caller; reply = reply; names = names }
 
-same_line : (a b : CallLine) → a.version ≡ b.version → a.caller ≡ b.caller → a.reply ≡ b.reply → a.names ≡ b.names → a ≡ b
+pub same_line : (a b : CallLine) → a.version ≡ b.version → a.caller ≡ b.caller → a.reply ≡ b.reply → a.names ≡ b.names → a ≡ b
 unfolding line_from
 same_line a b v c r n =
     ap (λ x. line_from x a.caller a.reply a.names) v ∙ ap (λ x. line_from b.version x a.reply a.names) c
@@ -112,7 +112,7 @@ one_line a b x y ha hb e =
 refused_from : ℕ → ℕ → Why → Refused
 refused_from caller at why = record { caller = caller; number = at; why = why }
 
-same_refused : (a b : Refused) → a.caller ≡ b.caller → a.number ≡ b.number → a.why ≡ b.why → a ≡ b
+pub same_refused : (a b : Refused) → a.caller ≡ b.caller → a.number ≡ b.number → a.why ≡ b.why → a ≡ b
 unfolding refused_from
 same_refused a b c n w = ap (λ x. refused_from x a.number a.why) c ∙ ap (λ x. refused_from b.caller x a.why) n ∙ ap (λ x. refused_from b.caller b.number x) w
 

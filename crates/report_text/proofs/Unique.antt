@@ -132,7 +132,7 @@ fault_back ZeroDivisor = refl
 fault_back Kind = refl
 fault_back NoChoice = refl
 
-one_fault : (f g : Fault) → fault_text f ≡ fault_text g → f ≡ g
+pub one_fault : (f g : Fault) → fault_text f ≡ fault_text g → f ≡ g
 one_fault f g e = sym (fault_back f) ∙ ap fault_by e ∙ fault_back g
 
 pub numbers_differ : (b c : ℕ) → b < c → b ≡ c → ⊥

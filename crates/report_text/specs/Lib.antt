@@ -3,3 +3,4 @@ pub mod Pieces
 pub mod Printed
 pub mod Reading
 pub mod Report
+pub mod Runs

@@ -4,10 +4,13 @@ ghost use Rattle.std.specs.Prelude.{◌≡◌, ◌≢◌, ℕ, List, Result};
 ghost use Rattle.script_tree.specs.declared.value.Value.{Value};
 ghost use Rattle.signal_graph.specs.declared.log.Logged.{Logged};
 ghost use Rattle.signal_graph.specs.declared.log.Refused.{Refused};
+ghost use Rattle.signal_graph.specs.declared.call.Call.{Call};
+ghost use Rattle.signal_graph.specs.Graph.{Graph};
 ghost use Rattle.report_text.specs.declared.data.Report.{Report};
 ghost use Rattle.report_text.specs.Report.{report_of};
 ghost use Rattle.report_text.specs.Printed.{printed, data_of, IsReport, Stops};
 ghost use Rattle.report_text.specs.Reading.{IsReadAs};
+ghost use Rattle.report_text.specs.Runs.{Run, IsRun, text_of, json_text_of};
 
 use crate::reading::ReportFault;
 
@@ -33,4 +36,14 @@ pub fn runs_are_read_back()
         → IsReport (data_of log refused names finals)
         → (answer : Result Report ReportFault) → IsReadAs (report_of log refused names finals) answer → answer ≢ Err ReportFault.Memory
         → answer ≡ Ok (data_of log refused names finals) }
+{}
+
+/// The bytes of a report and the deck determine the run, as text and as JSON: two runs of one deck's scripts, each for
+/// some limit of versions, that have the same report are the same. A report prints of a call only its thread, its version,
+/// the names that it looks at and its reply; which call of its thread it is follows from how many of them stand before it.
+pub fn reports_determine_runs()
+    ensures text { (graph : Graph) (scripts : List (List Call)) (limit other : ℕ) (a b : Run)
+        → IsRun graph scripts limit a → IsRun graph scripts other b → text_of graph a ≡ text_of graph b → a ≡ b }
+    ensures json { (graph : Graph) (scripts : List (List Call)) (limit other : ℕ) (a b : Run)
+        → IsRun graph scripts limit a → IsRun graph scripts other b → json_text_of graph a ≡ json_text_of graph b → a ≡ b }
 {}

@@ -3,7 +3,7 @@
 
 pub mod data;
 mod entries;
-mod json;
+mod json_report;
 mod json_values;
 mod laws;
 mod lines;
@@ -13,7 +13,7 @@ mod reading;
 mod tests;
 mod whole;
 
-pub use json::report_json;
-pub use laws::{reports_are_told_apart, runs_are_read_back};
+pub use json_report::report_json;
+pub use laws::{reports_are_told_apart, reports_determine_runs, runs_are_read_back};
 pub use reading::{ReportFault, read_report};
 pub use whole::report;

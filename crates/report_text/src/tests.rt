@@ -1,10 +1,10 @@
-// Reports that are read and those that are not, and runs as reports, read back, and as JSON.
+// Runs as reports, read back, and as JSON.
 
 ghost use Rattle.std.specs.Prelude.{◌≡◌, ◌<◌, ◌+◌, ◌-◌, ◌^◌, ◌++◌, ◌∷◌, [], length, IfOk, OnOk};
 ghost use Rattle.report_text.specs.Report.{Answers, AreAnswered};
 
 use crate::data::{CallLine, Report};
-use crate::json::report_json;
+use crate::json_report::report_json;
 use crate::reading::{ReportFault, read_report};
 use crate::whole::report;
 use call_log::{Finished, Log, Logged, Refused, Why};
@@ -25,87 +25,6 @@ final b=6
 done 2 accepted 0 refused
 ";
 
-// Texts that are read.
-const READ: [&str; 7] = [
-    FIRST_REPORT,
-    "done 0 accepted 0 refused\n",
-    "done 7 accepted 4294967295 refused\n",
-    "call 0 thread 0 read \ndone 1 accepted 0 refused\n",
-    "call 9 thread 256 fire changed 0 evaluated 0\ndone 1 accepted 0 refused\n",
-    "refused thread 1 call 1 unknown name 1\nrefused thread 2 call 3 versions used up 0\ndone 0 accepted 2 refused\n",
-    "final a=fault no-choice\nfinal b=true\nfinal c=-9223372036854775808\ndone 0 accepted 0 refused\n",
-];
-
-// Texts with the line that they are refused at.
-const REFUSED: [(&str, u32); 35] = [
-    // Last lines, and texts without one.
-    ("", 1),
-    ("\n", 1),
-    ("done 0 accepted 0 refused", 1),
-    ("done 0 accepted 0 refused\n\n", 2),
-    ("done 0 accepted 0 refused\ndone 0 accepted 0 refused\n", 2),
-    ("done 0 accepted 0 refused\nx", 2),
-    ("done 00 accepted 0 refused\n", 1),
-    ("done 4294967296 accepted 0 refused\n", 1),
-    ("done -1 accepted 0 refused\n", 1),
-    ("done +1 accepted 0 refused\n", 1),
-    ("done  0 accepted 0 refused\n", 1),
-    ("done 0 accepted 0 refused \n", 1),
-    ("done 0 accepted 0 refused\r\n", 1),
-    ("final a=1\nfinal b=2\n", 3),
-    ("final a=1\nfinal b=2", 2),
-    // Last values.
-    ("final a=01\ndone 0 accepted 0 refused\n", 1),
-    ("final a=-0\ndone 0 accepted 0 refused\n", 1),
-    (
-        "final a=9223372036854775808\ndone 0 accepted 0 refused\n",
-        1,
-    ),
-    ("final a=fault\ndone 0 accepted 0 refused\n", 1),
-    ("final a=fault kinds\ndone 0 accepted 0 refused\n", 1),
-    ("final a=True\ndone 0 accepted 0 refused\n", 1),
-    ("final if=1\ndone 0 accepted 0 refused\n", 1),
-    ("final 1a=1\ndone 0 accepted 0 refused\n", 1),
-    ("final a =1\ndone 0 accepted 0 refused\n", 1),
-    ("final a= 1\ndone 0 accepted 0 refused\n", 1),
-    // Lines in another order.
-    (
-        "final a=1\ncall 1 thread 1 read a=1\ndone 1 accepted 0 refused\n",
-        2,
-    ),
-    (
-        "refused thread 1 call 1 unknown name 1\ncall 1 thread 1 read a=1\ndone 1 accepted 1 refused\n",
-        2,
-    ),
-    (
-        "final a=1\nrefused thread 1 call 1 unknown name 1\ndone 0 accepted 1 refused\n",
-        2,
-    ),
-    // Calls and a refusal.
-    (
-        "call 1 thread 1 fire evaluated 0 changed 0\ndone 1 accepted 0 refused\n",
-        1,
-    ),
-    (
-        "call 1 thread 1 fire changed 0 evaluated 0 \ndone 1 accepted 0 refused\n",
-        1,
-    ),
-    (
-        "call 1 thread 1 fire changed 0 evaluated 0 look \ndone 1 accepted 0 refused\n",
-        1,
-    ),
-    ("call 1 thread 1 read\ndone 1 accepted 0 refused\n", 1),
-    (
-        "call 1 thread 1 read a=1,b=2\ndone 1 accepted 0 refused\n",
-        1,
-    ),
-    ("call 1 thread 1 read a=1, \ndone 1 accepted 0 refused\n", 1),
-    (
-        "call 1 thread 1 read a=1\nrefused thread 1 call 2 unknown name\ndone 1 accepted 1 refused\n",
-        2,
-    ),
-];
-
 // What a text is read as. One of more than a million bytes is not tried.
 fn read(alloc: Global, text: &[u8]) -> Result<Report, ReportFault> {
     if text.len() > 1_000_000 {
@@ -119,17 +38,6 @@ fn fault_of(alloc: Global, text: &[u8]) -> Option<ReportFault> {
     match read(alloc, text) {
         Ok(_) => None,
         Err(fault) => Some(fault),
-    }
-}
-
-#[test]
-fn texts_are_read_or_refused_at_their_line(rt: HostRuntime) {
-    for text in READ {
-        assert_eq!(rt; fault_of(rt.alloc(), text.as_bytes()), None, "{text}");
-    }
-    for (text, line) in REFUSED {
-        let fault = Some(ReportFault::Syntax(line));
-        assert_eq!(rt; fault_of(rt.alloc(), text.as_bytes()), fault, "{text}");
     }
 }
 

@@ -4,7 +4,7 @@ use Rattle.std.specs.List.{zip}
 use Rattle.serde_json.specs.Written.{compact_text}
 use Rattle.report_text.specs.Json.{list_data, look_data, call_data, refused_data}
 use Rattle.serde_json.proofs.OnLiterals.{serde_json_on_literals}
-use Rattle.report_text.proofs.json.report_json.Goals as goal
+use Rattle.report_text.proofs.json_report.report_json.Goals as goal
 
 -- the frame of the report with its number and its lists, printed one behind the other
 joined : (k1 n k2 a k3 b k4 d t1 t2 t3 t4 t5 t6 t7 t8 t : List ℕ) → t1 ≡ k1 → t2 ≡ t1 ++ n → t3 ≡ t2 ++ k2 → t4 ≡ t3 ++ a → t5 ≡ t4 ++ k3 → t6 ≡ t5 ++ b → t7 ≡ t6 ++ k4 → t8 ≡ t7 ++ d → t ≡ t8 ++ 125 ∷ 10 ∷ []

@@ -3,7 +3,7 @@ use Rattle.std.specs.List.{zip}
 use Rattle.serde_json.specs.View.{items_of}
 use Rattle.serde_json.specs.Written.{items_text, compact_text}
 use Rattle.report_text.specs.Json.{list_data, look_data}
-use Rattle.report_text.proofs.json.push_finals.Given as goal
+use Rattle.report_text.proofs.json_report.push_finals.Given as goal
 
 -- what is still to be written comes behind what was written
 abbrev pub invariant-loop-node : goal.invariant-loop-node

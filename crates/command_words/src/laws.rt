@@ -1,0 +1,10 @@
+//! Laws of command lines.
+
+ghost use Rattle.std.specs.Prelude.{◌≡◌, ℕ, List};
+ghost use Rattle.command_words.specs.declared.command.Command.{Command};
+ghost use Rattle.command_words.specs.Words.{AsksFor};
+
+/// Words ask for one command at most. So `read_words` has one right answer for them, want of memory aside.
+pub fn words_ask_for_one_command()
+    ensures { (words : List (List ℕ)) (a b : Command) → AsksFor words a → AsksFor words b → a ≡ b }
+{}
