@@ -14,7 +14,7 @@ use std::alloc::Global;
 // The report of the run of a deck, thread after thread.
 #[tactic(auto, using(crate::proofs::Answered::report_laws))]
 fn run(alloc: Global, deck: Deck, versions: u32, json: bool) -> Result<Text, OutOfMemory>
-    ensures { IfOk result (IsReport deck versions json IsSerial) }
+    ensures { IfOk result (IsReport deck versions json (IsSerial deck versions)) }
 {
     let (graph, scripts) = deck.into_parts();
     let finished = serial_owned(alloc, &graph, scripts, versions)?;
