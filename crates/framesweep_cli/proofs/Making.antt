@@ -32,5 +32,5 @@ unread_stops left before after (Deck fault) unread = absurd unread
 unread_stops left before after Memory unread = unread
 
 -- a report in thread order is one in some order
-pub in_any_order : (deck : Decked) (versions : ℕ) (json : Bool) (text : List ℕ) → IsReport deck versions json IsSerial text → IsReport deck versions json IsAnyOrder text
+pub in_any_order : (deck : Decked) (versions : ℕ) (json : Bool) (text : List ℕ) → IsReport deck versions json (IsSerial deck versions) text → IsReport deck versions json IsAnyOrder text
 in_any_order deck versions json text r = record { log = r.log; refused = r.refused; ordered = tt; legal = r.legal; merge = r.merge; bytes = r.bytes }

@@ -6,7 +6,7 @@ use Rattle.signal_graph.specs.declared.log.Logged.{Logged}
 use Rattle.signal_graph.specs.declared.log.Refused.{Refused}
 use Rattle.signal_graph.specs.Legal.{Legal, finals}
 use Rattle.call_log.specs.Merge.{Merge}
-use Rattle.serial_machine.specs.SerialOrder.{IsThreadAfterThread, CountsVersions}
+use Rattle.serial_machine.specs.SerialOrder.{IsSerialLog}
 use Rattle.deck_text.specs.declared.fault.DeckFault.{DeckFault}
 use Rattle.deck_text.specs.declared.fault.DeckFault.TheVariants.{Memory}
 use Rattle.deck_text.specs.Decks.{Decked}
@@ -38,9 +38,10 @@ pub record IsReport (deck : Decked) (versions : ℕ) (json : Bool) (Ordered : Li
   pub merge : Merge deck.graph deck.scripts versions log refused
   pub bytes : text ≡ report_bytes json log refused deck.graph.names (finals deck.graph log)
 
--- all calls of a thread come before those of a later one, with versions that count from 1
-abbrev pub IsSerial : List Logged → Type 0
-IsSerial log = IsThreadAfterThread log × CountsVersions log
+-- the first of all threads' well-named calls laid end to end, as many as there are versions, with versions that count
+-- from 1
+abbrev pub IsSerial : Decked → ℕ → List Logged → Type 0
+IsSerial deck versions log = IsSerialLog deck.graph deck.scripts versions log
 
 -- any order will do
 abbrev pub IsAnyOrder : List Logged → Type 0
@@ -49,7 +50,7 @@ IsAnyOrder log = ⊤
 -- what a command writes for a deck
 abbrev pub IsOutput : Command → Decked → List ℕ → Type 0
 IsOutput (Run versions json) deck text = IsReport deck versions json IsAnyOrder text
-IsOutput (Serial versions json) deck text = IsReport deck versions json IsSerial text
+IsOutput (Serial versions json) deck text = IsReport deck versions json (IsSerial deck versions) text
 IsOutput Print deck text = text ≡ canonical deck
 
 -- the input is read as a deck

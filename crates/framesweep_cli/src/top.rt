@@ -29,7 +29,7 @@ fn make<S: Source>(alloc: Global, command: &Command, source: &mut S) -> Result<T
         Ok(deck) => deck,
         Err(stop) => return Err(stop),
     };
-    match output(alloc, command, &deck) {
+    match output(alloc, command, deck) {
         Ok(text) => Ok(text),
         Err(_) => Err(Stop::Memory),
     }
