@@ -58,8 +58,8 @@ other_clean (Body k) w =
 
 token_clean : (atoms : Atoms) (known : List (List ℕ)) (w : List ℕ) → CleanToken w (token atoms known w)
 token_clean atoms known w =
-    either w (list_all is_ascii_digit w) (number w) (if is_name w then name_token atoms known w else other_token atoms w)
-    (λ d. record { clean = λ s. bytes_clean w (all_digits w d) })
+    either w (is_digits w) (number w) (if is_name w then name_token atoms known w else other_token atoms w)
+    (λ d. record { clean = λ s. bytes_clean w (all_digits w (both (nat_lt 0 (length w)) (list_all is_ascii_digit w) d).1) })
     (either w (is_name w) (name_token atoms known w) (other_token atoms w) (λ n. record { clean = λ s. bytes_clean w (name_word w n).all }) (other_clean atoms w))
 
 words_clean : (atoms : Atoms) (known : List (List ℕ)) (ws : Words) → has_stray (tokens_among atoms known ws) ≡ false → AllByRecursion IsClean ws

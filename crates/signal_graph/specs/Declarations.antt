@@ -4,6 +4,7 @@ use Rattle.std.specs.List.{AllByRecursion, list_any}
 use Rattle.std.specs.Str.{bytes_eq}
 use Rattle.script_tree.specs.declared.limits.TheConstants.{NODES, INPUTS, CANDIDATES, SELECTORS}
 use Rattle.script_tree.specs.Scripts.{Scripted, HasNoPicks, HasNoAcc}
+pub use Rattle.script_tree.specs.Scripts.{different_names_from, different_names}
 use Rattle.signal_graph.specs.declared.node.Selector.{Selector}
 use Rattle.signal_graph.specs.declared.node.Node as nodes
 use Rattle.signal_graph.specs.declared.node.Node.TheVariants as node
@@ -37,14 +38,6 @@ names_of (Choose parts body) = names_of_parts parts
 abbrev pub script_names : List Part → List (List ℕ)
 script_names [] = []
 script_names (part ∷ parts) = part.0.names ++ script_names parts
-
--- the different names of a list, behind those that were seen
-abbrev pub different_names_from : List (List ℕ) → List (List ℕ) → List (List ℕ)
-different_names_from seen [] = []
-different_names_from seen (name ∷ names) = if list_any (bytes_eq name) seen then different_names_from seen names else name ∷ different_names_from (name ∷ seen) names
-
-abbrev pub different_names : List (List ℕ) → List (List ℕ)
-different_names names = different_names_from [] names
 
 -- one selector: 1 to 64 candidates, and neither `acc` nor a pick in its script
 pub record IsPart (part : Part) : Type 0 where
