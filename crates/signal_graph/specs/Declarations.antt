@@ -13,7 +13,7 @@ use Rattle.signal_graph.specs.declared.builder.DeclKind.TheVariants.{Source, Sig
 use Rattle.signal_graph.specs.declared.builder.GraphFault.{GraphFault}
 use Rattle.signal_graph.specs.declared.builder.GraphFault.TheVariants.{DoubleName, UnknownInput, TooManyNodes}
 use Rattle.signal_graph.specs.Tables.{is_declared}
-use Rattle.signal_graph.specs.Graph.{Graph, is_start, place_in, different, inputs_of_all, BodyFits}
+use Rattle.signal_graph.specs.Graph.{Graph, is_start, place_in, different, inputs_of_all, Kept, BodyKept, BodyFits}
 
 -- a selector's script and the names of its candidates
 abbrev pub Part : Type 0
@@ -60,6 +60,13 @@ IsDeclaration (Source start) = IsTrue (is_start start)
 IsDeclaration (Signal script) = HasNoAcc script × HasNoPicks script
 IsDeclaration (Fold start script) = IsTrue (is_start start) × HasNoPicks script
 IsDeclaration (Choose parts body) = AreParts parts body
+
+-- what the scripts of a declaration keep
+abbrev pub AreKept : DeclKind → Type 0
+AreKept (Source start) = Unit {0}
+AreKept (Signal script) = Kept script
+AreKept (Fold start script) = Kept script
+AreKept (Choose parts body) = AllByRecursion (λ (part : Part). Kept part.0) parts × BodyKept body
 
 -- a selector with the numbers of its names
 abbrev pub selector_of : List (List ℕ) → Part → Selector
