@@ -4,6 +4,7 @@ use Rattle.std.specs.List.{AllByRecursion, list_any}
 use Rattle.std.specs.Str.{bytes_eq}
 use Rattle.std.specs.Cmp.Lexicographic.{bytes_decides}
 use Rattle.std.proofs.lemmas.List.{get_or_append_left, length-map, map-append}
+use Rattle.std.proofs.lemmas.List.Elements.{recursion_from_All}
 use Rattle.std.proofs.lemmas.List.Folds.{list_any-append}
 use Rattle.std.proofs.lemmas.Bool.Decides.{eqb_tells, nat_tests}
 use Rattle.script_tree.specs.declared.limits.TheConstants.{NODES}
@@ -127,7 +128,7 @@ is_node names more (Choose parts body) h k d =
     let declared = scripts_declared names parts d in (
       rw length-map h.some,
       rw length-map h.few,
-      are_selectors names more parts h.each k.0 d,
+      are_selectors names more parts h.each (recursion_from_All (λ (part : Part). Kept part.0) parts k.0) d,
       rw length-map h.body,
       refl,
       rw (all_inputs names parts, different_alike names [] (script_names parts) tt declared) h.few_names,

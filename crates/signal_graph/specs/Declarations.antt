@@ -1,6 +1,6 @@
 -- Declarations: what a builder is given, the node that it makes of it, and why it refuses one.
 use Rattle.std.specs.Prelude.{ℕ, ◌≤◌, Bool, IsTrue, not, nat_lt, if◌then◌else◌, List, [], ◌∷◌, ◌++◌, length, map, find, Option, Some, None}
-use Rattle.std.specs.List.{AllByRecursion, list_any}
+use Rattle.std.specs.List.{All, AllByRecursion, list_any}
 use Rattle.std.specs.Str.{bytes_eq}
 use Rattle.script_tree.specs.declared.limits.TheConstants.{NODES, INPUTS, CANDIDATES, SELECTORS}
 use Rattle.script_tree.specs.Scripts.{Scripted, HasNoPicks, HasNoAcc}
@@ -66,7 +66,7 @@ abbrev pub AreKept : DeclKind → Type 0
 AreKept (Source start) = Unit {0}
 AreKept (Signal script) = Kept script
 AreKept (Fold start script) = Kept script
-AreKept (Choose parts body) = AllByRecursion (λ (part : Part). Kept part.0) parts × BodyKept body
+AreKept (Choose parts body) = All (λ (part : Part). Kept part.0) parts × BodyKept body
 
 -- a selector with the numbers of its names
 abbrev pub selector_of : List (List ℕ) → Part → Selector

@@ -3,7 +3,7 @@
 ghost use Rattle.std.specs.Prelude.{◌≡◌, ℕ, ◌<◌, ◌∷◌, ◌++◌, [], map, find, length, MatchOption, Some, None, IfOk, IfErr, OnOk, OnErr};
 ghost use Rattle.signal_graph.specs.Graph as definition;
 ghost use Rattle.signal_graph.specs.Graph.{IsGraph, Kept, BodyKept};
-ghost use Rattle.std.specs.List.{AllByRecursion};
+ghost use Rattle.std.specs.List.{All};
 ghost use Rattle.signal_graph.specs.Declarations.{Part, AreKept};
 
 use crate::graph::{Graph, make_graph};
@@ -79,16 +79,16 @@ fn scripts_are_kept(kind: &DeclKind)
         DeclKind::Signal(script) => script.well_formed(),
         DeclKind::Fold(_, script) => script.well_formed(),
         DeclKind::Choose(parts, body) => {
-            parts_are_kept(parts);
+            parts_are_kept(parts.as_slice());
             body_is_kept(body);
         }
     }
 }
 
-fn parts_are_kept(parts: &SelectList)
-    ensures { AllByRecursion (λ (part : Part). Kept part.0) parts.now }
+fn parts_are_kept(parts: &[(Script, NameList)])
+    ensures { All (λ (part : Part). Kept part.0) parts.now }
 {
-    for part in parts.as_slice() {
+    for part in parts {
         part.0.well_formed();
     }
 }
