@@ -1,5 +1,5 @@
 -- No byte that ends what a line says stands in a script, and a text without one says all of itself.
-use Rattle.std.proofs.Common.{◌≡◌, ℕ, suc, ◌+◌, Bool, true, false, List, [], ◌∷◌, ◌++◌, take, refl, sym, ap, ◌∙◌, arith}
+use Rattle.std.proofs.Common.{◌≡◌, ℕ, suc, ◌+◌, Bool, true, false, List, [], ◌∷◌, ◌++◌, length, take, refl, sym, ap, ◌∙◌, arith}
 use Rattle.std.specs.Prelude.{◌==◌, ◌&&◌, if◌then◌else◌, nat_lt, not, codes, ◌||◌}
 use Rattle.std.specs.List.{list_all, list_any, AllByRecursion, position_or_len}
 use Rattle.std.specs.Str.{bytes_eq}
@@ -13,7 +13,7 @@ use Rattle.expr_script.specs.declared.atoms.Atoms.{Atoms}
 use Rattle.expr_script.specs.declared.atoms.Atoms.TheVariants.{Script, Body}
 use Rattle.expr_script.specs.Cut.{begins_word}
 use Rattle.expr_script.specs.Joined.{behind, joined}
-use Rattle.expr_script.specs.Words.{number, name_token, look_up, short_signs, long_signs, script_words, short_sign, sign_token, fixed_token, other_token, token}
+use Rattle.expr_script.specs.Words.{is_digits, number, name_token, look_up, short_signs, long_signs, script_words, short_sign, sign_token, fixed_token, other_token, token}
 use Rattle.expr_script.specs.Tokens.{inputs, tokens_among}
 use Rattle.expr_script.specs.Spelled.{SpellsWith}
 use Rattle.deck_lines.specs.Forms.{Words}
@@ -59,8 +59,8 @@ other_clean (Body k) w =
 
 token_clean : (atoms : Atoms) (known : List (List ℕ)) (w : List ℕ) → CleanToken w (token atoms known w)
 token_clean atoms known w =
-    either w (list_all is_ascii_digit w) (number w) (if is_name w then name_token atoms known w else other_token atoms w)
-    (λ d. record { clean = λ s. bytes_clean w (digits_words w d) })
+    either w (is_digits w) (number w) (if is_name w then name_token atoms known w else other_token atoms w)
+    (λ d. record { clean = λ s. bytes_clean w (digits_words w (both (nat_lt 0 (length w)) (list_all is_ascii_digit w) d).1) })
     (either w (is_name w) (name_token atoms known w) (other_token atoms w) (λ n. record { clean = λ s. bytes_clean w (name_word w n).all }) (other_clean atoms w))
 
 words_clean : (atoms : Atoms) (known : List (List ℕ)) (ws : Words) → has_stray (tokens_among atoms known ws) ≡ false → AllByRecursion IsClean ws

@@ -134,42 +134,22 @@ negative_lean word d h =
 value_lean : (list : Words) (v : Value) → value_of list ≡ Some v → Lean (value_words v) list
 value_lean = by_spelling (λ list v. Lean (value_words v) list) (same_lean (codes "true" ∷ [])) (same_lean (codes "false" ∷ [])) number_lean negative_lean
 
--- no word is empty
-abbrev pub Somes : Words → Type 0
-Somes ws = AllByRecursion (λ (w : List ℕ). 0 < length w) ws
-
-somes_first : (a b : Words) → Somes (a ++ b) → Somes a
-somes_first [] b h = tt
-somes_first (w ∷ a) b h = (h.0, somes_first a b h.1)
-
-somes_last : (a b : Words) → Somes (a ++ b) → Somes b
-somes_last [] b h = h
-somes_last (w ∷ a) b h = somes_last a b h.1
-
-somes_each : (sign : List ℕ) (parts : List Words) → Somes (each_behind sign parts) → AllByRecursion Somes parts
-somes_each sign [] h = tt
-somes_each sign (part ∷ parts) h = (somes_first part (each_behind sign parts) h.1, somes_each sign parts (somes_last part (each_behind sign parts) h.1))
-
-somes_parts : (sign : List ℕ) (parts : List Words) → Somes (separated sign parts) → AllByRecursion Somes parts
-somes_parts sign [] h = tt
-somes_parts sign (part ∷ parts) h = (somes_first part (each_behind sign parts) h, somes_each sign parts (somes_last part (each_behind sign parts) h))
-
 -- the canonical words of scripts and bodies are no longer
 pub record ScriptsShort : Type 0 where
-  pub script : (acc : Bool) (list : Words) (s : Scripted) (last : List ℕ) (more : Words) → All (λ word. 0 < length word) list → SpellsScript acc list s → length (behind last (printed_words s ++ more)) ≤ length (behind last (list ++ more))
-  pub body : (picks : ℕ) (list : Words) (s : Scripted) (last : List ℕ) (more : Words) → All (λ word. 0 < length word) list → SpellsBody picks list s → length (behind last (printed_words s ++ more)) ≤ length (behind last (list ++ more))
+  pub script : (acc : Bool) (list : Words) (s : Scripted) (last : List ℕ) (more : Words) → SpellsScript acc list s → length (behind last (printed_words s ++ more)) ≤ length (behind last (list ++ more))
+  pub body : (picks : ℕ) (list : Words) (s : Scripted) (last : List ℕ) (more : Words) → SpellsBody picks list s → length (behind last (printed_words s ++ more)) ≤ length (behind last (list ++ more))
 
-script_lean : ScriptsShort → (acc : Bool) (list : Words) (s : Scripted) → Somes list → SpellsScript acc list s → Lean (printed_words s) list
-script_lean k acc list s some h = record {
+script_lean : ScriptsShort → (acc : Bool) (list : Words) (s : Scripted) → SpellsScript acc list s → Lean (printed_words s) list
+script_lean k acc list s h = record {
   bound = λ more other n. record {
-    bound = λ last. omega (arith, k.script acc list s last other (All-from_recursion (λ (w : List ℕ). 0 < length w) list some) h, (same_on (printed_words s) more other n).bound last);
+    bound = λ last. omega (arith, k.script acc list s last other h, (same_on (printed_words s) more other n).bound last);
   };
 }
 
-body_lean : ScriptsShort → (picks : ℕ) (list : Words) (s : Scripted) → Somes list → SpellsBody picks list s → Lean (printed_words s) list
-body_lean k picks list s some h = record {
+body_lean : ScriptsShort → (picks : ℕ) (list : Words) (s : Scripted) → SpellsBody picks list s → Lean (printed_words s) list
+body_lean k picks list s h = record {
   bound = λ more other n. record {
-    bound = λ last. omega (arith, k.body picks list s last other (All-from_recursion (λ (w : List ℕ). 0 < length w) list some) h, (same_on (printed_words s) more other n).bound last);
+    bound = λ last. omega (arith, k.body picks list s last other h, (same_on (printed_words s) more other n).bound last);
   };
 }
 
@@ -194,52 +174,51 @@ sets_lean [] (s ∷ sets) z = absurd z
 sets_lean (f ∷ forms) [] z = absurd z
 sets_lean (f ∷ forms) (s ∷ sets) z = (named_lean f.0 s.0 (value_words s.1) f.1 z.0.0 (value_lean f.1 s.1 z.0.1), sets_lean forms sets z.1)
 
-part_lean : ScriptsShort → (f : PartForm) (q : Part) → Somes (spelled_part f) → SaysPart f q → Lean (spelled_part (part_form q)) (spelled_part f)
-part_lean k f q some s =
+part_lean : ScriptsShort → (f : PartForm) (q : Part) → SaysPart f q → Lean (spelled_part (part_form q)) (spelled_part f)
+part_lean k f q s =
     both_lean (printed_words q.0) f.0 (codes "among" ∷ with_commas q.1) (codes "among" ∷ with_commas f.1)
-    (script_lean k false f.0 q.0 (somes_first f.0 (codes "among" ∷ with_commas f.1) some) s.0)
+    (script_lean k false f.0 q.0 s.0)
     (subst (λ (ns : List (List ℕ)). Lean (codes "among" ∷ with_commas ns) (codes "among" ∷ with_commas f.1)) s.1 (same_lean (codes "among" ∷ with_commas f.1)))
 
-pieces_lean : ScriptsShort → (n : ℕ) (forms : List PartForm) (parts : List Part) (over : Option Words) (body : Option Scripted) → AllByRecursion Somes (pieces_of forms over) → AllZip SaysPart forms parts → SaysBody n over body → AllZip Lean (pieces_of (map part_form parts) (option_map printed_words body)) (pieces_of forms over)
-pieces_lean k n [] [] None None some z b = tt
-pieces_lean k n [] [] (Some list) (Some s) some z b = (body_lean k (min n SELECTORS) list s some.0 b, tt)
-pieces_lean k n (f ∷ forms) (q ∷ parts) None None some z b = (part_lean k f q some.0 z.0, pieces_lean k n forms parts None None some.1 z.1 b)
-pieces_lean k n (f ∷ forms) (q ∷ parts) (Some list) (Some s) some z b = (part_lean k f q some.0 z.0, pieces_lean k n forms parts (Some list) (Some s) some.1 z.1 b)
-pieces_lean k n forms parts None (Some s) some z b = absurd b
-pieces_lean k n forms parts (Some list) None some z b = absurd b
-pieces_lean k n [] (q ∷ parts) None None some z b = absurd z
-pieces_lean k n [] (q ∷ parts) (Some list) (Some s) some z b = absurd z
-pieces_lean k n (f ∷ forms) [] None None some z b = absurd z
-pieces_lean k n (f ∷ forms) [] (Some list) (Some s) some z b = absurd z
+pieces_lean : ScriptsShort → (n : ℕ) (forms : List PartForm) (parts : List Part) (over : Option Words) (body : Option Scripted) → AllZip SaysPart forms parts → SaysBody n over body → AllZip Lean (pieces_of (map part_form parts) (option_map printed_words body)) (pieces_of forms over)
+pieces_lean k n [] [] None None z b = tt
+pieces_lean k n [] [] (Some list) (Some s) z b = (body_lean k (min n SELECTORS) list s b, tt)
+pieces_lean k n (f ∷ forms) (q ∷ parts) None None z b = (part_lean k f q z.0, pieces_lean k n forms parts None None z.1 b)
+pieces_lean k n (f ∷ forms) (q ∷ parts) (Some list) (Some s) z b = (part_lean k f q z.0, pieces_lean k n forms parts (Some list) (Some s) z.1 b)
+pieces_lean k n forms parts None (Some s) z b = absurd b
+pieces_lean k n forms parts (Some list) None z b = absurd b
+pieces_lean k n [] (q ∷ parts) None None z b = absurd z
+pieces_lean k n [] (q ∷ parts) (Some list) (Some s) z b = absurd z
+pieces_lean k n (f ∷ forms) [] None None z b = absurd z
+pieces_lean k n (f ∷ forms) [] (Some list) (Some s) z b = absurd z
 
 head_lean : (keyword name : List ℕ) (a b : Words) → Lean a b → Lean (keyword ∷ name ∷ codes "=" ∷ a) (keyword ∷ name ∷ codes "=" ∷ b)
 head_lean keyword name a b h = word_lean keyword (name ∷ codes "=" ∷ a) (name ∷ codes "=" ∷ b) (named_lean name name a b refl h)
 
-by_form : ScriptsShort → (f : Form) (line : Line) → Somes (spelled f) → Says f line → Lean (canonical_words line) (spelled f)
-by_form k form.Nothing line some s = subst (λ (l : Line). Lean (canonical_words l) []) (sym s) (same_lean [])
-by_form k (form.Source name start) line some s =
+by_form : ScriptsShort → (f : Form) (line : Line) → Says f line → Lean (canonical_words line) (spelled f)
+by_form k form.Nothing line s = subst (λ (l : Line). Lean (canonical_words l) []) (sym s) (same_lean [])
+by_form k (form.Source name start) line s =
     subst (λ (l : Line). Lean (canonical_words l) (codes "source" ∷ name ∷ codes "=" ∷ start)) (sym s.2) (head_lean (codes "source") name (value_words s.0) start (value_lean start s.0 s.1))
-by_form k (form.Signal name list) line some s =
-    subst (λ (l : Line). Lean (canonical_words l) (codes "signal" ∷ name ∷ codes "=" ∷ list)) (sym s.2) (head_lean (codes "signal") name (printed_words s.0) list (script_lean k false list s.0 some.1.1.1 s.1))
-by_form k (form.Fold name start list) line some s =
-    let rest = somes_last start (codes ":" ∷ list) some.1.1.1 in
+by_form k (form.Signal name list) line s =
+    subst (λ (l : Line). Lean (canonical_words l) (codes "signal" ∷ name ∷ codes "=" ∷ list)) (sym s.2) (head_lean (codes "signal") name (printed_words s.0) list (script_lean k false list s.0 s.1))
+by_form k (form.Fold name start list) line s =
     subst (λ (l : Line). Lean (canonical_words l) (codes "fold" ∷ name ∷ codes "=" ∷ (start ++ codes ":" ∷ list))) (sym s.4)
     (head_lean (codes "fold") name (value_words s.0 ++ codes ":" ∷ printed_words s.1) (start ++ codes ":" ∷ list)
-    (both_lean (value_words s.0) start (codes ":" ∷ printed_words s.1) (codes ":" ∷ list) (value_lean start s.0 s.2) (word_lean (codes ":") (printed_words s.1) list (script_lean k true list s.1 rest.1 s.3))))
-by_form k (form.Choose name forms over) line some s =
+    (both_lean (value_words s.0) start (codes ":" ∷ printed_words s.1) (codes ":" ∷ list) (value_lean start s.0 s.2) (word_lean (codes ":") (printed_words s.1) list (script_lean k true list s.1 s.3))))
+by_form k (form.Choose name forms over) line s =
     let new = pieces_of (map part_form s.0) (option_map printed_words s.1) in
     let old = pieces_of forms over in
     subst (λ (l : Line). Lean (canonical_words l) (codes "choose" ∷ name ∷ codes "=" ∷ separated (codes ":") old)) (sym s.4)
     (head_lean (codes "choose") name (separated (codes ":") new) (separated (codes ":") old)
-    (separated_lean (codes ":") new old (pieces_lean k (length forms) forms s.0 over s.1 (somes_parts (codes ":") old some.1.1.1) s.2 s.3)))
-by_form k form.Thread line some s = subst (λ (l : Line). Lean (canonical_words l) (codes "thread" ∷ [])) (sym s) (same_lean (codes "thread" ∷ []))
-by_form k (form.Fire forms looks) line some s =
+    (separated_lean (codes ":") new old (pieces_lean k (length forms) forms s.0 over s.1 s.2 s.3)))
+by_form k form.Thread line s = subst (λ (l : Line). Lean (canonical_words l) (codes "thread" ∷ [])) (sym s) (same_lean (codes "thread" ∷ []))
+by_form k (form.Fire forms looks) line s =
     let new = separated (codes ",") (map spelled_set (map set_form s.0)) in
     let old = separated (codes ",") (map spelled_set forms) in
     subst (λ (l : Line). Lean (canonical_words l) (codes "fire" ∷ (old ++ spelled_looks looks))) (sym s.2)
     (word_lean (codes "fire") (new ++ spelled_looks looks) (old ++ spelled_looks looks)
     (both_lean new old (spelled_looks looks) (spelled_looks looks) (separated_lean (codes ",") (map spelled_set (map set_form s.0)) (map spelled_set forms) (sets_lean forms s.0 s.1)) (same_lean (spelled_looks looks))))
-by_form k (form.Read looks) line some s = subst (λ (l : Line). Lean (canonical_words l) (codes "read" ∷ with_commas looks)) (sym s) (same_lean (codes "read" ∷ with_commas looks))
+by_form k (form.Read looks) line s = subst (λ (l : Line). Lean (canonical_words l) (codes "read" ∷ with_commas looks)) (sym s) (same_lean (codes "read" ∷ with_commas looks))
 
 no_longer : (a b : Words) → Lean a b → length (joined a) ≤ length (joined b)
 no_longer a b h =
@@ -262,8 +241,7 @@ said_short : (line : List ℕ) → length (said line) ≤ length line
 said_short line = omega (arith, return_short line, comment_short (without_return line))
 
 -- the canonical text is no longer than a line that says the same
-pub line_short : ScriptsShort → ((text : List ℕ) → All (λ word. 0 < length word) (words text)) → ((text : List ℕ) → length (joined (words text)) ≤ length text) → (text : List ℕ) (line : Line) → IsLine (line_words text) line → length (line_text line) ≤ length text
-line_short k some short text line l =
-    let each = recursion_from_All (λ (w : List ℕ). 0 < length w) (words (said text)) (some (said text)) in
-    let lean = by_form k l.f line (subst Somes l.fits.same each) l.says in
+pub line_short : ScriptsShort → ((text : List ℕ) → length (joined (words text)) ≤ length text) → (text : List ℕ) (line : Line) → IsLine (line_words text) line → length (line_text line) ≤ length text
+line_short k short text line l =
+    let lean = by_form k l.f line l.says in
     omega (arith, no_longer (canonical_words line) (spelled l.f) lean, ap (λ ws. length (joined ws)) l.fits.same, short (said text), said_short text)

@@ -1,14 +1,10 @@
 -- The value that words spell: `true`, `false`, or a number of 64 bits with or without one minus before it.
-use Rattle.std.specs.Prelude.{ℕ, ◌^◌, pos, neg_ℤ, Bool, true, false, ◌&&◌, nat_lt, nat_le, if◌then◌else◌, List, [], ◌∷◌, length, codes, Option, Some, None}
-use Rattle.std.specs.List.{list_all}
+use Rattle.std.specs.Prelude.{ℕ, ◌^◌, pos, neg_ℤ, true, false, ◌&&◌, nat_lt, nat_le, if◌then◌else◌, List, [], ◌∷◌, codes, Option, Some, None}
 use Rattle.std.specs.Str.{bytes_eq}
-use Rattle.std.specs.Char.{is_ascii_digit}
 use Rattle.script_tree.specs.declared.value.Value.{Value}
 use Rattle.script_tree.specs.declared.value.Value.TheVariants.{Int, Bool as Truth}
 use Rattle.expr_script.specs.Words.{value}
-
-abbrev pub is_digits : List ℕ → Bool
-is_digits word = nat_lt 0 (length word) && list_all is_ascii_digit word
+pub use Rattle.expr_script.specs.Words.{is_digits}
 
 -- a number without a minus is at most 9223372036854775807
 abbrev pub plain : List ℕ → Option Value

@@ -83,7 +83,7 @@ all_kept most kept all e h = by_case (cases_lt most (length all))
     by_case (inl many) = absurd (omega (arith, ap length e, length_front most all (omega arith)))
     by_case (inr few) = e ∙ take_whole most all few
 
-not_more : (most n : ℕ) → n ≤ most → nat_lt most n ≡ false
+pub not_more : (most n : ℕ) → n ≤ most → nat_lt most n ≡ false
 not_more most n h = grind (arith, nat_tests)
 
 is_more : (most n : ℕ) → most < n → nat_lt most n ≡ true

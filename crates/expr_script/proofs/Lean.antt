@@ -13,7 +13,7 @@ use Rattle.script_grammar.specs.declared.token.Token.{Token}
 use Rattle.script_grammar.specs.declared.token.Token.TheVariants.{Plain, Stray}
 use Rattle.expr_script.specs.declared.atoms.Atoms.{Atoms}
 use Rattle.expr_script.specs.declared.atoms.Atoms.TheVariants.{Script, Body}
-use Rattle.expr_script.specs.Words.{value, number, place_of, name_token, look_up, short_signs, long_signs, script_words, short_sign, sign_token, fixed_token, other_token, token}
+use Rattle.expr_script.specs.Words.{is_digits, value, number, place_of, name_token, look_up, short_signs, long_signs, script_words, short_sign, sign_token, fixed_token, other_token, token}
 use Rattle.expr_script.specs.Cut.{begins_word}
 use Rattle.expr_script.specs.Joined.{between, behind}
 use Rattle.expr_script.specs.Tokens.{tokens_among}
@@ -108,7 +108,7 @@ pub digits_begin : (ds : List ℕ) → list_all is_ascii_digit ds ≡ true → 0
 digits_begin [] h some = absurd (omega (arith, some))
 digits_begin (c ∷ cs) h some = digit_word c (and_left (is_ascii_digit c) (list_all is_ascii_digit cs) h)
 
-below : (m n : ℕ) → nat_lt m n ≡ true → m < n
+pub below : (m n : ℕ) → nat_lt m n ≡ true → m < n
 below m n h = grind (arith, nat_tests)
 
 -- what is lean where it isn't stray
@@ -122,8 +122,10 @@ pick_lean names w false t u p q = q refl
 lean_of : (names : List (List ℕ)) (w : List ℕ) (t : Token) → Exact names w t → LeanToken names w t
 lean_of names w t e = record { lean = λ s. exact_lean names w t (e.same s) }
 
-number_lean : (names : List (List ℕ)) (w : List ℕ) → 0 < length w → list_all is_ascii_digit w ≡ true → LeanToken names w (number w)
-number_lean names w some d =
+number_lean : (names : List (List ℕ)) (w : List ℕ) → is_digits w ≡ true → LeanToken names w (number w)
+number_lean names w h =
+    let some : 0 < length w = below 0 (length w) (and_left (nat_lt 0 (length w)) (list_all is_ascii_digit w) h) in
+    let d : list_all is_ascii_digit w ≡ true = and_right (nat_lt 0 (length w)) (list_all is_ascii_digit w) h in
     pick_lean names w (nat_lt (value 0 w) (2 ^ 63)) (Plain (word.Digits (pos (value 0 w)))) Stray
     (λ h. let small : value 0 w < 2 ^ 63 = below (value 0 w) (2 ^ 63) h in
     record {
@@ -134,10 +136,10 @@ number_lean names w some d =
     })
     (λ _. record { lean = λ s. absurd (s refl) })
 
-token_lean : (atoms : Atoms) (names : List (List ℕ)) (w : List ℕ) → 0 < length w → IsThere atoms names w → LeanToken names w (token atoms names w)
-token_lean atoms names w some h =
-    pick_lean names w (list_all is_ascii_digit w) (number w) (if is_name w then name_token atoms names w else other_token atoms w)
-    (λ d. number_lean names w some d)
+token_lean : (atoms : Atoms) (names : List (List ℕ)) (w : List ℕ) → IsThere atoms names w → LeanToken names w (token atoms names w)
+token_lean atoms names w h =
+    pick_lean names w (is_digits w) (number w) (if is_name w then name_token atoms names w else other_token atoms w)
+    (λ d. number_lean names w d)
     (λ _. pick_lean names w (is_name w) (name_token atoms names w) (other_token atoms w)
     (λ n. lean_of names w (name_token atoms names w) (name_exact atoms names w n h))
     (λ _. lean_of names w (other_token atoms w) (other_exact atoms names w)))
@@ -155,15 +157,15 @@ between_alike : (last other v w : List ℕ) → begins_word last ≡ begins_word
 between_alike last other v w e f = ap (λ b. length (if b && begins_word v then codes " " else [])) e ∙ ap (λ b. length (if begins_word other && b then codes " " else [])) f
 
 -- the tokens of words are written in no more bytes than the words
-pub words_lean : (atoms : Atoms) (names ws more : List (List ℕ)) (last other : List ℕ) → AllByRecursion (λ w. 0 < length w) ws → AllByRecursion (IsThere atoms names) ws → AllByRecursion Stands (tokens_among atoms names ws) → begins_word last ≡ begins_word other → length (behind last (map (token_text names) (tokens_among atoms names ws) ++ more)) ≤ length (behind other (ws ++ more))
-words_lean atoms names [] more last other some there stands e = omega (arith, behind_alike last other more e)
-words_lean atoms names (w ∷ ws) more last other some there stands e =
-    let l = (token_lean atoms names w some.0 there.0).lean stands.0 in
+pub words_lean : (atoms : Atoms) (names ws more : List (List ℕ)) (last other : List ℕ) → AllByRecursion (IsThere atoms names) ws → AllByRecursion Stands (tokens_among atoms names ws) → begins_word last ≡ begins_word other → length (behind last (map (token_text names) (tokens_among atoms names ws) ++ more)) ≤ length (behind other (ws ++ more))
+words_lean atoms names [] more last other there stands e = omega (arith, behind_alike last other more e)
+words_lean atoms names (w ∷ ws) more last other there stands e =
+    let l = (token_lean atoms names w there.0).lean stands.0 in
     omega (
       arith,
       l.short,
       between_alike last other (token_text names (token atoms names w)) w e l.kind,
-      words_lean atoms names ws more (token_text names (token atoms names w)) w some.1 there.1 stands.1 l.kind,
+      words_lean atoms names ws more (token_text names (token atoms names w)) w there.1 stands.1 l.kind,
       length_behind last (token_text names (token atoms names w)) (map (token_text names) (tokens_among atoms names ws) ++ more),
       length_behind other w (ws ++ more),
     )

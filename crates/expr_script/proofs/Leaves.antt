@@ -2,7 +2,6 @@
 use Rattle.std.proofs.Common.{◌≡◌, ℕ, ◌^◌, Bool, true, false, List, [], ◌∷◌, refl, ap, ◌∙◌}
 use Rattle.std.specs.Prelude.{◌&&◌, if◌then◌else◌, nat_lt, pos, codes}
 use Rattle.std.specs.Str.{bytes_eq}
-use Rattle.std.specs.Char.{is_ascii_digit}
 use Rattle.std.specs.List.{list_all}
 use Rattle.script_tree.specs.Tree.{Tree, Number, Constant, Pick, Acc}
 use Rattle.script_tree.specs.Names.{is_name}
@@ -14,7 +13,7 @@ use Rattle.script_grammar.specs.Words.{all_words}
 use Rattle.script_grammar.specs.Grammar.{word_tree}
 use Rattle.expr_script.specs.declared.atoms.Atoms.{Atoms}
 use Rattle.expr_script.specs.declared.atoms.Atoms.TheVariants.{Script, Body}
-use Rattle.expr_script.specs.Words.{value, number, name_token, look_up, short_signs, long_signs, script_words, short_sign, sign_token, fixed_token, pick_token, other_token, token as token_of}
+use Rattle.expr_script.specs.Words.{is_digits, value, number, name_token, look_up, short_signs, long_signs, script_words, short_sign, sign_token, fixed_token, pick_token, other_token, token as token_of}
 
 -- whether a token's leaf, if it has one, passes a test
 abbrev pub passes : (Tree → Bool) → Token → Bool
@@ -28,7 +27,7 @@ pub and_left : (a b : Bool) → (a && b) ≡ true → a ≡ true
 and_left true b h = refl
 and_left false b h = h
 
-and_right : (a b : Bool) → (a && b) ≡ true → b ≡ true
+pub and_right : (a b : Bool) → (a && b) ≡ true → b ≡ true
 and_right true b h = h
 and_right false b h = let e : false ≡ true = h in cc
 
@@ -99,6 +98,6 @@ number_passes test w f =
 
 pub token_passes : (test : Tree → Bool) (atoms : Atoms) (known : List (List ℕ)) (w : List ℕ) → PassesAtoms test atoms → (is_name w ≡ true → Passes test (name_token atoms known w)) → Passes test (token_of atoms known w)
 token_passes test atoms known w h named =
-    either test (list_all is_ascii_digit w) (number w) (if is_name w then name_token atoms known w else other_token atoms w)
+    either test (is_digits w) (number w) (if is_name w then name_token atoms known w else other_token atoms w)
     (λ _. number_passes test w h.numbers)
     (λ _. either test (is_name w) (name_token atoms known w) (other_token atoms w) named (λ _. h.others w))

@@ -10,7 +10,7 @@ use Rattle.std.proofs.lemmas.Grind.{common_steps}
 use Rattle.script_tree.specs.declared.limits.TheConstants.{INPUTS, LEVELS}
 use Rattle.script_tree.specs.Names.{is_name}
 use Rattle.script_tree.specs.Tree.{Tree, Input}
-use Rattle.script_tree.specs.Scripts.{Scripted, WellFormed, all_leaves, input_below, pick_below, is_not_acc, is_literal}
+use Rattle.script_tree.specs.Scripts.{Scripted, WellFormed, all_leaves, input_below, pick_below, is_not_acc, is_literal, standing, different_names}
 use Rattle.script_grammar.specs.declared.token.Token.{Token}
 use Rattle.script_grammar.specs.Grammar.{word_tree, Spells, BeginsWithin}
 use Rattle.script_grammar.specs.Words.{all_words}
@@ -21,6 +21,7 @@ use Rattle.expr_script.specs.Words.{place_of, name_token, token}
 use Rattle.expr_script.specs.Tokens.{with_name, script_names, names, inputs, tokens_among, tokens}
 use Rattle.expr_script.specs.Spelled.{HasAtoms, SpellsWith, SpellsTooMany}
 use Rattle.expr_script.proofs.Kept.{with_known, with_new, place_of-le, take_whole}
+use Rattle.expr_script.proofs.SameNames.{names_appear, none_standing}
 use Rattle.expr_script.proofs.Leaves.{Passes, PassesAtoms, and_both, and_left, script_passes, body_passes, token_passes, words_cons, HasLeaves}
 
 lt_step : (t : Bool) (p' l' p l : ℕ) → (p' < l' → p < l) → (if t then 0 else p' + 1) < suc l' → (if t then 0 else p + 1) < suc l
@@ -152,15 +153,21 @@ input_leaves atoms words tree s =
     s (input_below (length (names atoms words))) ∙
     (tokens_pass (input_below (length (names atoms words))) atoms (names atoms words) words (input_atoms (length (names atoms words)) atoms) (names_there atoms words))
 
+-- the names are the different ones that stand in the tree
+names_stand : (atoms : Atoms) (words : List (List ℕ)) (tree : Tree) → Spells (tokens_among atoms (names atoms words) words) tree → all_leaves (input_below (length (names atoms words))) tree ≡ true → names atoms words ≡ different_names (standing (names atoms words) tree)
+names_stand (Script acc) words tree s h = names_appear acc (script_names words) words tree (fold_there words []) s
+names_stand (Body picks) words tree s h = sym (ap different_names (none_standing [] tree h))
+
 -- where all names are kept, the names and the tree make a script
-pub well_formed : (atoms : Atoms) (words kept : List (List ℕ)) (more : Bool) (tree : Tree) → KeepsFirst INPUTS kept more (names atoms words) → more ≡ false → HasLeaves (tokens_among atoms kept words) tree → (kept ≡ names atoms words) × WellFormed kept tree
-well_formed atoms words kept more tree k m s =
+pub well_formed : (atoms : Atoms) (words kept : List (List ℕ)) (more : Bool) (tree : Tree) → KeepsFirst INPUTS kept more (names atoms words) → more ≡ false → Spells (tokens_among atoms kept words) tree → HasLeaves (tokens_among atoms kept words) tree → (kept ≡ names atoms words) × WellFormed kept tree
+well_formed atoms words kept more tree k m t s =
     let all : kept ≡ names atoms words = k.first ∙ take_whole INPUTS (names atoms words) (not_more INPUTS (length (names atoms words)) more k.rest m) in
     let spelled : HasLeaves (tokens_among atoms (names atoms words) words) tree = subst (λ (l : List (List ℕ)). HasLeaves (tokens_among atoms l words) tree) all s in (
       all,
       subst (λ (l : List (List ℕ)). WellFormed l tree) (sym all) (record {
         few = subst (λ (l : List (List ℕ)). length l ≤ INPUTS) (sym k.first ∙ all) (length_take INPUTS (names atoms words));
         named = all_named atoms words;
+        appear = names_stand atoms words tree (subst (λ (l : List (List ℕ)). Spells (tokens_among atoms l words) tree) all t) (input_leaves atoms words tree spelled);
         inputs = input_leaves atoms words tree spelled;
         numbers = leaves_of is_literal atoms (names atoms words) words tree (literal_atoms atoms) (λ i. refl) spelled;
       }),
@@ -211,7 +218,8 @@ spells_many atoms words kept more read tree r m =
 
 pub new_script : (atoms : Atoms) (words kept : List (List ℕ)) (more : Bool) (read : List Token) (tree : Tree) → WasRead atoms words kept more read tree → more ≡ false → (kept ≡ names atoms words) × WellFormed kept tree
 new_script atoms words kept more read tree r m =
-    well_formed atoms words kept more tree r.keeps m (subst (λ (l : List Token). HasLeaves l tree) r.tokens_are r.leaves)
+    well_formed atoms words kept more tree r.keeps m
+    (subst (λ (l : List Token). Spells l tree) r.tokens_are r.spells) (subst (λ (l : List Token). HasLeaves l tree) r.tokens_are r.leaves)
 
 pub spells_script : (atoms : Atoms) (words kept : List (List ℕ)) (more : Bool) (read : List Token) (tree : Tree) (script : Scripted) → WasRead atoms words kept more read tree → more ≡ false → script.names ≡ kept → script.tree ≡ tree → SpellsWith atoms words script × HasAtoms atoms script
 spells_script atoms words kept more read tree script r m n t =

@@ -1,13 +1,15 @@
 -- The names among the words of a script are those of its tree, in the same order.
 use Rattle.std.proofs.Common.{◌≡◌, ℕ, zero, suc, ◌+◌, ◌^◌, ◌<◌, ◌≤◌, Bool, true, false, List, [], ◌∷◌, ◌++◌, length, refl, sym, ap, ◌∙◌, subst, inl, inr, arith, append_assoc}
-use Rattle.std.specs.Prelude.{◌&&◌, ◌⊎◌, if◌then◌else◌, nat_lt, pos, fold, codes, slice_get, unwrap_or}
-use Rattle.std.specs.List.{list_all, AllByRecursion}
+use Rattle.std.specs.Prelude.{◌&&◌, ◌||◌, ◌⊎◌, if◌then◌else◌, nat_lt, pos, fold, codes, slice_get, unwrap_or}
+use Rattle.std.specs.List.{list_all, list_any, AllByRecursion}
+use Rattle.std.proofs.lemmas.Bool.Decides.{nat_tests}
 use Rattle.std.specs.Str.{bytes_eq}
 use Rattle.std.specs.Char.{is_ascii_digit}
 use Rattle.std.proofs.lemmas.Bool.{cases_lt}
 use Rattle.std.proofs.lemmas.Slice.Eq.{bytes_eq-Decides}
 use Rattle.script_tree.specs.Names.{is_name}
-use Rattle.script_tree.specs.Tree.{Tree, Input, Apply, Join, If}
+use Rattle.script_tree.specs.Tree.{Tree, Number, Constant, Input, Pick, Acc, Apply, Join, If}
+use Rattle.script_tree.specs.Scripts.{all_leaves, input_below, standing, different_names_from, different_names}
 use Rattle.script_tree.specs.declared.expr.Unary.TheVariants.{Negate, Not}
 use Rattle.script_tree.specs.declared.expr.Unary.{Unary}
 use Rattle.script_tree.specs.declared.expr.Binary.{Binary}
@@ -17,11 +19,11 @@ use Rattle.script_grammar.specs.declared.token.Token.{Token}
 use Rattle.script_grammar.specs.declared.token.Token.TheVariants as token
 use Rattle.script_grammar.specs.Grammar.{Written, Plain, Inside, Before, Between, Choice, Spells, sign, mark, tokens, tree}
 use Rattle.expr_script.specs.declared.atoms.Atoms.TheVariants.{Script}
-use Rattle.expr_script.specs.Words.{value, number, place_of, name_token, look_up, short_signs, long_signs, script_words, short_sign, sign_token, fixed_token, other_token, token as token_of}
+use Rattle.expr_script.specs.Words.{is_digits, value, number, place_of, name_token, look_up, short_signs, long_signs, script_words, short_sign, sign_token, fixed_token, other_token, token as token_of}
 use Rattle.expr_script.specs.Tokens.{with_name, script_names, tokens_among}
 use Rattle.expr_script.proofs.Kept.{with_known, with_new, with_other, place_of-le}
-use Rattle.expr_script.proofs.Lean.{IsThere, name_at}
-use Rattle.expr_script.proofs.TokenBack.{called, named, digits_no_name}
+use Rattle.expr_script.proofs.Lean.{IsThere, name_at, below}
+use Rattle.expr_script.proofs.TokenBack.{called, named, digits_no_name, name_is}
 
 -- the lists of all items, one behind the other
 unfoldable pub flat : {X : Type 0} → (X → List (List ℕ)) → List X → List (List ℕ)
@@ -42,14 +44,6 @@ fold_named known (w ∷ ws) = by_test (is_name w) refl (fold_named (with_name kn
     by_test : (b : Bool) → is_name w ≡ b → fold with_name (with_name known w) ws ≡ fold with_name (with_name known w) (flat named ws) → fold with_name (with_name known w) ws ≡ fold with_name known ((if b then w ∷ [] else []) ++ flat named ws)
     by_test true e f = f
     by_test false e f = f ∙ ap (λ l. fold with_name l (flat named ws)) (with_other known w e)
-
--- the names that a tree's inputs are
-pub tree_called : List (List ℕ) → Tree → List (List ℕ)
-tree_called names (Input i) = unwrap_or (slice_get names i) [] ∷ []
-tree_called names (Apply op x) = tree_called names x
-tree_called names (Join op x y) = tree_called names x ++ tree_called names y
-tree_called names (If c x y) = tree_called names c ++ (tree_called names x ++ tree_called names y)
-tree_called names leaf = []
 
 sign_calls : (names : List (List ℕ)) (op : Binary) → called names (sign op) ≡ []
 sign_calls names OrElse = refl
@@ -75,8 +69,8 @@ append-nil' : (xs : List (List ℕ)) → xs ++ [] ≡ xs
 append-nil' [] = refl
 append-nil' (x ∷ xs) = ap (λ l. x ∷ l) (append-nil' xs)
 
-written_calls : (names : List (List ℕ)) (w : Written) → flat (called names) (tokens w) ≡ tree_called names (tree w)
-unfolding flat tree_called
+written_calls : (names : List (List ℕ)) (w : Written) → flat (called names) (tokens w) ≡ standing names (tree w)
+unfolding flat
 written_calls names (Plain (word.Digits z)) = refl
 written_calls names (Plain word.Yes) = refl
 written_calls names (Plain word.No) = refl
@@ -89,17 +83,17 @@ written_calls names (Between op a b) =
     flat_on (called names) (tokens a) (sign op ∷ tokens b)
     ∙ ap (λ l. flat (called names) (tokens a) ++ (l ++ flat (called names) (tokens b))) (sign_calls names op)
     ∙ ap (λ l. l ++ flat (called names) (tokens b)) (written_calls names a)
-    ∙ ap (λ l. tree_called names (tree a) ++ l) (written_calls names b)
+    ∙ ap (λ l. standing names (tree a) ++ l) (written_calls names b)
 written_calls names (Choice c a b) =
     flat_on (called names) (tokens c) (token.ThenWord ∷ (tokens a ++ token.ElseWord ∷ tokens b))
     ∙ ap (λ l. l ++ flat (called names) (tokens a ++ token.ElseWord ∷ tokens b)) (written_calls names c)
-    ∙ ap (λ l. tree_called names (tree c) ++ l)
+    ∙ ap (λ l. standing names (tree c) ++ l)
     (flat_on (called names) (tokens a) (token.ElseWord ∷ tokens b)
     ∙ ap (λ l. l ++ flat (called names) (tokens b)) (written_calls names a)
-    ∙ ap (λ l. tree_called names (tree a) ++ l) (written_calls names b))
+    ∙ ap (λ l. standing names (tree a) ++ l) (written_calls names b))
 
-pub spelled_calls : (names : List (List ℕ)) (text : List Token) (t : Tree) → Spells text t → flat (called names) text ≡ tree_called names t
-spelled_calls names text t s = ap (flat (called names)) (sym s.same) ∙ written_calls names s.written ∙ ap (tree_called names) s.tree_is
+pub spelled_calls : (names : List (List ℕ)) (text : List Token) (t : Tree) → Spells text t → flat (called names) text ≡ standing names t
+spelled_calls names text t s = ap (flat (called names)) (sym s.same) ∙ written_calls names s.written ∙ ap (standing names) s.tree_is
 
 -- a token that calls no name
 record CallsNone (names : List (List ℕ)) (t : Token) : Type 0 where
@@ -125,9 +119,9 @@ number_calls : (names : List (List ℕ)) (w : List ℕ) → CallsNone names (num
 number_calls names w = either names (nat_lt (value 0 w) (2 ^ 63)) (token.Plain (word.Digits (pos (value 0 w)))) token.Stray (record { none = refl }) (record { none = refl })
 
 token_calls : (acc : Bool) (names : List (List ℕ)) (w : List ℕ) → IsThere (Script acc) names w → named w ≡ called names (token_of (Script acc) names w)
-token_calls acc names w h = by_tests (list_all is_ascii_digit w) refl (is_name w) refl
+token_calls acc names w h = by_tests (is_digits w) refl (is_name w) refl
   where
-    by_tests : (d : Bool) → list_all is_ascii_digit w ≡ d → (n : Bool) → is_name w ≡ n → (if n then w ∷ [] else []) ≡ called names (if d then number w else if n then name_token (Script acc) names w else other_token (Script acc) w)
+    by_tests : (d : Bool) → is_digits w ≡ d → (n : Bool) → is_name w ≡ n → (if n then w ∷ [] else []) ≡ called names (if d then number w else if n then name_token (Script acc) names w else other_token (Script acc) w)
     by_tests true d true n = let e : true ≡ false = sym n ∙ digits_no_name w d in cc
     by_tests true d false n = sym (number_calls names w).none
     by_tests false d true n = ap (λ v. v ∷ []) (sym (name_at names w (h n)))
@@ -202,3 +196,134 @@ fold_distinct known (w ∷ ws) d = fold_distinct (with_name known w) ws (with_di
 pub distinct_names : (ws : List (List ℕ)) (i : ℕ) → i < length (script_names ws) → place_of (script_names ws) (unwrap_or (slice_get (script_names ws) i) []) ≡ i
 unfolding Distinct
 distinct_names ws = fold_distinct [] ws (λ i h. absurd (omega (arith, h)))
+
+not_below : (m n : ℕ) → nat_lt m n ≡ false → n ≤ m
+not_below m n h = grind (arith, nat_tests)
+
+-- the names that were seen are the known ones
+AlikeSeen : List (List ℕ) → List (List ℕ) → Type 0
+AlikeSeen known seen = (v : List ℕ) → list_any (bytes_eq v) seen ≡ nat_lt (place_of known v) (length known)
+
+bytes_eq-sym : (v w : List ℕ) → bytes_eq v w ≡ bytes_eq w v
+bytes_eq-sym v w = by_tests (bytes_eq v w) refl (bytes_eq w v) refl
+  where
+    by_tests : (a : Bool) → bytes_eq v w ≡ a → (b : Bool) → bytes_eq w v ≡ b → a ≡ b
+    by_tests true e true f = refl
+    by_tests true e false f = sym ((bytes_eq-Decides w v).1 (sym ((bytes_eq-Decides v w).0 e))) ∙ f
+    by_tests false e true f = sym e ∙ (bytes_eq-Decides v w).1 (sym ((bytes_eq-Decides w v).0 f))
+    by_tests false e false f = refl
+
+lt_next : (p l : ℕ) → nat_lt (p + 1) (suc l) ≡ nat_lt p l
+lt_next p l = grind (arith, nat_tests)
+
+zero_lt : (l : ℕ) → nat_lt 0 (suc l) ≡ true
+zero_lt l = grind (arith, nat_tests)
+
+there_push : (known : List (List ℕ)) (w v : List ℕ) → nat_lt (place_of (known ++ w ∷ []) v) (length (known ++ w ∷ [])) ≡ (bytes_eq w v || nat_lt (place_of known v) (length known))
+there_push [] w v = by_test (bytes_eq w v)
+  where
+    by_test : (b : Bool) → nat_lt (if b then 0 else 0 + 1) 1 ≡ (b || false)
+    by_test true = refl
+    by_test false = refl
+there_push (n ∷ known) w v = by_test (bytes_eq n v) (there_push known w v)
+  where
+    by_true : (b : Bool) → nat_lt 0 (suc (length (known ++ w ∷ []))) ≡ (b || nat_lt 0 (suc (length known)))
+    by_true true = zero_lt (length (known ++ w ∷ []))
+    by_true false = zero_lt (length (known ++ w ∷ [])) ∙ sym (zero_lt (length known))
+
+    by_test : (b : Bool) → nat_lt (place_of (known ++ w ∷ []) v) (length (known ++ w ∷ [])) ≡ (bytes_eq w v || nat_lt (place_of known v) (length known)) → nat_lt (if b then 0 else place_of (known ++ w ∷ []) v + 1) (suc (length (known ++ w ∷ []))) ≡ (bytes_eq w v || nat_lt (if b then 0 else place_of known v + 1) (suc (length known)))
+    by_test true rest = by_true (bytes_eq w v)
+    by_test false rest =
+        lt_next (place_of (known ++ w ∷ []) v) (length (known ++ w ∷ []))
+        ∙ rest
+        ∙ ap (λ b. bytes_eq w v || b) (sym (lt_next (place_of known v) (length known)))
+
+seen_push : (known seen : List (List ℕ)) (w : List ℕ) → AlikeSeen known seen → AlikeSeen (known ++ w ∷ []) (w ∷ seen)
+unfolding AlikeSeen
+seen_push known seen w h v = ap (λ b. b || list_any (bytes_eq v) seen) (bytes_eq-sym v w) ∙ ap (λ b. bytes_eq w v || b) (h v) ∙ sym (there_push known w v)
+
+-- names that come one after the other are the different ones
+fold_different : (known seen ws : List (List ℕ)) → AlikeSeen known seen → AllByRecursion (λ w. is_name w ≡ true) ws → fold with_name known ws ≡ known ++ different_names_from seen ws
+unfolding AlikeSeen
+fold_different known seen [] h n = sym (append-nil' known)
+fold_different known seen (w ∷ ws) h n = by_test (list_any (bytes_eq w) seen) refl (fold_different known seen ws h n.1) (fold_different (known ++ w ∷ []) (w ∷ seen) ws (seen_push known seen w h) n.1)
+  where
+    by_test : (b : Bool) → list_any (bytes_eq w) seen ≡ b → fold with_name known ws ≡ known ++ different_names_from seen ws → fold with_name (known ++ w ∷ []) ws ≡ (known ++ w ∷ []) ++ different_names_from (w ∷ seen) ws → fold with_name (with_name known w) ws ≡ known ++ (if b then different_names_from seen ws else w ∷ different_names_from (w ∷ seen) ws)
+    by_test true e old new =
+        ap (λ l. fold with_name l ws) (with_known known w (below (place_of known w) (length known) (sym (h w) ∙ e)))
+        ∙ old
+    by_test false e old new =
+        let at_end : place_of known w ≡ length known = omega (arith, not_below (place_of known w) (length known) (sym (h w) ∙ e), place_of-le known w) in
+        ap (λ l. fold with_name l ws) (with_new known w n.0 at_end)
+        ∙ new
+        ∙ append_assoc known (w ∷ []) (different_names_from (w ∷ seen) ws)
+
+-- the names among words are the different ones of those that are names
+pub names_different : (names : List (List ℕ)) → AllByRecursion (λ w. is_name w ≡ true) names → script_names names ≡ different_names names
+unfolding AlikeSeen
+names_different names h = fold_different [] [] names (λ v. refl) h
+
+all_on : (xs ys : List (List ℕ)) → AllByRecursion (λ w. is_name w ≡ true) xs → AllByRecursion (λ w. is_name w ≡ true) ys → AllByRecursion (λ w. is_name w ≡ true) (xs ++ ys)
+all_on [] ys a b = b
+all_on (x ∷ xs) ys a b = (a.0, all_on xs ys a.1 b)
+
+and_left : (a b : Bool) → (a && b) ≡ true → a ≡ true
+and_left true b h = refl
+and_left false b h = h
+
+and_right : (a b : Bool) → (a && b) ≡ true → b ≡ true
+and_right true b h = h
+and_right false b h = let e : false ≡ true = h in cc
+
+-- what stands in a tree whose inputs are places of names
+pub standing_named : (names : List (List ℕ)) (t : Tree) → list_all is_name names ≡ true → all_leaves (input_below (length names)) t ≡ true → AllByRecursion (λ w. is_name w ≡ true) (standing names t)
+standing_named names (Number z) n h = tt
+standing_named names (Constant b) n h = tt
+standing_named names (Input i) n h = (name_is names i (below i (length names) h) n, tt)
+standing_named names (Pick i) n h = tt
+standing_named names Acc n h = tt
+standing_named names (Apply op x) n h = standing_named names x n h
+standing_named names (Join op x y) n h =
+    all_on (standing names x) (standing names y)
+    (standing_named names x n (and_left (all_leaves (input_below (length names)) x) (all_leaves (input_below (length names)) y) h))
+    (standing_named names y n (and_right (all_leaves (input_below (length names)) x) (all_leaves (input_below (length names)) y) h))
+standing_named names (If c x y) n h =
+    let test = input_below (length names) in
+    let rest = and_right (all_leaves test c) (all_leaves test x && all_leaves test y) h in
+    all_on (standing names c) (standing names x ++ standing names y)
+    (standing_named names c n (and_left (all_leaves test c) (all_leaves test x && all_leaves test y) h))
+    (all_on (standing names x) (standing names y)
+    (standing_named names x n (and_left (all_leaves test x) (all_leaves test y) rest))
+    (standing_named names y n (and_right (all_leaves test x) (all_leaves test y) rest)))
+
+-- nothing stands in a tree without inputs
+pub none_standing : (names : List (List ℕ)) (t : Tree) → all_leaves (input_below 0) t ≡ true → standing names t ≡ []
+none_standing names (Number z) h = refl
+none_standing names (Constant b) h = refl
+none_standing names (Input i) h = absurd (omega (arith, below i 0 h))
+none_standing names (Pick i) h = refl
+none_standing names Acc h = refl
+none_standing names (Apply op x) h = none_standing names x h
+none_standing names (Join op x y) h =
+    ap (λ l. l ++ standing names y) (none_standing names x (and_left (all_leaves (input_below 0) x) (all_leaves (input_below 0) y) h))
+    ∙ none_standing names y (and_right (all_leaves (input_below 0) x) (all_leaves (input_below 0) y) h)
+none_standing names (If c x y) h =
+    let rest = and_right (all_leaves (input_below 0) c) (all_leaves (input_below 0) x && all_leaves (input_below 0) y) h in
+    ap (λ l. l ++ (standing names x ++ standing names y)) (none_standing names c (and_left (all_leaves (input_below 0) c) (all_leaves (input_below 0) x && all_leaves (input_below 0) y) h))
+    ∙ ap (λ l. l ++ standing names y) (none_standing names x (and_left (all_leaves (input_below 0) x) (all_leaves (input_below 0) y) rest))
+    ∙ none_standing names y (and_right (all_leaves (input_below 0) x) (all_leaves (input_below 0) y) rest)
+
+named_all : (ws : List (List ℕ)) → AllByRecursion (λ w. is_name w ≡ true) (flat named ws)
+unfolding flat
+named_all [] = tt
+named_all (w ∷ ws) = by_test (is_name w) refl (named_all ws)
+  where
+    by_test : (b : Bool) → is_name w ≡ b → AllByRecursion (λ v. is_name v ≡ true) (flat named ws) → AllByRecursion (λ v. is_name v ≡ true) ((if b then w ∷ [] else []) ++ flat named ws)
+    by_test true e rest = (e, rest)
+    by_test false e rest = rest
+
+-- the names of words that spell a tree are the different ones that stand in it
+pub names_appear : (acc : Bool) (names ws : List (List ℕ)) (t : Tree) → AllByRecursion (IsThere (Script acc) names) ws → Spells (tokens_among (Script acc) names ws) t → script_names ws ≡ different_names (standing names t)
+names_appear acc names ws t there s =
+    fold_named [] ws ∙ names_different (flat named ws) (named_all ws)
+    ∙ ap different_names (words_call acc names ws there ∙ spelled_calls names (tokens_among (Script acc) names ws) t s)

@@ -21,7 +21,7 @@ use Rattle.script_grammar.specs.declared.token.Token.TheVariants.{Plain, Sign, M
 use Rattle.script_grammar.specs.Grammar.{word_tree, sign, mark}
 use Rattle.expr_script.specs.declared.atoms.Atoms.{Atoms}
 use Rattle.expr_script.specs.declared.atoms.Atoms.TheVariants.{Script, Body}
-use Rattle.expr_script.specs.Words.{number, place_of, name_token, fixed_token, other_token, token}
+use Rattle.expr_script.specs.Words.{is_digits, number, place_of, name_token, fixed_token, other_token, token}
 use Rattle.expr_script.specs.Pieces.{piece_len, sign_len}
 use Rattle.expr_script.specs.Cut.{begins_word, begins_blank}
 use Rattle.expr_script.specs.Joined.{IsWhole}
@@ -64,7 +64,7 @@ no_pick b t rest c e = ap (λ d. if b && d then t else rest) e ∙ ap (λ d. if 
 
 -- a word that is none of those of one kind alone
 record IsFixed (w : List ℕ) : Type 0 where
-  digits : list_all is_ascii_digit w ≡ false
+  digits : is_digits w ≡ false
   names : is_name w ≡ false
   acc : bytes_eq w (codes "acc") ≡ false
   pick1 : bytes_eq w (codes "pick1") ≡ false
@@ -80,7 +80,7 @@ other_fixed (Body k) w f =
     ∙ no_pick (nat_lt 2 k) (Plain (word.Pick 2)) _ (bytes_eq w (codes "pick3")) f.pick3
     ∙ no_pick (nat_lt 3 k) (Plain (word.Pick 3)) (fixed_token w) (bytes_eq w (codes "pick4")) f.pick4
 
-other_back : (atoms : Atoms) (names : List (List ℕ)) (w : List ℕ) → list_all is_ascii_digit w ≡ false → is_name w ≡ false → token atoms names w ≡ other_token atoms w
+other_back : (atoms : Atoms) (names : List (List ℕ)) (w : List ℕ) → is_digits w ≡ false → is_name w ≡ false → token atoms names w ≡ other_token atoms w
 other_back atoms names w d n =
     ap (λ b. if b then number w else if is_name w then name_token atoms names w else other_token atoms w) d
     ∙ ap (λ b. if b then name_token atoms names w else other_token atoms w) n
@@ -96,7 +96,7 @@ fixed atoms names t w e c f b i k = record {
   name = ap named e ∙ ap (λ b. if b then w ∷ [] else []) f.names ∙ sym c;
 }
 
-closed : (w : List ℕ) → list_all is_ascii_digit w ≡ false → is_name w ≡ false → bytes_eq w (codes "acc") ≡ false → bytes_eq w (codes "pick1") ≡ false → bytes_eq w (codes "pick2") ≡ false → bytes_eq w (codes "pick3") ≡ false → bytes_eq w (codes "pick4") ≡ false → IsFixed w
+closed : (w : List ℕ) → is_digits w ≡ false → is_name w ≡ false → bytes_eq w (codes "acc") ≡ false → bytes_eq w (codes "pick1") ≡ false → bytes_eq w (codes "pick2") ≡ false → bytes_eq w (codes "pick3") ≡ false → bytes_eq w (codes "pick4") ≡ false → IsFixed w
 closed w a b c d e f g = record { digits = a; names = b; acc = c; pick1 = d; pick2 = e; pick3 = f; pick4 = g }
 
 whole : (w : List ℕ) → 0 < length w → begins_blank w ≡ false → piece_len w ≡ length w → IsWhole w
@@ -161,14 +161,24 @@ pub digits_words : (ds : List ℕ) → list_all is_ascii_digit ds ≡ true → l
 digits_words [] h = refl
 digits_words (c ∷ cs) h = and_both (digit_word c (and_left (is_ascii_digit c) (list_all is_ascii_digit cs) h)) (digits_words cs (and_right (is_ascii_digit c) (list_all is_ascii_digit cs) h))
 
-pub digits_no_name : (ds : List ℕ) → list_all is_ascii_digit ds ≡ true → is_name ds ≡ false
-digits_no_name [] h = refl
-digits_no_name (c ∷ cs) h = ap (λ b. not b && (list_all is_word (c ∷ cs) && (nat_le (length (c ∷ cs)) NAME_BYTES && not (is_reserved (c ∷ cs))))) (and_left (is_ascii_digit c) (list_all is_ascii_digit cs) h)
+-- what digits alone have: one at least, and all are digits
+pub all_digits : (ds : List ℕ) → is_digits ds ≡ true → list_all is_ascii_digit ds ≡ true
+all_digits ds h = and_right (nat_lt 0 (length ds)) (list_all is_ascii_digit ds) h
 
-name_no_digits : (w : List ℕ) → is_name w ≡ true → list_all is_ascii_digit w ≡ false
-name_no_digits w h = by_test (list_all is_ascii_digit w) refl
+lt_true : (m n : ℕ) → m < n → nat_lt m n ≡ true
+lt_true m n h = grind (arith, nat_tests)
+
+pub are_digits : (ds : List ℕ) → 0 < length ds → list_all is_ascii_digit ds ≡ true → is_digits ds ≡ true
+are_digits ds s h = and_both (lt_true 0 (length ds) s) h
+
+pub digits_no_name : (ds : List ℕ) → is_digits ds ≡ true → is_name ds ≡ false
+digits_no_name [] h = refl
+digits_no_name (c ∷ cs) h = ap (λ b. not b && (list_all is_word (c ∷ cs) && (nat_le (length (c ∷ cs)) NAME_BYTES && not (is_reserved (c ∷ cs))))) (and_left (is_ascii_digit c) (list_all is_ascii_digit cs) (all_digits (c ∷ cs) h))
+
+name_no_digits : (w : List ℕ) → is_name w ≡ true → is_digits w ≡ false
+name_no_digits w h = by_test (is_digits w) refl
   where
-    by_test : (b : Bool) → list_all is_ascii_digit w ≡ b → b ≡ false
+    by_test : (b : Bool) → is_digits w ≡ b → b ≡ false
     by_test true e = let f : false ≡ true = sym (digits_no_name w e) ∙ h in cc
     by_test false e = refl
 
@@ -186,7 +196,7 @@ pub record KnownNames (names : List (List ℕ)) : Type 0 where
   pub named : list_all is_name names ≡ true
   pub distinct : (i : ℕ) → i < length names → place_of names (unwrap_or (slice_get names i) []) ≡ i
 
-name_is : (names : List (List ℕ)) (i : ℕ) → i < length names → list_all is_name names ≡ true → is_name (unwrap_or (slice_get names i) []) ≡ true
+pub name_is : (names : List (List ℕ)) (i : ℕ) → i < length names → list_all is_name names ≡ true → is_name (unwrap_or (slice_get names i) []) ≡ true
 name_is [] i h n = absurd (omega (arith, h))
 name_is (w ∷ names) zero h n = and_left (is_name w) (list_all is_name names) n
 name_is (w ∷ names) (suc i) h n = name_is names i (omega (arith, h)) (and_right (is_name w) (list_all is_name names) n)
@@ -223,8 +233,9 @@ reads_digits : (atoms : Atoms) (names : List (List ℕ)) (n : ℕ) → nat_lt n 
 reads_digits atoms names n h =
     let small : n < 2 ^ 63 = below n (2 ^ 63) h in
     let w = decimal n in
-    let d : list_all is_ascii_digit w ≡ true = decimal_digits n (omega (arith, small)) in
-    let all = word_whole w (decimal_nonempty n (omega (arith, small))) (digits_words w d) in
+    let some : 0 < length w = decimal_nonempty n (omega (arith, small)) in
+    let d : is_digits w ≡ true = are_digits w some (decimal_digits n (omega (arith, small))) in
+    let all = word_whole w some (digits_words w (all_digits w d)) in
     record {
       back =
           ap (λ b. if b then number w else if is_name w then name_token atoms names w else other_token atoms w) d

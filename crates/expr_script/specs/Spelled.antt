@@ -2,8 +2,10 @@
 use Rattle.std.specs.Prelude.{◌≡◌, ℕ, ◌<◌, ◌≤◌, Bool, false, List, length, Result, Ok, Err}
 use Rattle.script_tree.specs.declared.limits.TheConstants.{INPUTS, LEVELS}
 use Rattle.script_tree.specs.Tree.{Tree}
-use Rattle.script_tree.specs.Scripts.{Scripted, HasNoPicks, HasNoAcc, IsBody}
+use Rattle.script_tree.specs.Scripts.{Scripted, WellFormed, HasNoPicks, HasNoAcc, IsBody}
 use Rattle.script_grammar.specs.Grammar.{Spells, BeginsWithin, IsTooDeepAt}
+use Rattle.script_grammar.specs.Grammar as grammar
+use Rattle.script_grammar.specs.Canonical.{canonical}
 use Rattle.script_grammar.specs.Refusals.{IsFirstFaultAt}
 use Rattle.expr_script.specs.declared.atoms.Atoms.{Atoms}
 use Rattle.expr_script.specs.declared.atoms.Atoms.TheVariants.{Script, Body}
@@ -56,7 +58,21 @@ abbrev pub HasAtoms : Atoms → Scripted → Type 0
 HasAtoms (Script acc) script = HasNoPicks script × (acc ≡ false → HasNoAcc script)
 HasAtoms (Body picks) script = IsBody picks script
 
+-- a well-formed script of a kind
+abbrev pub IsFormed : Atoms → Scripted → Type 0
+IsFormed atoms script = WellFormed script.names script.tree × HasAtoms atoms script
+
+-- a script whose canonical text is nested within the limit
+abbrev pub IsShallow : Scripted → Type 0
+IsShallow script = BeginsWithin LEVELS (grammar.tokens (canonical script.tree))
+
 -- the same for the two kinds, as callers see them
+
+abbrev pub FormedScript : Bool → Scripted → Type 0
+FormedScript acc script = IsFormed (Script acc) script
+
+abbrev pub FormedBody : ℕ → Scripted → Type 0
+FormedBody picks script = IsFormed (Body picks) script
 
 abbrev pub SpellsScript : Bool → List (List ℕ) → Scripted → Type 0
 SpellsScript acc words script = SpellsWith (Script acc) words script

@@ -1,5 +1,5 @@
 -- The token that a word or a sign is.
-use Rattle.std.specs.Prelude.{ℕ, ◌+◌, ◌-◌, ◌*◌, ◌^◌, pos, ◌&&◌, nat_lt, if◌then◌else◌, List, [], ◌∷◌, codes}
+use Rattle.std.specs.Prelude.{ℕ, ◌+◌, ◌-◌, ◌*◌, ◌^◌, pos, Bool, ◌&&◌, nat_lt, if◌then◌else◌, List, [], ◌∷◌, length, codes}
 use Rattle.std.specs.List.{list_all}
 use Rattle.std.specs.Str.{bytes_eq}
 use Rattle.std.specs.Char.{is_ascii_digit}
@@ -10,6 +10,10 @@ use Rattle.script_grammar.specs.declared.token.Token.{Token}
 use Rattle.script_grammar.specs.declared.token.Token.TheVariants.{Plain, Sign, Minus, Bang, Opens, Closes, IfWord, ThenWord, ElseWord, Stray}
 use Rattle.expr_script.specs.declared.atoms.Atoms.{Atoms}
 use Rattle.expr_script.specs.declared.atoms.Atoms.TheVariants.{Script, Body}
+
+-- one digit or more and nothing else
+abbrev pub is_digits : List ℕ → Bool
+is_digits word = nat_lt 0 (length word) && list_all is_ascii_digit word
 
 -- the number that digits spell behind the digits of n
 abbrev pub value : ℕ → List ℕ → ℕ
@@ -83,6 +87,6 @@ other_token (Body picks) word = pick_token picks word
 -- the token of a word or a sign, in a script with these names
 abbrev pub token : Atoms → List (List ℕ) → List ℕ → Token
 token atoms inputs word =
-    if list_all is_ascii_digit word then number word
+    if is_digits word then number word
     else if is_name word then name_token atoms inputs word
     else other_token atoms word

@@ -10,7 +10,7 @@ ghost use Rattle.expr_script.specs.Cut.{IsCut};
 ghost use Rattle.expr_script.specs.Joined.{behind, joined, StandApart};
 ghost use Rattle.expr_script.specs.Pieces.{pieces, words};
 ghost use Rattle.expr_script.specs.Printed.{printed, printed_words};
-ghost use Rattle.expr_script.specs.Spelled.{SpellsScript, SpellsBody, IsScriptAnswer, IsBodyAnswer};
+ghost use Rattle.expr_script.specs.Spelled.{FormedScript, FormedBody, IsShallow, SpellsScript, SpellsBody, IsScriptAnswer, IsBodyAnswer};
 
 /// A text has one cut into words and signs, and its pieces are it.
 pub fn one_cut()
@@ -36,16 +36,19 @@ pub fn joined_words()
     ensures short { (text : List ℕ) → length (joined (words text)) ≤ length text }
 {}
 
-/// The canonical text of a script that some words spell: it is read as the same script, and no words that spell the
-/// script are fewer. Wherever such words stand in a text, the canonical ones in their place are no longer, and stand
-/// apart from what is before and behind them. So a canonical text has no more bytes than one that it was read from.
+/// The canonical text of a well-formed script, which is one of `Script`'s type, spells that script, as long as it is
+/// nested within the limit; so it is read as the same script. The scripts that words spell are such scripts, and no words
+/// that spell one are fewer than the canonical ones. Wherever such words stand in a text, the canonical ones in their
+/// place are no longer, and stand apart from what is before and behind them. So a canonical text has no more bytes than
+/// one that it was read from.
 pub fn canonical_script()
-    ensures spells { (acc : Bool) (list : List (List ℕ)) (script : Scripted) → SpellsScript acc list script → SpellsScript acc (words (printed script)) script }
-    ensures again { (acc : Bool) (list : List (List ℕ)) (script : Scripted) (places : ℕ → ℕ) (answer : Result Scripted ScriptFault) → SpellsScript acc list script → IsScriptAnswer acc (words (printed script)) places answer → answer ≢ Err Memory → answer ≡ Ok script }
-    ensures words { (acc : Bool) (list : List (List ℕ)) (script : Scripted) → SpellsScript acc list script → words (printed script) ≡ printed_words script }
+    ensures formed { (acc : Bool) (list : List (List ℕ)) (script : Scripted) → SpellsScript acc list script → FormedScript acc script × IsShallow script }
+    ensures spells { (acc : Bool) (script : Scripted) → FormedScript acc script → IsShallow script → SpellsScript acc (words (printed script)) script }
+    ensures again { (acc : Bool) (script : Scripted) (places : ℕ → ℕ) (answer : Result Scripted ScriptFault) → FormedScript acc script → IsShallow script → IsScriptAnswer acc (words (printed script)) places answer → answer ≢ Err Memory → answer ≡ Ok script }
+    ensures words { (acc : Bool) (script : Scripted) → FormedScript acc script → words (printed script) ≡ printed_words script }
     ensures fewest { (acc : Bool) (list : List (List ℕ)) (script : Scripted) → SpellsScript acc list script → length (printed_words script) ≤ length list }
-    ensures apart { (acc : Bool) (list : List (List ℕ)) (script : Scripted) (last : List ℕ) (more : List (List ℕ)) → SpellsScript acc list script → StandApart [] more → StandApart last (printed_words script ++ more) }
-    ensures within { (acc : Bool) (list : List (List ℕ)) (script : Scripted) (last : List ℕ) (more : List (List ℕ)) → All (λ word. 0 < length word) list → SpellsScript acc list script → length (behind last (printed_words script ++ more)) ≤ length (behind last (list ++ more)) }
+    ensures apart { (acc : Bool) (script : Scripted) (last : List ℕ) (more : List (List ℕ)) → FormedScript acc script → StandApart [] more → StandApart last (printed_words script ++ more) }
+    ensures within { (acc : Bool) (list : List (List ℕ)) (script : Scripted) (last : List ℕ) (more : List (List ℕ)) → SpellsScript acc list script → length (behind last (printed_words script ++ more)) ≤ length (behind last (list ++ more)) }
     ensures short { (acc : Bool) (text : List ℕ) (script : Scripted) → SpellsScript acc (words text) script → length (printed script) ≤ length text }
 {
     script_grammar::laws::canonical_spells();
@@ -55,12 +58,13 @@ pub fn canonical_script()
 
 /// The same of a body over at most four picks.
 pub fn canonical_body()
-    ensures spells { (picks : ℕ) (list : List (List ℕ)) (script : Scripted) → picks ≤ SELECTORS → SpellsBody picks list script → SpellsBody picks (words (printed script)) script }
-    ensures again { (picks : ℕ) (list : List (List ℕ)) (script : Scripted) (places : ℕ → ℕ) (answer : Result Scripted ScriptFault) → picks ≤ SELECTORS → SpellsBody picks list script → IsBodyAnswer picks (words (printed script)) places answer → answer ≢ Err Memory → answer ≡ Ok script }
-    ensures words { (picks : ℕ) (list : List (List ℕ)) (script : Scripted) → picks ≤ SELECTORS → SpellsBody picks list script → words (printed script) ≡ printed_words script }
-    ensures fewest { (picks : ℕ) (list : List (List ℕ)) (script : Scripted) → picks ≤ SELECTORS → SpellsBody picks list script → length (printed_words script) ≤ length list }
-    ensures apart { (picks : ℕ) (list : List (List ℕ)) (script : Scripted) (last : List ℕ) (more : List (List ℕ)) → picks ≤ SELECTORS → SpellsBody picks list script → StandApart [] more → StandApart last (printed_words script ++ more) }
-    ensures within { (picks : ℕ) (list : List (List ℕ)) (script : Scripted) (last : List ℕ) (more : List (List ℕ)) → All (λ word. 0 < length word) list → SpellsBody picks list script → length (behind last (printed_words script ++ more)) ≤ length (behind last (list ++ more)) }
+    ensures formed { (picks : ℕ) (list : List (List ℕ)) (script : Scripted) → SpellsBody picks list script → FormedBody picks script × IsShallow script }
+    ensures spells { (picks : ℕ) (script : Scripted) → picks ≤ SELECTORS → FormedBody picks script → IsShallow script → SpellsBody picks (words (printed script)) script }
+    ensures again { (picks : ℕ) (script : Scripted) (places : ℕ → ℕ) (answer : Result Scripted ScriptFault) → picks ≤ SELECTORS → FormedBody picks script → IsShallow script → IsBodyAnswer picks (words (printed script)) places answer → answer ≢ Err Memory → answer ≡ Ok script }
+    ensures words { (picks : ℕ) (script : Scripted) → picks ≤ SELECTORS → FormedBody picks script → words (printed script) ≡ printed_words script }
+    ensures fewest { (picks : ℕ) (list : List (List ℕ)) (script : Scripted) → SpellsBody picks list script → length (printed_words script) ≤ length list }
+    ensures apart { (picks : ℕ) (script : Scripted) (last : List ℕ) (more : List (List ℕ)) → picks ≤ SELECTORS → FormedBody picks script → StandApart [] more → StandApart last (printed_words script ++ more) }
+    ensures within { (picks : ℕ) (list : List (List ℕ)) (script : Scripted) (last : List ℕ) (more : List (List ℕ)) → SpellsBody picks list script → length (behind last (printed_words script ++ more)) ≤ length (behind last (list ++ more)) }
     ensures short { (picks : ℕ) (text : List ℕ) (script : Scripted) → SpellsBody picks (words text) script → length (printed script) ≤ length text }
 {
     script_grammar::laws::canonical_spells();

@@ -3,7 +3,7 @@
 ghost use Rattle.std.specs.Prelude.{◌≡◌, ◌≤◌, length};
 ghost use Rattle.std.specs.List.{list_all};
 ghost use Rattle.std.specs.Char.{is_ascii_digit};
-ghost use Rattle.expr_script.specs.Words.{number, place_of, name_token, short_sign, sign_token, fixed_token, pick_token, other_token, token};
+ghost use Rattle.expr_script.specs.Words.{is_digits, number, place_of, name_token, short_sign, sign_token, fixed_token, pick_token, other_token, token};
 
 use crate::atoms::Atoms;
 use script_grammar::token::{Token, Word};
@@ -15,10 +15,16 @@ use script_tree::name::{Name, NameList};
 // The greatest number of a script.
 const MOST: u64 = 9_223_372_036_854_775_807;
 
-fn is_number(word: &[u8]) -> bool
+fn all_digits(word: &[u8]) -> bool
     ensures { result ≡ list_all is_ascii_digit word.now }
 {
     word.iter().all(|byte| byte.is_ascii_digit())
+}
+
+fn is_digits(word: &[u8]) -> bool
+    ensures { result ≡ is_digits word.now }
+{
+    !word.is_empty() && all_digits(word)
 }
 
 #[tactic(auto, using(crate::proofs::Numbers::value_laws))]
@@ -185,7 +191,7 @@ pub fn token(atoms: Atoms, inputs: &NameList, word: &[u8]) -> Token
     requires { length inputs.now ≤ INPUTS }
     ensures { result ≡ token atoms inputs.now word.now }
 {
-    if is_number(word) {
+    if is_digits(word) {
         return number(word);
     }
     match Name::of_bytes(word) {

@@ -1,6 +1,6 @@
-// Worked examples: what the levels mean, where refusals stand, and how long a script may be.
+// Worked examples: what the levels mean, and how long a script may be.
 
-use crate::reader::{Refusal, read_script};
+use crate::reader::read_script;
 use crate::token::{Token, Word};
 use crate::writer::write_script;
 use script_tree::expr::Binary;
@@ -18,8 +18,6 @@ const YES: Token = Token::Plain(Word::Yes);
 const PLUS: Token = Token::Sign(Binary::Add);
 
 const TIMES: Token = Token::Sign(Binary::Multiply);
-
-const BELOW: Token = Token::Sign(Binary::Less);
 
 #[test]
 fn levels_bind(rt: HostRuntime) -> Result<(), Fail> {
@@ -45,36 +43,6 @@ fn levels_bind(rt: HostRuntime) -> Result<(), Fail> {
         let script = read_script(rt.alloc(), tokens)?;
         assert_eq!(rt; script.eval(&[], &[], Value::Int(0)), Value::Int(value));
     }
-    Ok(())
-}
-
-#[test]
-fn faults_have_places(rt: HostRuntime) {
-    let table: [(&[Token], usize); 4] = [
-        (&[], 0),
-        (&[ONE, PLUS], 2),
-        (&[ONE, PLUS, Token::IfWord, YES], 2),
-        (&[ONE, BELOW, TWO, BELOW, THREE], 3),
-    ];
-    for (tokens, place) in table {
-        let is_there =
-            matches!(read_script(rt.alloc(), tokens), Err(Refusal::Syntax(k)) if k == place);
-        assert!(rt; is_there, "at {place}");
-    }
-}
-
-#[test]
-fn depth_is_limited(rt: HostRuntime) -> Result<(), Fail> {
-    let mut tokens = Vec::new(rt.alloc());
-    for _ in 0..64 {
-        tokens.push(Token::Bang)?;
-    }
-    tokens.push(YES)?;
-    let is_read = read_script(rt.alloc(), &tokens).is_ok();
-    assert!(rt; is_read);
-    tokens.insert(0, Token::Bang)?;
-    let is_refused = matches!(read_script(rt.alloc(), &tokens), Err(Refusal::TooDeep(65)));
-    assert!(rt; is_refused);
     Ok(())
 }
 

@@ -1,6 +1,7 @@
 -- A script as contracts see it: its names and its tree.
-use Rattle.std.specs.Prelude.{◌≡◌, ℕ, ◌≤◌, ◌^◌, pos, negsuc, Bool, true, false, ◌&&◌, IsTrue, nat_lt, List, [], length, refl}
-use Rattle.std.specs.List.{list_all}
+use Rattle.std.specs.Prelude.{◌≡◌, ℕ, ◌≤◌, ◌^◌, pos, negsuc, Bool, true, false, ◌&&◌, IsTrue, nat_lt, if◌then◌else◌, List, [], ◌∷◌, ◌++◌, length, slice_get, unwrap_or, refl}
+use Rattle.std.specs.List.{list_all, list_any}
+use Rattle.std.specs.Str.{bytes_eq}
 use Rattle.std.specs.Coded.{Coded, code_by, coded×, coded_ℕ, coded_list}
 use Rattle.script_tree.specs.declared.limits.TheConstants.{INPUTS}
 use Rattle.script_tree.specs.Names.{is_name}
@@ -40,10 +41,28 @@ is_literal (Number (pos n)) = nat_lt n (2 ^ 63)
 is_literal (Number (negsuc n)) = false
 is_literal leaf = true
 
--- what every script keeps: at most 64 names, each of them a name, and leaves that a text can spell
+-- the names that stand in a tree, from left to right
+abbrev pub standing : List (List ℕ) → Tree → List (List ℕ)
+standing names (Input i) = unwrap_or (slice_get names i) [] ∷ []
+standing names (Apply op x) = standing names x
+standing names (Join op x y) = standing names x ++ standing names y
+standing names (If c x y) = standing names c ++ (standing names x ++ standing names y)
+standing names leaf = []
+
+-- the different names of a list in the order of their first appearance, without those that were seen
+abbrev pub different_names_from : List (List ℕ) → List (List ℕ) → List (List ℕ)
+different_names_from seen [] = []
+different_names_from seen (name ∷ names) = if list_any (bytes_eq name) seen then different_names_from seen names else name ∷ different_names_from (name ∷ seen) names
+
+abbrev pub different_names : List (List ℕ) → List (List ℕ)
+different_names names = different_names_from [] names
+
+-- what every script keeps: its names are the different names that stand in its tree, in the order of their first
+-- appearance; they are at most 64, each of them is a name, and the leaves can be spelled by a text
 pub record WellFormed (names : List (List ℕ)) (tree : Tree) : Type 0 where
   pub few : length names ≤ INPUTS
   pub named : IsTrue (list_all is_name names)
+  pub appear : names ≡ different_names (standing names tree)
   pub inputs : IsTrue (all_leaves (input_below (length names)) tree)
   pub numbers : IsTrue (all_leaves is_literal tree)
 

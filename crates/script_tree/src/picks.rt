@@ -1,6 +1,6 @@
 // What the selectors of a choose picked.
 
-ghost use Rattle.std.specs.Prelude.{◌≡◌, ◌<◌, [], ◌∷◌, ◌++◌, length, slice_get, Some};
+ghost use Rattle.std.specs.Prelude.{◌≡◌, ◌<◌, ◌≤◌, [], ◌∷◌, ◌++◌, length, slice_get, Some};
 
 use crate::limits::SELECTORS;
 use arrayvec::ArrayVec;
@@ -14,11 +14,14 @@ pub struct Picks {
 }
 
 impl Model for Picks {
-    ghost use Rattle.std.specs.Prelude.{List, Option, ℕ};
+    ghost use Rattle.std.specs.Prelude.{List, Option, ℕ, ◌≤◌, length};
+    ghost use Rattle.script_tree.specs.declared.limits.TheConstants.{SELECTORS};
 
     ghost Value = { List (Option ℕ) };
 
     ghost view = { λ p. p.items.items };
+
+    ghost invariant = { λ p. length p.items.items ≤ SELECTORS };
 }
 
 impl Picks {
@@ -39,9 +42,10 @@ impl Picks {
         self.items.push(item);
     }
 
-    /// How many items there are.
+    /// How many items there are: at most one for each selector that a choose may have.
     pub fn len(&self) -> u32
-        ensures { result ≡ length self.now }
+        ensures value { result ≡ length self.now }
+        ensures few { result ≤ SELECTORS }
     {
         self.items.len() as u32
     }

@@ -2,7 +2,7 @@
 
 ghost use Rattle.std.specs.Prelude.{◌≡◌, ◌++◌, OnOk, OnErr, decimal};
 ghost use Rattle.std.specs.Fmt.{signed_decimal};
-ghost use Rattle.script_tree.specs.Printed.{fault_text, value_text};
+ghost use Rattle.script_tree.specs.Printed.{value_text};
 
 use crate::items::Text;
 use crate::memory::OutOfMemory;
@@ -27,29 +27,27 @@ fn print_int(out: &mut Text, number: i64) -> Result<(), OutOfMemory>
     out.extend_from_slice(buffer.format(number).as_bytes())
 }
 
-/// The word for a fault's kind.
-pub fn fault_word(fault: Fault) -> &'static [u8]
-    ensures { result.now ≡ fault_text fault }
+// The word `fault` and the fault's kind.
+fn fault_words(fault: Fault) -> &'static [u8]
+    ensures { result.now ≡ value_text (Value.Fault fault) }
 {
     match fault {
-        Fault::Overflow => b"overflow",
-        Fault::ZeroDivisor => b"zero-divisor",
-        Fault::Kind => b"kind",
-        Fault::NoChoice => b"no-choice",
+        Fault::Overflow => b"fault overflow",
+        Fault::ZeroDivisor => b"fault zero-divisor",
+        Fault::Kind => b"fault kind",
+        Fault::NoChoice => b"fault no-choice",
     }
 }
 
-/// Adds a value: its decimal number, `true`, `false`, or `fault` and its kind. Takes memory; after a refusal a part of
-/// it may have been added.
+/// Adds a value: its decimal number, `true`, `false`, or `fault` and its kind. Takes memory; after a refusal the text
+/// is as it was.
 pub fn print_value(out: &mut Text, value: Value) -> Result<(), OutOfMemory>
-    ensures { OnOk result (out.new ≡ out.old ++ value_text value) }
+    ensures ok { OnOk result (out.new ≡ out.old ++ value_text value) }
+    ensures err { OnErr result (out.new ≡ out.old) }
 {
     match value {
         Value::Int(number) => print_int(out, number),
         Value::Bool(truth) => out.extend_from_slice(if truth { b"true" } else { b"false" }),
-        Value::Fault(fault) => {
-            out.extend_from_slice(b"fault ")?;
-            out.extend_from_slice(fault_word(fault))
-        }
+        Value::Fault(fault) => out.extend_from_slice(fault_words(fault)),
     }
 }

@@ -10,7 +10,8 @@ use crate::name::NameList;
 use crate::value::{Fault, Value};
 use std::marker::Model;
 
-/// A script: its different names and its tree, in which an input is the place of its name.
+/// A script: its different names in the order of their first appearance, and its tree, in which an input is the place
+/// of its name.
 #[derive(Debug, Drop)]
 pub struct Script {
     names: NameList,
@@ -38,6 +39,13 @@ impl Script {
         ensures tree { result.tree ≡ tree_of tree }
     {
         Script { names, tree }
+    }
+
+    /// What every script keeps. Does nothing when it runs.
+    pub fn well_formed(&self)
+        ensures { WellFormed self.now.names self.now.tree }
+    {
+        let _ = &self.names;
     }
 
     /// The different names, in the order of their first appearance, without `acc`.

@@ -4,6 +4,7 @@ use Rattle.std.specs.List.{AllByRecursion, list_any}
 use Rattle.std.specs.Str.{bytes_eq}
 use Rattle.std.specs.Cmp.Lexicographic.{bytes_decides}
 use Rattle.std.proofs.lemmas.List.{get_or_append_left, length-map, map-append}
+use Rattle.std.proofs.lemmas.List.Elements.{recursion_from_All}
 use Rattle.std.proofs.lemmas.List.Folds.{list_any-append}
 use Rattle.std.proofs.lemmas.Bool.Decides.{eqb_tells, nat_tests}
 use Rattle.script_tree.specs.declared.limits.TheConstants.{NODES}
@@ -12,10 +13,10 @@ use Rattle.signal_graph.specs.declared.node.Node.{Node}
 use Rattle.signal_graph.specs.declared.node.Node.TheVariants as node
 use Rattle.signal_graph.specs.declared.builder.DeclKind.{DeclKind}
 use Rattle.signal_graph.specs.declared.builder.DeclKind.TheVariants.{Source, Signal, Fold, Choose}
-use Rattle.signal_graph.specs.Graph.{Graph, IsGraph, IsNode, AreNodes, IsSelector, are_different, place_in, is_in, different_from, inputs_of_all}
+use Rattle.signal_graph.specs.Graph.{Graph, IsGraph, IsNode, AreNodes, IsSelector, Kept, are_different, place_in, is_in, different_from, inputs_of_all}
 use Rattle.signal_graph.proofs.GraphNames.{name_at_place}
 use Rattle.signal_graph.specs.Tables.{is_declared}
-use Rattle.signal_graph.specs.Declarations.{Part, IsPart, IsDeclaration, names_of, names_of_parts, script_names, different_names_from, selector_of, node_of, is_undeclared, unknown_input, refusal, with_declaration}
+use Rattle.signal_graph.specs.Declarations.{Part, IsPart, IsDeclaration, AreKept, names_of, names_of_parts, script_names, different_names_from, selector_of, node_of, is_undeclared, unknown_input, refusal, with_declaration}
 use Rattle.signal_graph.specs.declared.builder.GraphFault.TheVariants.{DoubleName, TooManyNodes}
 
 abbrev AreDeclared : List (List ℕ) → List (List ℕ) → Type 0
@@ -56,9 +57,9 @@ places_below : (names used : List (List ℕ)) → AreDeclared names used → All
 places_below names [] h = tt
 places_below names (name ∷ used) h = (place_below names name h.0, places_below names used h.1)
 
-is_selector : (names more : List (List ℕ)) (part : Part) → IsPart part → AreDeclared names (part.0.names ++ part.1)
+is_selector : (names more : List (List ℕ)) (part : Part) → IsPart part → Kept part.0 → AreDeclared names (part.0.names ++ part.1)
     → IsSelector (names ++ more) (length names) (selector_of names part)
-is_selector names more part h d = record {
+is_selector names more part h k d = record {
   some = rw length-map h.some;
   few = rw length-map h.few;
   no_acc = h.no_acc;
@@ -66,14 +67,15 @@ is_selector names more part h d = record {
   resolves = resolves names more part.0.names (all-front _ part.0.names part.1 d);
   inputs_earlier = places_below names part.0.names (all-front _ part.0.names part.1 d);
   candidates_earlier = places_below names part.1 (all-back _ part.0.names part.1 d);
+  kept = k;
 }
 
-are_selectors : (names more : List (List ℕ)) (parts : List Part) → AllByRecursion IsPart parts → AreDeclared names (names_of_parts parts)
+are_selectors : (names more : List (List ℕ)) (parts : List Part) → AllByRecursion IsPart parts → AllByRecursion (λ (part : Part). Kept part.0) parts → AreDeclared names (names_of_parts parts)
     → AllByRecursion (IsSelector (names ++ more) (length names)) (map (selector_of names) parts)
-are_selectors names more [] h d = tt
-are_selectors names more (part ∷ parts) h d = (
-  is_selector names more part h.0 (all-front _ (part.0.names ++ part.1) (names_of_parts parts) d),
-  are_selectors names more parts h.1 (all-back _ (part.0.names ++ part.1) (names_of_parts parts) d),
+are_selectors names more [] h k d = tt
+are_selectors names more (part ∷ parts) h k d = (
+  is_selector names more part h.0 k.0 (all-front _ (part.0.names ++ part.1) (names_of_parts parts) d),
+  are_selectors names more parts h.1 k.1 (all-back _ (part.0.names ++ part.1) (names_of_parts parts) d),
 )
 
 -- the inputs of all selectors are the places of their scripts' names
@@ -117,19 +119,20 @@ different_alike names seen (name ∷ used) s u =
     grind (arith, alike, without, behind)
 
 -- a declaration whose names are declared makes a node
-pub is_node : (names more : List (List ℕ)) (kind : DeclKind) → IsDeclaration kind → AreDeclared names (names_of kind)
+pub is_node : (names more : List (List ℕ)) (kind : DeclKind) → IsDeclaration kind → AreKept kind → AreDeclared names (names_of kind)
     → IsNode (names ++ more) (length names) (node_of names kind)
-is_node names more (Source start) h d = h
-is_node names more (Signal script) h d = (h.0, h.1, resolves names more script.names d, places_below names script.names d)
-is_node names more (Fold start script) h d = (h.0, h.1, resolves names more script.names d, places_below names script.names d)
-is_node names more (Choose parts body) h d =
+is_node names more (Source start) h k d = h
+is_node names more (Signal script) h k d = (h.0, h.1, resolves names more script.names d, places_below names script.names d, k)
+is_node names more (Fold start script) h k d = (h.0, h.1, resolves names more script.names d, places_below names script.names d, k)
+is_node names more (Choose parts body) h k d =
     let declared = scripts_declared names parts d in (
       rw length-map h.some,
       rw length-map h.few,
-      are_selectors names more parts h.each d,
+      are_selectors names more parts h.each (recursion_from_All (λ (part : Part). Kept part.0) parts k.0) d,
       rw length-map h.body,
       refl,
       rw (all_inputs names parts, different_alike names [] (script_names parts) tt declared) h.few_names,
+      k.1,
     )
 
 -- more names leave a node as it is
@@ -153,13 +156,14 @@ still_selectors names more n within (selector ∷ rest) h =
       resolves = still_resolves names more n within selector.inputs h.0.inputs_earlier ∙ h.0.resolves;
       inputs_earlier = h.0.inputs_earlier;
       candidates_earlier = h.0.candidates_earlier;
+      kept = h.0.kept;
     } in (is, still_selectors names more n within rest h.1)
 
 still_node : (names more : List (List ℕ)) (n : ℕ) → n ≤ length names → (old : Node) → IsNode names n old → IsNode (names ++ more) n old
 still_node names more n within (node.Source start) h = h
-still_node names more n within (node.Signal script inputs) h = (h.0, h.1, still_resolves names more n within inputs h.3 ∙ h.2, h.3)
-still_node names more n within (node.Fold start script inputs) h = (h.0, h.1, still_resolves names more n within inputs h.3 ∙ h.2, h.3)
-still_node names more n within (node.Choose selectors body inputs) h = (h.0, h.1, still_selectors names more n within selectors h.2, h.3, h.4, h.5)
+still_node names more n within (node.Signal script inputs) h = (h.0, h.1, still_resolves names more n within inputs h.3 ∙ h.2, h.3, h.4)
+still_node names more n within (node.Fold start script inputs) h = (h.0, h.1, still_resolves names more n within inputs h.3 ∙ h.2, h.3, h.4)
+still_node names more n within (node.Choose selectors body inputs) h = (h.0, h.1, still_selectors names more n within selectors h.2, h.3, h.4, h.5, h.6)
 
 still_nodes : (names more : List (List ℕ)) (k : ℕ) (nodes : List Node) → k + length nodes ≤ length names → AreNodes names k nodes → AreNodes (names ++ more) k nodes
 still_nodes names more k [] within h = tt
@@ -199,9 +203,9 @@ free graph name kind h =
     let parts = free_parts (nat_lt (length graph.nodes) NODES) (is_declared graph.names name) (find (is_undeclared graph.names) (names_of kind)) h in
     record { room = grind (arith, nat_tests, parts); absent = parts.1; known = parts.2 }
 
-pub is_graph_with : (graph : Graph) (name : List ℕ) (kind : DeclKind) → IsGraph graph → IsDeclaration kind → refusal graph name kind ≡ None
+pub is_graph_with : (graph : Graph) (name : List ℕ) (kind : DeclKind) → IsGraph graph → IsDeclaration kind → AreKept kind → refusal graph name kind ≡ None
     → IsGraph (with_declaration graph name kind)
-is_graph_with graph name kind h declared unrefused =
+is_graph_with graph name kind h declared kept unrefused =
     let f = free graph name kind unrefused in
     let names = graph.names in
     let nodes = graph.nodes in
@@ -210,5 +214,5 @@ is_graph_with graph name kind h declared unrefused =
       few = omega (arith, f.room, length-append nodes (node_of names kind ∷ []));
       different_names = are_different-snoc names name h.different_names f.absent;
       nodes = AreNodes-snoc (names ++ name ∷ []) 0 nodes (node_of names kind) (still_nodes names (name ∷ []) 0 nodes (omega (arith, h.named)) h.nodes)
-          (subst (λ n. IsNode (names ++ name ∷ []) n (node_of names kind)) (h.named ∙ sym (zero-add (length nodes))) (is_node names (name ∷ []) kind declared (declared_where_none_is_not names (names_of kind) f.known)));
+          (subst (λ n. IsNode (names ++ name ∷ []) n (node_of names kind)) (h.named ∙ sym (zero-add (length nodes))) (is_node names (name ∷ []) kind declared kept (declared_where_none_is_not names (names_of kind) f.known)));
     }

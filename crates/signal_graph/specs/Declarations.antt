@@ -1,9 +1,10 @@
 -- Declarations: what a builder is given, the node that it makes of it, and why it refuses one.
 use Rattle.std.specs.Prelude.{ℕ, ◌≤◌, Bool, IsTrue, not, nat_lt, if◌then◌else◌, List, [], ◌∷◌, ◌++◌, length, map, find, Option, Some, None}
-use Rattle.std.specs.List.{AllByRecursion, list_any}
+use Rattle.std.specs.List.{All, AllByRecursion, list_any}
 use Rattle.std.specs.Str.{bytes_eq}
 use Rattle.script_tree.specs.declared.limits.TheConstants.{NODES, INPUTS, CANDIDATES, SELECTORS}
 use Rattle.script_tree.specs.Scripts.{Scripted, HasNoPicks, HasNoAcc}
+pub use Rattle.script_tree.specs.Scripts.{different_names_from, different_names}
 use Rattle.signal_graph.specs.declared.node.Selector.{Selector}
 use Rattle.signal_graph.specs.declared.node.Node as nodes
 use Rattle.signal_graph.specs.declared.node.Node.TheVariants as node
@@ -12,7 +13,7 @@ use Rattle.signal_graph.specs.declared.builder.DeclKind.TheVariants.{Source, Sig
 use Rattle.signal_graph.specs.declared.builder.GraphFault.{GraphFault}
 use Rattle.signal_graph.specs.declared.builder.GraphFault.TheVariants.{DoubleName, UnknownInput, TooManyNodes}
 use Rattle.signal_graph.specs.Tables.{is_declared}
-use Rattle.signal_graph.specs.Graph.{Graph, is_start, place_in, different, inputs_of_all, BodyFits}
+use Rattle.signal_graph.specs.Graph.{Graph, is_start, place_in, different, inputs_of_all, Kept, BodyKept, BodyFits}
 
 -- a selector's script and the names of its candidates
 abbrev pub Part : Type 0
@@ -38,14 +39,6 @@ abbrev pub script_names : List Part → List (List ℕ)
 script_names [] = []
 script_names (part ∷ parts) = part.0.names ++ script_names parts
 
--- the different names of a list, behind those that were seen
-abbrev pub different_names_from : List (List ℕ) → List (List ℕ) → List (List ℕ)
-different_names_from seen [] = []
-different_names_from seen (name ∷ names) = if list_any (bytes_eq name) seen then different_names_from seen names else name ∷ different_names_from (name ∷ seen) names
-
-abbrev pub different_names : List (List ℕ) → List (List ℕ)
-different_names names = different_names_from [] names
-
 -- one selector: 1 to 64 candidates, and neither `acc` nor a pick in its script
 pub record IsPart (part : Part) : Type 0 where
   pub some : 1 ≤ length part.1
@@ -67,6 +60,13 @@ IsDeclaration (Source start) = IsTrue (is_start start)
 IsDeclaration (Signal script) = HasNoAcc script × HasNoPicks script
 IsDeclaration (Fold start script) = IsTrue (is_start start) × HasNoPicks script
 IsDeclaration (Choose parts body) = AreParts parts body
+
+-- what the scripts of a declaration keep
+abbrev pub AreKept : DeclKind → Type 0
+AreKept (Source start) = Unit {0}
+AreKept (Signal script) = Kept script
+AreKept (Fold start script) = Kept script
+AreKept (Choose parts body) = All (λ (part : Part). Kept part.0) parts × BodyKept body
 
 -- a selector with the numbers of its names
 abbrev pub selector_of : List (List ℕ) → Part → Selector

@@ -6,7 +6,7 @@ use Rattle.script_tree.specs.declared.limits.TheConstants.{NODES, INPUTS, CANDID
 use Rattle.script_tree.specs.declared.value.Value.{Value}
 use Rattle.script_tree.specs.declared.value.Value.TheVariants.{Int, Bool as Truth, Fault as Faulty}
 use Rattle.script_tree.specs.declared.value.Fault.TheVariants.{Kind}
-use Rattle.script_tree.specs.Scripts.{Scripted, HasNoPicks, HasNoAcc, IsBody}
+use Rattle.script_tree.specs.Scripts.{Scripted, WellFormed, HasNoPicks, HasNoAcc, IsBody, standing}
 use Rattle.signal_graph.specs.declared.node.NodeKind as kinds
 use Rattle.signal_graph.specs.declared.node.NodeKind.TheVariants as kind
 use Rattle.signal_graph.specs.declared.node.Selector.{Selector}
@@ -72,6 +72,17 @@ abbrev pub first_script : List Selector → Option Scripted
 first_script [] = None
 first_script (selector ∷ rest) = Some selector.script
 
+-- the scripts of a node whose names are its inputs; a body has no names
+abbrev pub scripts_of : Node → List Scripted
+scripts_of (Source start) = []
+scripts_of (Signal script inputs) = script ∷ []
+scripts_of (Fold start script inputs) = script ∷ []
+scripts_of (Choose selectors body inputs) = map (λ (selector : Selector). selector.script) selectors
+
+-- whether a name stands in the tree of one of a node's scripts
+abbrev pub stands_in : List ℕ → Node → Bool
+stands_in name node = list_any (λ (script : Scripted). list_any (bytes_eq name) (standing script.names script.tree)) (scripts_of node)
+
 -- the one script of a node without a body; a source has none
 abbrev pub script_of : Node → Option Scripted
 script_of (Source start) = None
@@ -105,6 +116,15 @@ is_start (Faulty f) = false
 abbrev pub Resolves : List (List ℕ) → Scripted → List ℕ → Type 0
 Resolves names script inputs = map (λ n. slice_index_or names n []) inputs ≡ script.names
 
+-- what every script keeps
+abbrev pub Kept : Scripted → Type 0
+Kept script = WellFormed script.names script.tree
+
+-- the same of a body, where there is one
+abbrev pub BodyKept : Option Scripted → Type 0
+BodyKept None = Unit {0}
+BodyKept (Some body) = Kept body
+
 -- a selector has 1 to 64 candidates, and a script without `acc` and picks
 pub record IsSelector (names : List (List ℕ)) (n : ℕ) (selector : Selector) : Type 0 where
   pub some : 1 ≤ length selector.candidates
@@ -114,6 +134,7 @@ pub record IsSelector (names : List (List ℕ)) (n : ℕ) (selector : Selector) 
   pub resolves : Resolves names selector.script selector.inputs
   pub inputs_earlier : AllByRecursion (λ m. m < n) selector.inputs
   pub candidates_earlier : AllByRecursion (λ m. m < n) selector.candidates
+  pub kept : Kept selector.script
 
 -- with two or more selectors there is a body, and a body is one for as many picks as there are selectors
 abbrev pub BodyFits : ℕ → Option Scripted → Type 0
@@ -124,12 +145,12 @@ BodyFits selectors (Some body) = IsBody selectors body
 abbrev pub IsNode : List (List ℕ) → ℕ → Node → Type 0
 IsNode names n (Source start) = IsTrue (is_start start)
 IsNode names n (Signal script inputs) =
-    HasNoAcc script × HasNoPicks script × Resolves names script inputs × AllByRecursion (λ m. m < n) inputs
+    HasNoAcc script × HasNoPicks script × Resolves names script inputs × AllByRecursion (λ m. m < n) inputs × Kept script
 IsNode names n (Fold start script inputs) =
-    IsTrue (is_start start) × HasNoPicks script × Resolves names script inputs × AllByRecursion (λ m. m < n) inputs
+    IsTrue (is_start start) × HasNoPicks script × Resolves names script inputs × AllByRecursion (λ m. m < n) inputs × Kept script
 IsNode names n (Choose selectors body inputs) =
     (1 ≤ length selectors) × (length selectors ≤ SELECTORS) × AllByRecursion (IsSelector names n) selectors × BodyFits (length selectors) body
-    × (inputs ≡ different (inputs_of_all selectors)) × (length inputs ≤ INPUTS)
+    × (inputs ≡ different (inputs_of_all selectors)) × (length inputs ≤ INPUTS) × BodyKept body
 
 abbrev pub AreNodes : List (List ℕ) → ℕ → List Node → Type 0
 AreNodes names n [] = Unit {0}

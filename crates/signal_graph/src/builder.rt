@@ -2,7 +2,9 @@
 
 ghost use Rattle.std.specs.Prelude.{◌≡◌, ℕ, ◌<◌, ◌∷◌, ◌++◌, [], map, find, length, MatchOption, Some, None, IfOk, IfErr, OnOk, OnErr};
 ghost use Rattle.signal_graph.specs.Graph as definition;
-ghost use Rattle.signal_graph.specs.Graph.{IsGraph};
+ghost use Rattle.signal_graph.specs.Graph.{IsGraph, Kept, BodyKept};
+ghost use Rattle.std.specs.List.{All};
+ghost use Rattle.signal_graph.specs.Declarations.{Part, AreKept};
 
 use crate::graph::{Graph, make_graph};
 use crate::names::NameTable;
@@ -66,6 +68,37 @@ impl Model for GraphBuilder {
     ghost view = { λ b. record { names = b.names; nodes = b.nodes.items } };
 
     ghost invariant = { λ b. definition.IsGraph (record { names = b.names; nodes = b.nodes.items }) };
+}
+
+// What each script of a declaration keeps by its type. Changes nothing.
+fn scripts_are_kept(kind: &DeclKind)
+    ensures { AreKept kind.now }
+{
+    match kind {
+        DeclKind::Source(_) => {}
+        DeclKind::Signal(script) => script.well_formed(),
+        DeclKind::Fold(_, script) => script.well_formed(),
+        DeclKind::Choose(parts, body) => {
+            parts_are_kept(parts.as_slice());
+            body_is_kept(body);
+        }
+    }
+}
+
+fn parts_are_kept(parts: &[(Script, NameList)])
+    ensures { All (λ (part : Part). Kept part.0) parts.now }
+{
+    for part in parts {
+        part.0.well_formed();
+    }
+}
+
+fn body_is_kept(body: &Option<Script>)
+    ensures { BodyKept body.now }
+{
+    if let Some(body) = body {
+        body.well_formed();
+    }
 }
 
 impl GraphBuilder {
@@ -134,6 +167,7 @@ impl GraphBuilder {
         ensures ok { OnOk result (self.new ≡ with_declaration self.old name kind) }
         ensures err { OnErr result (self.new ≡ self.old) }
     {
+        scripts_are_kept(&kind);
         let node = resolve(self.alloc, &self.names, kind)?;
         self.nodes.push(node)?;
         match self.names.push(name) {

@@ -1,14 +1,25 @@
-// Laws of the one-thread machine.
+// Laws of graphs and of the one-thread machine.
 
-ghost use Rattle.std.specs.Prelude.{◌≡◌, ◌≢◌, ◌<◌, ℕ, [], ◌++◌, length, None};
+ghost use Rattle.std.specs.Prelude.{◌≡◌, ◌≢◌, ◌<◌, ◌≤◌, ℕ, [], ◌++◌, length, None};
 ghost use Rattle.std.specs.List.{AllByRecursion};
+ghost use Rattle.script_tree.specs.declared.limits.TheConstants.{INPUTS};
 ghost use Rattle.signal_graph.specs.declared.call.Call.{Call};
 ghost use Rattle.signal_graph.specs.declared.node.NodeKind.TheVariants as kind;
-ghost use Rattle.signal_graph.specs.Graph.{Graph, IsGraph, node_at, kind_of};
+ghost use Rattle.signal_graph.specs.Graph.{Graph, IsGraph, node_at, name_at, kind_of, inputs_of, is_in, static_outs, stands_in};
 ghost use Rattle.signal_graph.specs.Values.{Values, at, values, val, node_value, deps};
 ghost use Rattle.signal_graph.specs.Machine.{with_sets, misnamed, after};
 ghost use Rattle.signal_graph.specs.Evaluation.{CanEvaluate};
 ghost use Rattle.signal_graph.specs.OnePass.{new_from, after_call};
+
+/// No node of a graph has more than 64 inputs.
+pub fn inputs_are_few()
+    ensures { (graph : Graph) → IsGraph graph → (n : ℕ) → n < length graph.nodes → length (inputs_of (node_at graph n)) ≤ INPUTS }
+{}
+
+/// A node is among the static outs of another one exactly where the other one's name stands in one of its scripts.
+pub fn outs_are_named()
+    ensures { (graph : Graph) → IsGraph graph → (n m : ℕ) → n < length graph.nodes → m < length graph.nodes → is_in n (static_outs graph m) ≡ stands_in (name_at graph m) (node_at graph n) }
+{}
 
 /// The equations of the values: of a source and a fold it is what the state keeps, and each other node's follows from
 /// the values of the nodes that it names.

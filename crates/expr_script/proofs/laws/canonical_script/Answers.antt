@@ -1,35 +1,36 @@
-use Rattle.std.proofs.Common.{List, ℕ, ◌<◌, length}
-use Rattle.std.proofs.lemmas.List.Elements.{recursion_from_All}
 use Rattle.expr_script.specs.Pieces.{words}
 use Rattle.expr_script.specs.declared.atoms.Atoms.TheVariants.{Script}
 use Rattle.std.specs.Prelude.{Ok}
 use Rattle.expr_script.specs.declared.faults.ScriptFault.TheVariants.{Memory}
 use Rattle.expr_script.specs.Printed.{printed}
 use Rattle.expr_script.proofs.OneAnswer.{script_is_no_fault}
-use Rattle.expr_script.proofs.PrintedBack.{OfGrammar, printed_text_spells, printed_back, printed_fewest, printed_apart, printed_no_longer, printed_short}
+use Rattle.expr_script.proofs.PrintedBack.{OfGrammar, spelled_formed, printed_text_spells, printed_back, printed_fewest, printed_apart, printed_no_longer, printed_short}
 use Rattle.expr_script.proofs.laws.canonical_script.Goals as goal
 
 grammar : (c : goal.After-one_answer) → OfGrammar
 grammar c = record { spells = c.canonical_spells.ensures.spells; shortest = c.canonical_spells.ensures.shortest; shallowest = c.canonical_spells.ensures.shallowest; leaves = c.leaves_are_words.ensures }
 
+pub returns-clause-formed : goal.returns-clause-formed
+returns-clause-formed c = λ acc list script h. spelled_formed (grammar c) (Script acc) list script h
+
 pub returns-clause-spells : goal.returns-clause-spells
-returns-clause-spells c = λ acc list script h. printed_text_spells (grammar c) (Script acc) list script tt h
+returns-clause-spells c = λ acc script h d. printed_text_spells (grammar c) (Script acc) script tt h d
 
 pub returns-clause-words : goal.returns-clause-words
-returns-clause-words c = λ acc list script h. printed_back (grammar c) (Script acc) list script tt h
+returns-clause-words c = λ acc script h. printed_back (Script acc) script tt h
 
 pub returns-clause-fewest : goal.returns-clause-fewest
 returns-clause-fewest c = λ acc list script h. printed_fewest (grammar c) (Script acc) list script h
 
 pub returns-clause-apart : goal.returns-clause-apart
-returns-clause-apart c = λ acc list script last more h m. printed_apart (grammar c) (Script acc) list script tt h last more m
+returns-clause-apart c = λ acc script last more h m. printed_apart (Script acc) script tt h last more m
 
 pub returns-clause-within : goal.returns-clause-within
-returns-clause-within c = λ acc list script last more some h. printed_no_longer (Script acc) list script (recursion_from_All (λ (word : List ℕ). 0 < length word) list some) h last more
+returns-clause-within c = λ acc list script last more h. printed_no_longer (Script acc) list script h last more
 
 pub returns-clause-short : goal.returns-clause-short
 returns-clause-short c = λ acc text script h. printed_short (Script acc) text script h
 
 pub returns-clause-again : goal.returns-clause-again
-returns-clause-again c = λ acc list script places answer h a m.
-    c.one_answer.ensures.script acc (words (printed script)) places answer (Ok script) a (printed_text_spells (grammar c) (Script acc) list script tt h) m (script_is_no_fault script Memory)
+returns-clause-again c = λ acc script places answer h d a m.
+    c.one_answer.ensures.script acc (words (printed script)) places answer (Ok script) a (printed_text_spells (grammar c) (Script acc) script tt h d) m (script_is_no_fault script Memory)
