@@ -168,7 +168,12 @@ impl Node {
             Node::Source(_) => Evaluated::without_picks(kept),
             Node::Fold(_, _, _) => Evaluated::without_picks(kept),
             Node::Signal(script, inputs) => {
-                let value = run(script, inputs.as_slice(), earlier, Value::Fault(Fault::Kind));
+                let value = run(
+                    script,
+                    inputs.as_slice(),
+                    earlier,
+                    Value::Fault(Fault::Kind),
+                );
                 Evaluated::without_picks(value)
             }
             Node::Choose(selectors, body, _) => choose(selectors.as_slice(), body, earlier),
