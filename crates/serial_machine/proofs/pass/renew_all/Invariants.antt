@@ -1,5 +1,5 @@
-use Rattle.serial_machine.proofs.OnePass.{HasCome}
-use Rattle.serial_machine.proofs.pass.new_values.Given as goal
+use Rattle.serial_machine.proofs.InPlace.{Comes}
+use Rattle.serial_machine.proofs.pass.renew_all.Given as goal
 
 abbrev pub invariant-loop-number : goal.invariant-loop-number
-invariant-loop-number l = HasCome l.graph l.before l.set l.number l.now.items l.changed l.evaluated
+invariant-loop-number l = Comes l.graph l.before l.fn.now.items l.number l.now.items l.picks.items l.changed l.evaluated
