@@ -1,6 +1,7 @@
 // Scripts.
 
-ghost use Rattle.std.specs.Prelude.{◌≡◌, length};
+ghost use Rattle.std.specs.Prelude.{◌≡◌, ◌≤◌, length};
+ghost use Rattle.script_tree.specs.declared.limits.TheConstants.{INPUTS};
 ghost use Rattle.script_tree.specs.Tree.{tree_of};
 ghost use Rattle.script_tree.specs.Eval.{eval_script, eval_body};
 ghost use Rattle.script_tree.specs.Scripts.{WellFormed, HasNoPicks, IsBody};
@@ -50,7 +51,8 @@ impl Script {
 
     /// The different names, in the order of their first appearance, without `acc`.
     pub fn inputs(&self) -> &NameList
-        ensures { result.now ≡ self.now.names }
+        ensures names { result.now ≡ self.now.names }
+        ensures few { length self.now.names ≤ INPUTS }
     {
         &self.names
     }

@@ -19,7 +19,7 @@ use Rattle.serial_machine.specs.Between.{one_if, is_evaluated, count_changed, co
 use Rattle.serial_machine.proofs.Counting.{left, one_more, none_more, new_step}
 
 -- a value that was found stays
-new_stay : (before set : Values) (nodes : List Node) (earlier : Values) (k : ℕ) → k < length earlier → at (new_from before set earlier nodes) k ≡ at earlier k
+pub new_stay : (before set : Values) (nodes : List Node) (earlier : Values) (k : ℕ) → k < length earlier → at (new_from before set earlier nodes) k ≡ at earlier k
 new_stay before set [] earlier k h = refl
 new_stay before set (node ∷ rest) earlier k h =
     let v = new_value node (at set (length earlier)) (at before (length earlier)) before earlier in

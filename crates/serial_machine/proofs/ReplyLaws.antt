@@ -1,6 +1,6 @@
 -- The reply that the values before a call and after it give is the one-thread machine's.
 use Rattle.std.proofs.Common.{◌≡◌, ℕ, ◌+◌, ◌<◌, ◌≤◌, Bool, true, false, List, [], ◌∷◌, length, refl, sym, ap, ◌∙◌, subst, arith}
-use Rattle.std.specs.Prelude.{filter, cond, not, nat_lt, ◌&&◌, ◌||◌, ◌==◌}
+use Rattle.std.specs.Prelude.{map, filter, cond, not, nat_lt, ◌&&◌, ◌||◌, ◌==◌}
 use Rattle.std.specs.List.{list_any}
 use Rattle.std.proofs.lemmas.Cmp.{int_eq_equiv}
 use Rattle.std.proofs.lemmas.List.{get_or_past}
@@ -12,9 +12,9 @@ use Rattle.signal_graph.specs.declared.node.Node.{Node}
 use Rattle.signal_graph.specs.declared.call.Call.{Call}
 use Rattle.signal_graph.specs.declared.call.Call.TheVariants.{Fire, Read}
 use Rattle.signal_graph.specs.declared.call.Reply.TheVariants.{Fire as Fired, Read as Seen}
-use Rattle.signal_graph.specs.Graph.{Graph, node_at, numbers, numbers_from, is_in, is_source}
+use Rattle.signal_graph.specs.Graph.{Graph, node_at, numbers, numbers_from, is_in, is_source, number_of}
 use Rattle.signal_graph.specs.Values.{Values, at, values, deps}
-use Rattle.signal_graph.specs.Machine.{differs, same, after, reply, evaluated, looked}
+use Rattle.signal_graph.specs.Machine.{differs, same, after, reply, evaluated, looked, sets_of, looks_of}
 use Rattle.signal_graph.specs.OnePass.{after_call}
 use Rattle.serial_machine.specs.Between.{is_evaluated, count_changed, count_evaluated, looked_in, reply_between}
 
@@ -113,3 +113,26 @@ step_is graph all kept call size gives pass long =
     let e : values graph (after graph kept call) ≡ now = pass ∙ ap (λ vs. after_call graph vs call) gives in
     reply_is graph kept now call (ap length gives ∙ size) (sym (ap length e) ∙ long) e
     ∙ ap (λ vs. reply_between graph vs now call) gives
+
+looked_by_number : (graph : Graph) (all : Values) (names : List (List ℕ)) → map (at all) (map (number_of graph) names) ≡ looked_in graph all names
+looked_by_number graph all [] = refl
+looked_by_number graph all (name ∷ names) = ap (λ vs. at all (number_of graph name) ∷ vs) (looked_by_number graph all names)
+
+-- the values of the nodes that a read names are its reply
+pub read_is : (graph : Graph) (all kept : Values) (call : Call) (names : List (List ℕ)) (nodes : List ℕ) (seen : List Value) → call ≡ Read names → values graph kept ≡ all
+    → nodes ≡ map (number_of graph) (looks_of call) → seen ≡ map (at all) nodes → Seen seen ≡ reply graph kept call
+read_is graph all kept call names nodes seen is gives numbers sees =
+    let here : nodes ≡ map (number_of graph) names = numbers ∙ ap (λ k. map (number_of graph) (looks_of k)) is in
+    ap Seen (sees ∙ ap (map (at all)) here ∙ looked_by_number graph all names ∙ ap (λ vs. looked_in graph vs names) (sym gives)) ∙ ap (reply graph kept) (sym is)
+
+-- a fire is what it sets and looks at
+pub fire_again : (call : Call) (sets : List (List ℕ × Value)) (looks : List (List ℕ)) → call ≡ Fire sets looks → Fire (sets_of call) (looks_of call) ≡ call
+fire_again call sets looks is = ap (λ k. Fire (sets_of k) (looks_of k)) is ∙ sym is
+
+-- the reply to a fire over equal graphs, values and looks
+pub fired_is : (g h : Graph) (b c n m : Values) (nodes : List ℕ) (names : List (List ℕ)) (changed evaluated : ℕ) (seen : List Value) → changed ≡ count_changed g b n → evaluated ≡ count_evaluated g b n
+    → seen ≡ map (at n) nodes → nodes ≡ map (number_of h) names → g ≡ h → b ≡ c → n ≡ m → Fired changed evaluated seen ≡ Fired (count_changed h c m) (count_evaluated h c m) (looked_in h m names)
+fired_is g h b c n m nodes names changed evaluated seen by_change by_deps by_looks numbers graph before now =
+    ap (λ x. Fired x evaluated seen) (by_change ∙ ap (λ x. count_changed x b n) graph ∙ ap (λ x. count_changed h x n) before ∙ ap (count_changed h c) now)
+    ∙ ap (λ x. Fired (count_changed h c m) x seen) (by_deps ∙ ap (λ x. count_evaluated x b n) graph ∙ ap (λ x. count_evaluated h x n) before ∙ ap (λ x. count_evaluated h c x) now)
+    ∙ ap (Fired (count_changed h c m) (count_evaluated h c m)) (by_looks ∙ ap (map (at n)) numbers ∙ looked_by_number h n names ∙ ap (λ x. looked_in h x names) now)

@@ -1,19 +1,16 @@
 // Which values are others than before, and which nodes rested on such a value.
 
-ghost use Rattle.std.specs.Prelude.{◌≡◌, [], ◌∷◌, IfOk};
+ghost use Rattle.std.specs.Prelude.{◌≡◌, [], ◌∷◌};
 ghost use Rattle.std.specs.List.{list_any};
 ghost use Rattle.signal_graph.specs.Graph.{inputs_of, is_source};
 ghost use Rattle.signal_graph.specs.Values.{at, nodes_in, picks_of};
 ghost use Rattle.signal_graph.specs.Machine.{same, same_fault, differs};
-ghost use Rattle.signal_graph.specs.Evaluation.{CanEvaluate};
 ghost use Rattle.serial_machine.specs.Between.{is_evaluated};
 
-use script_tree::memory::OutOfMemory;
 use script_tree::picks::Picks;
 use script_tree::value::{Fault, Value};
 use signal_graph::evaluate::value_at;
 use signal_graph::node::Node;
-use std::alloc::Global;
 
 fn is_same_fault(left: Fault, right: Fault) -> bool
     ensures { result ≡ same_fault left right }
@@ -73,23 +70,17 @@ fn any_picked_differs(before: &[Value], now: &[Value], picks: &Picks) -> bool
     false
 }
 
-/// Whether a node is no source and rested before on a node that has another value now. Takes memory.
+/// Whether a node, whose picks before are given, is no source and rested before on a node that has another value now.
 #[tactic(auto, using(crate::proofs::Counting::any_append))]
-pub fn is_evaluated(
-    alloc: Global,
-    node: &Node,
-    before: &[Value],
-    now: &[Value],
-) -> Result<bool, OutOfMemory>
-    requires { CanEvaluate node.now }
-    ensures { IfOk result (λ found. found ≡ is_evaluated before.now now.now node.now) }
+pub fn is_evaluated(node: &Node, picks: &Picks, before: &[Value], now: &[Value]) -> bool
+    requires { picks.now ≡ picks_of node.now before.now }
+    ensures { result ≡ is_evaluated before.now now.now node.now }
 {
     if let Node::Source(_) = node {
-        return Ok(false);
+        return false;
     }
     if any_differs(before, now, node.inputs()) {
-        return Ok(true);
+        return true;
     }
-    let picks = node.picks(alloc, before)?;
-    Ok(any_picked_differs(before, now, &picks))
+    any_picked_differs(before, now, picks)
 }

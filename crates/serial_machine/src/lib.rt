@@ -1,4 +1,4 @@
-//! The plain one-thread machine, which finds every value again at each call, and the run of all scripts on it.
+//! The plain one-thread machine, and the run of all scripts on it.
 #![tactic(auto)]
 
 mod compare;

@@ -1,43 +1,45 @@
 // The machine.
 
-ghost use Rattle.std.specs.Prelude.{◌≡◌, ℕ, ◌<◌, ◌≤◌, [], length, map, slice_set, None, IfOk, OnOk, OnErr, MatchResult};
+ghost use Rattle.std.specs.Prelude.{◌≡◌, ℕ, ◌<◌, ◌≤◌, [], List, length, map, take, slice_set, vec_capacity, vec_len, None, IfOk, OnOk, OnErr, MatchResult};
 ghost use Rattle.script_tree.specs.declared.limits.TheConstants.{SETS, LOOKS};
-ghost use Rattle.signal_graph.specs.Graph.{IsGraph, number_of};
+ghost use Rattle.script_tree.specs.declared.value.Value.{Value};
+ghost use Rattle.signal_graph.specs.Graph.{Graph, IsGraph, number_of};
 ghost use Rattle.signal_graph.specs.Values.{Values, at, values, val, start};
 ghost use Rattle.signal_graph.specs.Machine.{with_sets, sets_of, looks_of, misnamed, after, reply};
+ghost use Rattle.signal_graph.specs.Named.{numbers_in};
 ghost use Rattle.signal_graph.specs.OnePass.{after_call};
 ghost use Rattle.serial_machine.specs.State.{IsAt};
-ghost use Rattle.serial_machine.specs.Between.{count_changed, count_evaluated, looked_in, reply_between};
+ghost use Rattle.serial_machine.specs.Between.{count_changed, count_evaluated, reply_between};
 
-use crate::pass::new_values;
+use crate::pass::renew_all;
 use script_tree::items::Items;
 use script_tree::memory::OutOfMemory;
-use script_tree::name::{Name, NameList};
+use script_tree::name::Name;
+use script_tree::picks::Picks;
 use script_tree::value::Value;
-use signal_graph::call::{Call, Reply, SetList, ValueList};
+use signal_graph::call::{Call, Named, Reply, ValueList};
 use signal_graph::evaluate::value_at;
 use signal_graph::graph::Graph;
 use signal_graph::laws;
 use std::alloc::Global;
 use std::marker::Model;
-use std::mem;
 
-/// A graph and the values of all its nodes in one state, which follow from the values of its sources and folds. Each
-/// call finds every value again. Contracts see the graph and the values.
+/// A graph and the values of all its nodes in one state, which follow from the values of its sources and folds. Beside
+/// them stand the picks of each choose, so that a fire evaluates only what rests on a change. Contracts see the graph
+/// and the values.
 #[derive(Drop)]
 pub struct Machine<'g> {
     alloc: Global,
     graph: &'g Graph,
     values: Vec<Value>,
-    set: Vec<Value>,
-    next: Vec<Value>,
+    picks: Vec<Picks>,
+    before: Vec<Value>,
 }
 
 impl<'g> Model for Machine<'g> {
-    ghost use Rattle.std.specs.Prelude.{◌≡◌, length};
     ghost use Rattle.script_tree.specs.TreeCode.{tree_code};
     ghost use Rattle.std.specs.Coded.{codes};
-    ghost use Rattle.serial_machine.specs.State.{State};
+    ghost use Rattle.serial_machine.specs.State.{State, IsKept};
 
     ghost Value = { State };
 
@@ -45,77 +47,116 @@ impl<'g> Model for Machine<'g> {
 
     ghost view = { λ m. record { graph = m.graph.now; all = m.values.items } };
 
-    ghost invariant = { λ m. length m.values.items ≡ length m.graph.now.nodes };
+    ghost invariant = { λ m. IsKept m.graph.now m.values.items m.picks.items };
 }
 
-/// The number of the node with a name, or how many nodes there are where none has it.
-#[tactic(auto, using(crate::proofs::Counting::number_beyond))]
-fn number_of(graph: &Graph, name: &Name) -> u32
-    ensures { result ≡ number_of graph.now name.now }
+/// The values of nodes, in the room that a list has.
+fn look(nodes: &[u32], values: &[Value], room: Vec<Value>) -> ValueList
+    requires empty { vec_len room ≡ 0 }
+    requires room { length nodes.now ≤ vec_capacity room }
+    ensures { result ≡ map (at values.now) nodes.now }
 {
-    let len = graph.len();
-    match graph.find(name) {
-        Some(node) => node,
-        None => len,
+    let mut seen = room;
+    for node in nodes {
+        seen.push_reserved(value_at(values, *node));
     }
-}
-
-/// The values of the nodes with these names.
-fn look(
-    alloc: Global,
-    graph: &Graph,
-    values: &[Value],
-    looks: &NameList,
-) -> Result<ValueList, OutOfMemory>
-    ensures { IfOk result (λ seen. seen ≡ looked_in graph.now values.now looks.now) }
-{
-    let mut seen = Items::from_vec(Vec::with_capacity(alloc, looks.len())?);
-    for name in looks.as_slice() {
-        seen.push(value_at(values, number_of(graph, name)))?;
-    }
-    Ok(seen)
+    Items::from_vec(seen)
 }
 
 /// Puts what is set in the place of what the sources have, one set after the other.
 #[tactic(auto, using(crate::proofs::Counting::sets_step, crate::proofs::Counting::set_beyond))]
-fn apply(graph: &Graph, sets: &SetList, values: &mut Vec<Value>)
-    ensures { values.new.items ≡ with_sets graph.now values.old.items sets.now }
+fn apply(sets: &[(Name, Value)], nodes: &[u32], values: &mut Vec<Value>)
+    requires { length nodes.now ≡ length sets.now }
+    ensures size { length values.new.items ≡ length values.old.items }
+    ensures sets { (graph : Graph) → nodes.now ≡ map (λ s. number_of graph s.0) sets.now → values.new.items ≡ with_sets graph values.old.items sets.now }
 {
-    for (name, value) in sets.as_slice() {
-        let node = number_of(graph, name) as usize;
+    for (index, set) in sets.iter().enumerate() {
+        let node = nodes[index] as usize;
         if node < values.len() {
-            values[node] = *value;
+            values[node] = set.1;
         }
     }
 }
 
+/// The numbers of the nodes with these names, or how many nodes there are where none has one. Takes memory.
+fn numbers_of(alloc: Global, graph: &Graph, names: &[Name]) -> Result<Vec<u32>, OutOfMemory>
+    ensures { IfOk result (λ numbers. numbers.items ≡ map (number_of graph.now) names.now) }
+{
+    let mut numbers = Vec::new(alloc);
+    for name in names {
+        numbers.push(graph.number(name))?;
+    }
+    Ok(numbers)
+}
+
+/// The numbers of the nodes that are set. Takes memory.
+fn numbers_set(
+    alloc: Global,
+    graph: &Graph,
+    sets: &[(Name, Value)],
+) -> Result<Vec<u32>, OutOfMemory>
+    ensures { IfOk result (λ numbers. numbers.items ≡ map (λ s. number_of graph.now s.0) sets.now) }
+{
+    let mut numbers = Vec::new(alloc);
+    for set in sets {
+        numbers.push(graph.number(&set.0))?;
+    }
+    Ok(numbers)
+}
+
 impl<'g> Machine<'g> {
     /// The machine of a graph, in the start state. Takes memory.
-    #[tactic(auto, using(crate::proofs::Counting::start_step))]
     pub fn new(alloc: Global, graph: &'g Graph) -> Result<Machine<'g>, OutOfMemory>
         ensures graph { IfOk result (λ machine. machine.graph ≡ graph.now) }
         ensures start { IfOk result (λ machine. IsAt machine (start graph.now)) }
     {
         let mut values = Vec::new(alloc);
-        laws::can_evaluate();
+        let mut picks = Vec::new(alloc);
         for node in 0..graph.len() {
-            let kept = graph.node(node).start_value();
-            let value = graph.node(node).value(alloc, kept, values.as_slice())?;
-            values.push(value)?;
+            values.push(graph.start_value(node))?;
+            picks.push(graph.start_picks(node))?;
         }
         Ok(Machine {
             alloc,
             graph,
             values,
-            set: Vec::new(alloc),
-            next: Vec::new(alloc),
+            picks,
+            before: Vec::new(alloc),
         })
     }
 
     /// Makes a call, which names nothing that is not there: a fire sets its sources, one set after the other, and then
-    /// finds every value again. Takes memory; where there is none, the machine is as it was.
+    /// all that rests on a change is found again. Takes memory; where there is none, the machine is as it was.
     pub fn step(&mut self, call: &Call) -> Result<Reply, OutOfMemory>
         requires { misnamed self.old.graph call.now ≡ None }
+        ensures graph { self.new.graph ≡ self.old.graph }
+        ensures replies { (kept : Values) → IsAt self.old kept → IfOk result (λ answer. answer ≡ reply self.old.graph kept call.now) }
+        ensures moves { (kept : Values) → IsAt self.old kept → OnOk result (IsAt self.new (after self.old.graph kept call.now)) }
+        ensures err { OnErr result (self.new ≡ self.old) }
+    {
+        let sets = numbers_set(self.alloc, self.graph, call.sets())?;
+        let looks = numbers_of(self.alloc, self.graph, call.looks())?;
+        self.make(call, sets.as_slice(), looks.as_slice())
+    }
+
+    /// Makes a call whose names were looked up, as `step` does. Takes memory for the reply alone; where there is none,
+    /// the machine is as it was.
+    pub fn step_named(&mut self, call: &Call, named: &Named) -> Result<Reply, OutOfMemory>
+        requires right { misnamed self.old.graph call.now ≡ None }
+        requires named { named.now ≡ numbers_in self.old.graph call.now }
+        ensures graph { self.new.graph ≡ self.old.graph }
+        ensures replies { (kept : Values) → IsAt self.old kept → IfOk result (λ answer. answer ≡ reply self.old.graph kept call.now) }
+        ensures moves { (kept : Values) → IsAt self.old kept → OnOk result (IsAt self.new (after self.old.graph kept call.now)) }
+        ensures err { OnErr result (self.new ≡ self.old) }
+    {
+        self.make(call, named.sets(), named.looks())
+    }
+
+    /// Makes a call that names these nodes.
+    fn make(&mut self, call: &Call, sets: &[u32], looks: &[u32]) -> Result<Reply, OutOfMemory>
+        requires right { misnamed self.old.graph call.now ≡ None }
+        requires sets { sets.now ≡ map (λ s. number_of self.old.graph s.0) (sets_of call.now) }
+        requires looks { looks.now ≡ map (number_of self.old.graph) (looks_of call.now) }
         ensures graph { self.new.graph ≡ self.old.graph }
         ensures replies { (kept : Values) → IsAt self.old kept → IfOk result (λ answer. answer ≡ reply self.old.graph kept call.now) }
         ensures moves { (kept : Values) → IsAt self.old kept → OnOk result (IsAt self.new (after self.old.graph kept call.now)) }
@@ -125,11 +166,12 @@ impl<'g> Machine<'g> {
         laws::literal();
         laws::values_are();
         match call {
-            Call::Read { looks } => {
-                let looks = look(self.alloc, self.graph, self.values.as_slice(), looks)?;
+            Call::Read { .. } => {
+                let room = Vec::with_capacity(self.alloc, looks.len())?;
+                let looks = look(looks, self.values.as_slice(), room);
                 Ok(Reply::Read { looks })
             }
-            Call::Fire { sets, looks } => self.fire(sets, looks),
+            Call::Fire { .. } => self.fire(call.sets(), sets, looks),
         }
     }
 
@@ -149,29 +191,33 @@ impl<'g> Machine<'g> {
         Items::from_vec(values)
     }
 
-    /// Makes a fire.
-    fn fire(&mut self, sets: &SetList, looks: &NameList) -> Result<Reply, OutOfMemory>
+    /// Makes a fire that sets and looks at these nodes.
+    fn fire(
+        &mut self,
+        sets: &[(Name, Value)],
+        nodes: &[u32],
+        looks: &[u32],
+    ) -> Result<Reply, OutOfMemory>
+        requires { nodes.now ≡ map (λ s. number_of self.old.graph s.0) sets.now }
         ensures graph { self.new.graph ≡ self.old.graph }
-        ensures replies { IfOk result (λ answer. answer ≡ reply_between self.old.graph self.old.all (after_call self.old.graph self.old.all (Call.Fire sets.now looks.now)) (Call.Fire sets.now looks.now)) }
-        ensures moves { OnOk result (self.new.all ≡ after_call self.old.graph self.old.all (Call.Fire sets.now looks.now)) }
+        ensures replies { (names : List (List ℕ)) → looks.now ≡ map (number_of self.old.graph) names → IfOk result (λ answer. answer ≡ reply_between self.old.graph self.old.all (after_call self.old.graph self.old.all (Call.Fire sets.now names)) (Call.Fire sets.now names)) }
+        ensures moves { (names : List (List ℕ)) → OnOk result (self.new.all ≡ after_call self.old.graph self.old.all (Call.Fire sets.now names)) }
         ensures err { OnErr result (self.new ≡ self.old) }
     {
-        self.set.clear();
-        self.set.extend_from_slice(self.values.as_slice())?;
-        apply(self.graph, sets, &mut self.set);
-        let counts = new_values(
-            self.alloc,
+        let room = Vec::with_capacity(self.alloc, looks.len())?;
+        self.before.clear();
+        self.before.extend_from_slice(self.values.as_slice())?;
+        apply(sets, nodes, &mut self.values);
+        let counts = renew_all(
             self.graph,
-            self.values.as_slice(),
-            self.set.as_slice(),
-            &mut self.next,
-        )?;
-        let looks = look(self.alloc, self.graph, self.next.as_slice(), looks)?;
-        mem::swap(&mut self.values, &mut self.next);
+            self.before.as_slice(),
+            &mut self.values,
+            &mut self.picks,
+        );
         Ok(Reply::Fire {
             changed: counts.changed,
             evaluated: counts.evaluated,
-            looks,
+            looks: look(looks, self.values.as_slice(), room),
         })
     }
 

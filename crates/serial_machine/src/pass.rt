@@ -1,22 +1,21 @@
-// All values after a call, in one pass over the nodes.
+// All values after a fire, in one pass over the nodes.
 
-ghost use Rattle.std.specs.Prelude.{◌≡◌, ◌+◌, ◌<◌, ◌^◌, [], length, IfOk, OnOk};
+ghost use Rattle.std.specs.Prelude.{◌≡◌, ◌+◌, ◌<◌, ◌^◌, [], true, length, take, slice_set, slice_index_or};
 ghost use Rattle.script_tree.specs.declared.value.Value.{Value};
-ghost use Rattle.signal_graph.specs.Graph.{node_at};
-ghost use Rattle.signal_graph.specs.Values.{Values, at, run, node_value};
+ghost use Rattle.signal_graph.specs.Graph.{IsGraph, node_at};
+ghost use Rattle.signal_graph.specs.Values.{Values, at, values, run, node_value, picks_of};
 ghost use Rattle.signal_graph.specs.Machine.{differs};
 ghost use Rattle.signal_graph.specs.Evaluation.{CanEvaluate};
 ghost use Rattle.signal_graph.specs.OnePass.{new_value, new_from};
+ghost use Rattle.serial_machine.specs.State.{ArePicks};
 ghost use Rattle.serial_machine.specs.Between.{one_if, is_evaluated, count_changed, count_evaluated};
 
 use crate::compare::{is_evaluated, is_same};
-use script_tree::memory::OutOfMemory;
+use script_tree::picks::Picks;
 use script_tree::value::Value;
-use signal_graph::evaluate::{run, value_at};
+use signal_graph::evaluate::{Evaluated, run, value_at};
 use signal_graph::graph::Graph;
-use signal_graph::laws::can_evaluate;
 use signal_graph::node::Node;
-use std::alloc::Global;
 
 /// What a fire did to the nodes.
 #[derive(Clone, Copy)]
@@ -35,64 +34,83 @@ fn counted(count: u32, test: bool) -> u32
     if test { count + 1 } else { count }
 }
 
-/// A node's value after a fire, from whether it is evaluated. A fold makes a step then.
-fn new_value(
-    alloc: Global,
-    node: &Node,
-    evaluated: bool,
-    set: Value,
-    old: Value,
-    earlier: &[Value],
-) -> Result<Value, OutOfMemory>
+/// What a node gives where it is evaluated, from its value before. A fold makes a step then.
+#[tactic(auto, using(crate::proofs::OnePass::fold_value))]
+fn step(node: &Node, old: Value, earlier: &[Value]) -> Evaluated
     requires { CanEvaluate node.now }
-    ensures { (before : Values) → evaluated ≡ is_evaluated before earlier.now node.now → IfOk result (λ value. value ≡ new_value node.now set old before earlier.now) }
+    ensures value { (before : Values) (set : Value) → is_evaluated before earlier.now node.now ≡ true → result.value ≡ new_value node.now set old before earlier.now }
+    ensures picks { result.picks ≡ picks_of node.now earlier.now }
 {
     match node {
         Node::Fold(_, script, inputs) => {
-            if evaluated {
-                run(alloc, script, inputs.as_slice(), earlier, old)
-            } else {
-                Ok(old)
-            }
+            Evaluated::without_picks(run(script, inputs.as_slice(), earlier, old))
         }
-        _ => node.value(alloc, set, earlier),
+        Node::Source(_) => node.evaluate(old, earlier),
+        Node::Signal(_, _) => node.evaluate(old, earlier),
+        Node::Choose(_, _, _) => node.evaluate(old, earlier),
     }
 }
 
-/// Puts all values after a fire into `now`, from those before it and from those with what is set, and counts what the
-/// fire did. When the pass comes to a node, all nodes that it names have their new values. Takes memory; where
-/// there is none, what `now` has is left open.
-pub fn new_values(
-    alloc: Global,
+/// Gives a node its value and picks after a fire, where the nodes before it have theirs and a source has what is set,
+/// and answers whether it was evaluated. A node that rests on nothing that changed keeps its value and picks.
+fn renew(
+    graph: &Graph,
+    number: u32,
+    before: &[Value],
+    now: &mut Vec<Value>,
+    picks: &mut Vec<Picks>,
+) -> bool
+    requires graph { IsGraph graph.now }
+    requires known { number < length graph.now.nodes }
+    requires has_value { length now.old.items ≡ length graph.now.nodes }
+    requires has_picks { length picks.old.items ≡ length graph.now.nodes }
+    requires follow { values graph.now before.now ≡ before.now }
+    requires picked { slice_index_or picks.old.items number [] ≡ picks_of (node_at graph.now number) before.now }
+    ensures evaluated { result ≡ is_evaluated before.now (take number now.old.items) (node_at graph.now number) }
+    ensures value { now.new.items ≡ slice_set now.old.items number (new_value (node_at graph.now number) (at now.old.items number) (at before.now number) before.now (take number now.old.items)) }
+    ensures picks { picks.new.items ≡ slice_set picks.old.items number (picks_of (node_at graph.now number) (take number now.old.items)) }
+{
+    let node = graph.node(number);
+    let place = number as usize;
+    if let Node::Source(_) = node {
+        return false;
+    }
+    let earlier = &now[..place];
+    if !is_evaluated(node, &picks[place], before, earlier) {
+        now[place] = value_at(before, number);
+        return false;
+    }
+    let found = step(node, value_at(before, number), earlier);
+    now[place] = found.value;
+    picks[place] = found.picks;
+    true
+}
+
+/// Brings the values of all nodes and their picks from before a fire, where `now` has what is set, to after it, and
+/// counts what the fire did. When the pass comes to a node, all nodes that it rests on have their new values. Each node
+/// is evaluated at most once. Takes no memory.
+#[tactic(auto, using(crate::proofs::InPlace::begins, crate::proofs::InPlace::ends))]
+pub fn renew_all(
     graph: &Graph,
     before: &[Value],
-    set: &[Value],
     now: &mut Vec<Value>,
-) -> Result<Counts, OutOfMemory>
-    ensures values { OnOk result (now.new.items ≡ new_from before.now set.now [] graph.now.nodes) }
-    ensures size { OnOk result (length now.new.items ≡ length graph.now.nodes) }
-    ensures changed { IfOk result (λ counts. counts.changed ≡ count_changed graph.now before.now now.new.items) }
-    ensures evaluated { IfOk result (λ counts. counts.evaluated ≡ count_evaluated graph.now before.now now.new.items) }
+    picks: &mut Vec<Picks>,
+) -> Counts
+    requires follow { values graph.now before.now ≡ before.now }
+    requires fits { length now.old.items ≡ length graph.now.nodes }
+    requires picked { ArePicks graph.now before.now picks.old.items }
+    ensures values { now.new.items ≡ new_from before.now now.old.items [] graph.now.nodes }
+    ensures picked { ArePicks graph.now now.new.items picks.new.items }
+    ensures changed { result.changed ≡ count_changed graph.now before.now now.new.items }
+    ensures evaluated { result.evaluated ≡ count_evaluated graph.now before.now now.new.items }
 {
-    can_evaluate();
-    now.clear();
     let mut changed = 0;
     let mut evaluated = 0;
     for number in 0..graph.len() {
-        let node = graph.node(number);
-        let old = value_at(before, number);
-        let touched = is_evaluated(alloc, node, before, now.as_slice())?;
-        let value = new_value(
-            alloc,
-            node,
-            touched,
-            value_at(set, number),
-            old,
-            now.as_slice(),
-        )?;
-        now.push(value)?;
-        changed = counted(changed, !is_same(old, value));
+        let touched = renew(graph, number, before, now, picks);
+        let same = is_same(value_at(before, number), value_at(now.as_slice(), number));
+        changed = counted(changed, !same);
         evaluated = counted(evaluated, touched);
     }
-    Ok(Counts { changed, evaluated })
+    Counts { changed, evaluated }
 }

@@ -18,7 +18,7 @@ use Rattle.signal_graph.specs.declared.node.Node.TheVariants.{Source, Signal, Fo
 use Rattle.signal_graph.specs.Graph.{Graph, node_at, kind_of, is_in, inputs_of, inputs_of_all, different, different_from, IsNode, AreNodes, IsGraph}
 use Rattle.signal_graph.specs.Values.{Values, at, select, run, selected, pick_of, pick, first_pick, choose_value, node_value, values_from, values, val, taken, picks_of, nodes_in, deps}
 use Rattle.signal_graph.specs.OnePass.{new_value, new_from}
-use Rattle.signal_graph.proofs.Values.{values_are}
+use Rattle.signal_graph.proofs.Values.{values_are, values_stay}
 
 pub new_stay : (before set : Values) (nodes : List Node) (earlier : Values) (k : ℕ) → k < length earlier → at (new_from before set earlier nodes) k ≡ at earlier k
 new_stay before set [] earlier k h = refl
@@ -39,6 +39,12 @@ kept_value (Signal script inputs) set old before earlier = refl
 kept_value (Fold start script inputs) set old before earlier = refl
 kept_value (Choose selectors body inputs) set old before earlier = refl
 
+value_of_value : (node : Node) (kept : Value) (earlier : Values) → node_value node (node_value node kept earlier) earlier ≡ node_value node kept earlier
+value_of_value (Source start) kept earlier = refl
+value_of_value (Signal script inputs) kept earlier = refl
+value_of_value (Fold start script inputs) kept earlier = refl
+value_of_value (Choose selectors body inputs) kept earlier = refl
+
 -- what a fire gives is the values of a state, which keeps of them those of the sources and folds
 pub new_values_from : (before set : Values) (nodes : List Node) (earlier : Values) → values_from earlier nodes (new_from before set earlier nodes) ≡ new_from before set earlier nodes
 new_values_from before set [] earlier = refl
@@ -50,7 +56,7 @@ new_values_from before set (node ∷ rest) earlier =
     ∙ ap (λ u. values_from (earlier ++ u ∷ []) rest whole) (kept_value node (at set (length earlier)) (at before (length earlier)) before earlier)
     ∙ new_values_from before set rest (earlier ++ v ∷ [])
 
-same_map : (a b : Values) (xs : List ℕ) → AllByRecursion (λ m. at a m ≡ at b m) xs → map (at a) xs ≡ map (at b) xs
+pub same_map : (a b : Values) (xs : List ℕ) → AllByRecursion (λ m. at a m ≡ at b m) xs → map (at a) xs ≡ map (at b) xs
 same_map a b [] h = refl
 same_map a b (x ∷ xs) h = ap (λ v. v ∷ map (at a) xs) h.0 ∙ ap (λ vs. at b x ∷ vs) (same_map a b xs h.1)
 
@@ -72,7 +78,7 @@ in_all P n (m ∷ ns) e h = cases (m == n) refl (λ k. in_all P n ns k h.1)
     cases false other later = later (sym (ap (λ b. b || is_in n ns) other) ∙ e)
 
 -- what holds of the different members of a list holds of all of them
-all_of_different : (P : ℕ → Type 0) (seen ns : List ℕ) → AllByRecursion P seen → AllByRecursion P (different_from seen ns) → AllByRecursion P ns
+pub all_of_different : (P : ℕ → Type 0) (seen ns : List ℕ) → AllByRecursion P seen → AllByRecursion P (different_from seen ns) → AllByRecursion P ns
 all_of_different P seen [] s h = tt
 all_of_different P seen (n ∷ ns) s h =
     cases (is_in n seen) refl h (λ k. all_of_different P seen ns s k) (λ p k. all_of_different P (n ∷ seen) ns (p, s) k)
@@ -116,6 +122,35 @@ skips_node names n (Choose selectors body inputs) u v a b is_node not_source not
     choose_same a b selectors body
     (all_of_different _ [] (inputs_of_all selectors) tt (subst (AllByRecursion (λ m. at a m ≡ at b m)) is_node.4 (front _ inputs _ h)))
     (back _ inputs _ h)
+
+selected_same : (a b : Values) (selector : Selector) → AllByRecursion (λ m. at a m ≡ at b m) selector.inputs → selected a selector ≡ selected b selector
+selected_same a b selector h = ap (λ vs. select (eval_script selector.script.tree vs (Faulty Kind)) selector.candidates) (same_map a b selector.inputs h)
+
+all_selected_same : (a b : Values) (selectors : List Selector) → AllByRecursion (λ m. at a m ≡ at b m) (inputs_of_all selectors) → map (λ s. taken (selected a s)) selectors ≡ map (λ s. taken (selected b s)) selectors
+all_selected_same a b [] h = refl
+all_selected_same a b (s ∷ rest) h =
+    ap (λ r. taken r ∷ map (λ s. taken (selected a s)) rest) (selected_same a b s (front _ s.inputs (inputs_of_all rest) h))
+    ∙ ap (λ ps. taken (selected b s) ∷ ps) (all_selected_same a b rest (back _ s.inputs (inputs_of_all rest) h))
+
+-- a node picks the same where its inputs have the same values
+pub same_picks : (names : List (List ℕ)) (n : ℕ) (node : Node) (a b : Values) → IsNode names n node → AllByRecursion (λ m. at a m ≡ at b m) (inputs_of node) → picks_of node a ≡ picks_of node b
+same_picks names n (Source start) a b is_node h = refl
+same_picks names n (Signal script inputs) a b is_node h = refl
+same_picks names n (Fold start script inputs) a b is_node h = refl
+same_picks names n (Choose selectors body inputs) a b is_node h =
+    all_selected_same a b selectors (all_of_different _ [] (inputs_of_all selectors) tt (subst (AllByRecursion (λ m. at a m ≡ at b m)) is_node.4 h))
+
+-- the values of a state are themselves a state, which has these values
+pub values_of_values : (nodes : List Node) (earlier kept : Values) → values_from earlier nodes (values_from earlier nodes kept) ≡ values_from earlier nodes kept
+values_of_values [] earlier kept = refl
+values_of_values (node ∷ rest) earlier kept =
+    let k = at kept (length earlier) in
+    let v = node_value node k earlier in
+    let whole = values_from (earlier ++ v ∷ []) rest kept in
+    let here = values_stay rest (earlier ++ v ∷ []) kept (length earlier) (omega (arith, length-append earlier (v ∷ []))) ∙ get_or-append_seam earlier v [] (Faulty NoChoice) in
+    ap (λ u. values_from (earlier ++ node_value node u earlier ∷ []) rest whole) here
+    ∙ ap (λ u. values_from (earlier ++ u ∷ []) rest whole) (value_of_value node k earlier)
+    ∙ values_of_values rest (earlier ++ v ∷ []) kept
 
 -- what the node with a number keeps
 pub node_is : (names : List (List ℕ)) (nodes : List Node) (from k : ℕ) → AreNodes names from nodes → k < length nodes → IsNode names (from + k) (slice_index_or nodes k (Source (Faulty Kind)))

@@ -96,3 +96,8 @@ values_are_from names (node ∷ rest) earlier kept (suc k) nodes_are h =
 -- the equations of the values: a source and a fold have what is kept, and the others what their nodes say
 pub values_are : (graph : Graph) (kept : Values) (n : ℕ) → AreNodes graph.names 0 graph.nodes → n < length graph.nodes → at (values graph kept) n ≡ node_value (node_at graph n) (at kept n) (values graph kept)
 values_are graph kept n nodes_are h = let e : 0 + n ≡ n = omega arith in subst (λ i. at (values graph kept) i ≡ node_value (node_at graph n) (at kept i) (values graph kept)) e (values_are_from graph.names graph.nodes [] kept n nodes_are h)
+
+-- the first of the picks is the one without a body
+pub first_of_picks : (selectors : List Selector) (values picked : Values) → picked ≡ map (pick values) selectors → at picked 0 ≡ first_pick values selectors
+first_of_picks [] values picked e = rw e refl
+first_of_picks (selector ∷ rest) values picked e = rw e refl

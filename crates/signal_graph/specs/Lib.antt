@@ -1,6 +1,7 @@
 pub mod Graph
 pub mod Values
 pub mod Machine
+pub mod Named
 pub mod Legal
 pub mod OnePass
 pub mod Tables

@@ -1,16 +1,20 @@
 // Calls and their replies.
 
-ghost use Rattle.std.specs.Prelude.{◌≡◌, ◌+◌, ◌≤◌, length, map, IfOk};
+ghost use Rattle.std.specs.Prelude.{◌≡◌, ◌+◌, ◌≤◌, if◌then◌else◌, length, map, Some, None, IfOk, IfErr, OnOk};
+ghost use Rattle.signal_graph.specs.Graph.{number_of};
 ghost use Rattle.signal_graph.specs.Machine.{sets_of, looks_of, names_node, names_source, first_wrong, misnamed};
+ghost use Rattle.signal_graph.specs.Named.{numbers_in};
 
 use crate::graph::Graph;
 use crate::node::NodeKind;
+use arrayvec::ArrayVec;
 use script_tree::items::Items;
 use script_tree::limits::{LOOKS, SETS};
 use script_tree::memory::OutOfMemory;
 use script_tree::name::{Name, NameList};
 use script_tree::value::Value;
 use std::alloc::Global;
+use std::marker::Model;
 
 /// The values of nodes.
 pub type ValueList = Items<Value>;
@@ -49,7 +53,58 @@ pub enum Reply {
     },
 }
 
+/// The numbers of the nodes that a call names, its sets and its looks, each in their order. Contracts see the two lists.
+#[derive(Drop)]
+pub struct Named {
+    sets: ArrayVec<u32, SETS>,
+    looks: ArrayVec<u32, LOOKS>,
+}
+
+impl Model for Named {
+    ghost use Rattle.signal_graph.specs.Named.{Numbers};
+
+    ghost Value = { Numbers };
+
+    ghost view = { λ n. record { sets = n.sets.items; looks = n.looks.items } };
+}
+
+impl Named {
+    /// The nodes that are set. Takes no memory.
+    pub fn sets(&self) -> &[u32]
+        ensures { result.now ≡ self.now.sets }
+    {
+        self.sets.as_slice()
+    }
+
+    /// The nodes that are looked at. Takes no memory.
+    pub fn looks(&self) -> &[u32]
+        ensures { result.now ≡ self.now.looks }
+    {
+        self.looks.as_slice()
+    }
+}
+
 impl Call {
+    /// What the call sets; a read sets nothing. Takes no memory.
+    pub fn sets(&self) -> &[(Name, Value)]
+        ensures { result.now ≡ sets_of self.now }
+    {
+        match self {
+            Call::Fire { sets, .. } => sets.as_slice(),
+            Call::Read { .. } => &[],
+        }
+    }
+
+    /// What the call looks at. Takes no memory.
+    pub fn looks(&self) -> &[Name]
+        ensures { result.now ≡ looks_of self.now }
+    {
+        match self {
+            Call::Fire { looks, .. } => looks.as_slice(),
+            Call::Read { looks } => looks.as_slice(),
+        }
+    }
+
     /// The place of the first name, sets first and then looks, that is none of a source (in a set) or of a node (in a
     /// look), counted from 1, or none where there is no such name. Takes no memory.
     pub fn misnamed(&self, graph: &Graph) -> Option<u32>
@@ -57,9 +112,29 @@ impl Call {
         requires looks { length (looks_of self.now) ≤ LOOKS }
         ensures { result ≡ misnamed graph.now self.now }
     {
-        match self {
-            Call::Fire { sets, looks } => misnamed_fire(graph, sets.as_slice(), looks.as_slice()),
-            Call::Read { looks } => first_no_node(graph, looks.as_slice(), 1),
+        match self.named_in(graph) {
+            Ok(_) => None,
+            Err(place) => Some(place),
+        }
+    }
+
+    /// The nodes that the call names, where each set names a source and each look a node, and else the place that
+    /// `misnamed` answers. Each name is looked up once. Takes no memory.
+    #[tactic(auto, using(crate::proofs::GraphCalls::misnamed_set, crate::proofs::GraphCalls::misnamed_look))]
+    pub fn named_in(&self, graph: &Graph) -> Result<Named, u32>
+        requires sets { length (sets_of self.now) ≤ SETS }
+        requires looks { length (looks_of self.now) ≤ LOOKS }
+        ensures ok { IfOk result (λ named. named ≡ numbers_in graph.now self.now) }
+        ensures right { OnOk result (misnamed graph.now self.now ≡ None) }
+        ensures wrong { IfErr result (λ place. misnamed graph.now self.now ≡ Some place) }
+    {
+        let sets = match sources_named(graph, self.sets()) {
+            Ok(sets) => sets,
+            Err(place) => return Err(place),
+        };
+        match nodes_named(graph, self.looks(), 1 + self.sets().len() as u32) {
+            Ok(looks) => Ok(Named { sets, looks }),
+            Err(place) => Err(place),
         }
     }
 
@@ -81,58 +156,55 @@ impl Call {
     }
 }
 
-fn is_node(graph: &Graph, name: &Name) -> bool
-    ensures { result ≡ names_node graph.now name.now }
-{
-    graph.find(name).is_some()
-}
-
-fn is_source(graph: &Graph, name: &Name) -> bool
-    ensures { result ≡ names_source graph.now name.now }
+fn source_named(graph: &Graph, name: &Name) -> Option<u32>
+    ensures { result ≡ (if names_source graph.now name.now then Some (number_of graph.now name.now) else None) }
 {
     match graph.find(name) {
-        Some(node) => graph.kind(node) == NodeKind::Source,
-        None => false,
+        Some(node) => {
+            if graph.kind(node) == NodeKind::Source {
+                Some(node)
+            } else {
+                None
+            }
+        }
+        None => None,
     }
 }
 
-// The place of the first set whose name is none of a source.
-fn first_no_source(graph: &Graph, sets: &[(Name, Value)]) -> Option<u32>
+// The sources that the sets name, or the place of the first set whose name is none of a source.
+fn sources_named(graph: &Graph, sets: &[(Name, Value)]) -> Result<ArrayVec<u32, SETS>, u32>
     requires { length sets.now ≤ SETS }
-    ensures { result ≡ first_wrong 1 (map (λ s. names_source graph.now s.0) sets.now) }
+    ensures ok { IfOk result (λ found. found.items ≡ map (λ s. number_of graph.now s.0) sets.now) }
+    ensures right { OnOk result (first_wrong 1 (map (λ s. names_source graph.now s.0) sets.now) ≡ None) }
+    ensures wrong { IfErr result (λ place. first_wrong 1 (map (λ s. names_source graph.now s.0) sets.now) ≡ Some place) }
 {
+    let mut found = ArrayVec::new();
     for (index, set) in sets.iter().enumerate() {
-        if !is_source(graph, &set.0) {
-            return Some(1 + index as u32);
+        match source_named(graph, &set.0) {
+            Some(node) => found.push(node),
+            None => return Err(1 + index as u32),
         }
     }
-    None
+    Ok(found)
 }
 
-// The place of the first look whose name is none of a node, where the first look has the place `from`.
-fn first_no_node(graph: &Graph, looks: &[Name], from: u32) -> Option<u32>
+// The nodes that the looks name, or the place of the first look whose name is none of a node, where the first look has
+// the place `from`.
+fn nodes_named(graph: &Graph, looks: &[Name], from: u32) -> Result<ArrayVec<u32, LOOKS>, u32>
     requires few { length looks.now ≤ LOOKS }
     requires from { from ≤ SETS + 1 }
-    ensures { result ≡ first_wrong from (map (names_node graph.now) looks.now) }
+    ensures ok { IfOk result (λ found. found.items ≡ map (number_of graph.now) looks.now) }
+    ensures right { OnOk result (first_wrong from (map (names_node graph.now) looks.now) ≡ None) }
+    ensures wrong { IfErr result (λ place. first_wrong from (map (names_node graph.now) looks.now) ≡ Some place) }
 {
+    let mut found = ArrayVec::new();
     for (index, name) in looks.iter().enumerate() {
-        if !is_node(graph, name) {
-            return Some(from + index as u32);
+        match graph.find(name) {
+            Some(node) => found.push(node),
+            None => return Err(from + index as u32),
         }
     }
-    None
-}
-
-fn misnamed_fire(graph: &Graph, sets: &[(Name, Value)], looks: &[Name]) -> Option<u32>
-    requires sets { length sets.now ≤ SETS }
-    requires looks { length looks.now ≤ LOOKS }
-    ensures { result ≡ misnamed graph.now (Call.Fire sets.now looks.now) }
-{
-    let place = first_no_source(graph, sets);
-    if place.is_some() {
-        return place;
-    }
-    first_no_node(graph, looks, 1 + sets.len() as u32)
+    Ok(found)
 }
 
 fn copied_names(alloc: Global, names: &NameList) -> Result<NameList, OutOfMemory>

@@ -1,21 +1,43 @@
-// The values of nodes, from a table of the values of the nodes before them.
+// The values of nodes, from a table of the values of the nodes before them. Nothing here takes memory.
 
-ghost use Rattle.std.specs.Prelude.{◌≡◌, ℕ, ◌<◌, ◌≤◌, List, map, length, slice_get, Some, IfOk};
+ghost use Rattle.std.specs.Prelude.{◌≡◌, ℕ, ◌<◌, ◌≤◌, [], List, map, take, length, slice_get, Some};
 ghost use Rattle.std.specs.List.{AllByRecursion};
+ghost use Rattle.script_tree.specs.declared.limits.TheConstants.{INPUTS, SELECTORS};
 ghost use Rattle.script_tree.specs.Scripts.{HasNoPicks, IsBody};
+ghost use Rattle.signal_graph.specs.declared.node.Selector.{Selector};
 ghost use Rattle.signal_graph.specs.Graph.{BodyFits};
-ghost use Rattle.signal_graph.specs.Values.{at, candidate, select, run, selected, pick_of, pick, first_pick, choose_value, node_value, taken, picks_of, start_value};
+ghost use Rattle.signal_graph.specs.Values.{Values, at, candidate, select, run, selected, pick_of, pick, first_pick, choose_value, node_value, taken, picks_of, start_value};
 ghost use Rattle.signal_graph.specs.Evaluation.{CanRun, CanSelect, CanEvaluate};
 
 use crate::node::{Node, Selector};
-use script_tree::limits::SELECTORS;
-use script_tree::memory::OutOfMemory;
+use script_tree::limits::{INPUTS, SELECTORS};
 use script_tree::picks::Picks;
 use script_tree::script::Script;
 use script_tree::value::{Fault, Value};
-use std::alloc::Global;
 
-/// The value of a node in a table of values by node number. Takes no memory.
+/// What the scripts of a node give: its value, and what its selectors select, as nodes.
+#[derive(Drop)]
+pub struct Evaluated {
+    /// The node's value.
+    pub value: Value,
+    /// One item per selector of a choose, and the empty list for another kind.
+    pub picks: Picks,
+}
+
+impl Evaluated {
+    /// The value of a node that is no choose, with the empty list of picks.
+    pub fn without_picks(value: Value) -> Evaluated
+        ensures value { result.value ≡ value }
+        ensures picks { result.picks ≡ [] }
+    {
+        Evaluated {
+            value,
+            picks: Picks::new(),
+        }
+    }
+}
+
+/// The value of a node in a table of values by node number.
 pub fn value_at(values: &[Value], node: u32) -> Value
     ensures { result ≡ at values.now node }
 {
@@ -25,30 +47,26 @@ pub fn value_at(values: &[Value], node: u32) -> Value
         .unwrap_or(Value::Fault(Fault::NoChoice))
 }
 
-fn gather(alloc: Global, inputs: &[u32], values: &[Value]) -> Result<Vec<Value>, OutOfMemory>
-    ensures { IfOk result (λ gathered. gathered.items ≡ map (at values.now) inputs.now) }
+// The values of inputs in their order, in the front of an array.
+fn gather(inputs: &[u32], values: &[Value]) -> [Value; INPUTS]
+    requires { length inputs.now ≤ INPUTS }
+    ensures { take (length inputs.now) result ≡ map (at values.now) inputs.now }
 {
-    let gathered = inputs
-        .iter()
-        .map(|input| value_at(values, *input))
-        .collect(alloc)?;
-    Ok(gathered)
+    let mut gathered = [Value::Fault(Fault::NoChoice); INPUTS];
+    for (place, input) in inputs.iter().enumerate() {
+        gathered[place] = value_at(values, *input);
+    }
+    gathered
 }
 
-/// The value of a script over the values of its inputs, which stand in the order of its names, and of `acc`. Takes
-/// memory.
-pub fn run(
-    alloc: Global,
-    script: &Script,
-    inputs: &[u32],
-    values: &[Value],
-    acc: Value,
-) -> Result<Value, OutOfMemory>
+/// The value of a script over the values of its inputs, which stand in the order of its names, and of `acc`.
+pub fn run(script: &Script, inputs: &[u32], values: &[Value], acc: Value) -> Value
     requires { CanRun script.now inputs.now }
-    ensures { IfOk result (λ value. value ≡ run script.now inputs.now values.now acc) }
+    ensures { result ≡ run script.now inputs.now values.now acc }
 {
-    let gathered = gather(alloc, inputs, values)?;
-    Ok(script.eval(gathered.as_slice(), acc))
+    let count = script.inputs().len();
+    let gathered = gather(inputs, values);
+    script.eval(&gathered[..count], acc)
 }
 
 fn select(value: Value, candidates: &[u32]) -> Result<u32, Fault>
@@ -69,103 +87,66 @@ fn select(value: Value, candidates: &[u32]) -> Result<u32, Fault>
     }
 }
 
+// The pick: the selected candidate's value, or the fault in its place.
+fn pick_of(values: &[Value], found: Result<u32, Fault>) -> Value
+    ensures { result ≡ pick_of values.now found }
+{
+    match found {
+        Ok(candidate) => value_at(values, candidate),
+        Err(fault) => Value::Fault(fault),
+    }
+}
+
 impl Selector {
-    /// The candidate that the selector selects over a table of values, or the fault in its place. Takes memory.
-    pub fn selected(
-        &self,
-        alloc: Global,
-        values: &[Value],
-    ) -> Result<Result<u32, Fault>, OutOfMemory>
+    // The candidate that the selector selects over a table of values, or the fault in its place.
+    fn selected(&self, values: &[Value]) -> Result<u32, Fault>
         requires { CanSelect self.now }
-        ensures { IfOk result (λ found. found ≡ selected values.now self.now) }
+        ensures { result ≡ selected values.now self.now }
     {
         let value = run(
-            alloc,
             &self.script,
             self.inputs.as_slice(),
             values,
             Value::Fault(Fault::Kind),
-        )?;
-        Ok(select(value, self.candidates.as_slice()))
-    }
-
-    /// The pick: the selected candidate's value, or the fault in its place. Takes memory.
-    pub fn pick(&self, alloc: Global, values: &[Value]) -> Result<Value, OutOfMemory>
-        requires { CanSelect self.now }
-        ensures { IfOk result (λ value. value ≡ pick values.now self.now) }
-    {
-        match self.selected(alloc, values)? {
-            Ok(candidate) => Ok(value_at(values, candidate)),
-            Err(fault) => Ok(Value::Fault(fault)),
-        }
+        );
+        select(value, self.candidates.as_slice())
     }
 }
 
-fn pick_values(
-    alloc: Global,
-    selectors: &[Selector],
-    values: &[Value],
-) -> Result<Vec<Value>, OutOfMemory>
-    requires { AllByRecursion CanSelect selectors.now }
-    ensures { IfOk result (λ picked. picked.items ≡ map (pick values.now) selectors.now) }
-{
-    let mut picked = Vec::new(alloc);
-    for selector in selectors {
-        let value = selector.pick(alloc, values)?;
-        picked.push(value)?;
-    }
-    Ok(picked)
-}
-
-fn first_pick(alloc: Global, selectors: &[Selector], values: &[Value]) -> Result<Value, OutOfMemory>
-    requires { AllByRecursion CanSelect selectors.now }
-    ensures { IfOk result (λ value. value ≡ first_pick values.now selectors.now) }
-{
-    match selectors {
-        [] => Ok(Value::Fault(Fault::NoChoice)),
-        [selector, ..] => selector.pick(alloc, values),
-    }
-}
-
-fn choose_value(
-    alloc: Global,
-    selectors: &[Selector],
-    body: &Option<Script>,
-    values: &[Value],
-) -> Result<Value, OutOfMemory>
-    requires selectors { AllByRecursion CanSelect selectors.now }
-    requires body { BodyFits (length selectors.now) body.now }
-    ensures { IfOk result (λ value. value ≡ choose_value selectors.now body.now values.now) }
+// The value of a choose over its picks: the body's, or without a body the first pick.
+#[tactic(auto, using(crate::proofs::Values::first_of_picks))]
+fn value_of_picks(picked: &[Value], body: &Option<Script>) -> Value
+    requires { BodyFits (length picked.now) body.now }
+    ensures { (selectors : List Selector) (values : Values) → picked.now ≡ map (pick values) selectors → result ≡ choose_value selectors body.now values }
 {
     match body {
-        None => first_pick(alloc, selectors, values),
-        Some(script) => {
-            let picked = pick_values(alloc, selectors, values)?;
-            Ok(script.eval_body(picked.as_slice()))
-        }
+        None => value_at(picked, 0),
+        Some(script) => script.eval_body(picked),
     }
 }
 
-fn picked_nodes(
-    alloc: Global,
-    selectors: &[Selector],
-    values: &[Value],
-) -> Result<Picks, OutOfMemory>
+// What a choose gives over a table of values. Each selector is evaluated once.
+fn choose(selectors: &[Selector], body: &Option<Script>, values: &[Value]) -> Evaluated
     requires selectors { AllByRecursion CanSelect selectors.now }
     requires few { length selectors.now ≤ SELECTORS }
-    ensures { IfOk result (λ picks. picks ≡ map (λ selector. taken (selected values.now selector)) selectors.now) }
+    requires body { BodyFits (length selectors.now) body.now }
+    ensures value { result.value ≡ choose_value selectors.now body.now values.now }
+    ensures picks { result.picks ≡ map (λ selector. taken (selected values.now selector)) selectors.now }
 {
     let mut picks = Picks::new();
-    for selector in selectors {
-        let found = selector.selected(alloc, values)?;
+    let mut picked = [Value::Fault(Fault::NoChoice); SELECTORS];
+    for (index, selector) in selectors.iter().enumerate() {
+        let found = selector.selected(values);
+        picked[index] = pick_of(values, found);
         picks.push(found.ok());
     }
-    Ok(picks)
+    let value = value_of_picks(&picked[..selectors.len()], body);
+    Evaluated { value, picks }
 }
 
 impl Node {
     /// The value that is kept for the node at the start: that of a source or a fold, and one that is never read for
-    /// any other node. Takes no memory.
+    /// any other node.
     pub fn start_value(&self) -> Value
         ensures { result ≡ start_value self.now }
     {
@@ -176,37 +157,38 @@ impl Node {
         }
     }
 
-    /// The node's value, from what is kept for a source or a fold and a table of the values of the nodes before it.
-    /// Takes memory.
-    pub fn value(&self, alloc: Global, kept: Value, earlier: &[Value]) -> Result<Value, OutOfMemory>
+    /// The node's value and picks, from what is kept for a source or a fold and a table of the values of the nodes
+    /// before it. Each script is evaluated once.
+    pub fn evaluate(&self, kept: Value, earlier: &[Value]) -> Evaluated
         requires { CanEvaluate self.now }
-        ensures { IfOk result (λ value. value ≡ node_value self.now kept earlier.now) }
+        ensures value { result.value ≡ node_value self.now kept earlier.now }
+        ensures picks { result.picks ≡ picks_of self.now earlier.now }
     {
         match self {
-            Node::Source(_) => Ok(kept),
-            Node::Fold(_, _, _) => Ok(kept),
-            Node::Signal(script, inputs) => run(
-                alloc,
-                script,
-                inputs.as_slice(),
-                earlier,
-                Value::Fault(Fault::Kind),
-            ),
-            Node::Choose(selectors, body, _) => {
-                choose_value(alloc, selectors.as_slice(), body, earlier)
+            Node::Source(_) => Evaluated::without_picks(kept),
+            Node::Fold(_, _, _) => Evaluated::without_picks(kept),
+            Node::Signal(script, inputs) => {
+                let value = run(
+                    script,
+                    inputs.as_slice(),
+                    earlier,
+                    Value::Fault(Fault::Kind),
+                );
+                Evaluated::without_picks(value)
             }
+            Node::Choose(selectors, body, _) => choose(selectors.as_slice(), body, earlier),
         }
     }
 
     /// What the selectors of a choose select, as nodes, over a table of values: one item per selector, and the empty
-    /// list for another kind. Takes memory.
-    pub fn picks(&self, alloc: Global, values: &[Value]) -> Result<Picks, OutOfMemory>
+    /// list for another kind.
+    pub fn picks(&self, values: &[Value]) -> Picks
         requires { CanEvaluate self.now }
-        ensures { IfOk result (λ picks. picks ≡ picks_of self.now values.now) }
+        ensures { result ≡ picks_of self.now values.now }
     {
         match self {
-            Node::Choose(selectors, _, _) => picked_nodes(alloc, selectors.as_slice(), values),
-            _ => Ok(Picks::new()),
+            Node::Choose(selectors, body, _) => choose(selectors.as_slice(), body, values).picks,
+            _ => Picks::new(),
         }
     }
 }

@@ -197,6 +197,13 @@ impl Graph {
         self.names.find(name)
     }
 
+    /// The number of the node with a name, or how many nodes there are where no node has it.
+    pub fn number(&self, name: &Name) -> u32
+        ensures { result ≡ number_of self.now name.now }
+    {
+        self.names.place(name)
+    }
+
     fn selector_at(&self, node: u32, index: u32) -> &Selector
         requires known { node < length self.now.nodes }
         requires selects { index < length (selectors_of (node_at self.now node)) }

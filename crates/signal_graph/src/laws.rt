@@ -22,10 +22,11 @@ pub fn outs_are_named()
 {}
 
 /// The equations of the values: of a source and a fold it is what the state keeps, and each other node's follows from
-/// the values of the nodes that it names.
+/// the values of the nodes that it names. All values are themselves a state, which has these values.
 pub fn values_are()
     ensures each { (graph : Graph) → IsGraph graph → (kept : Values) (n : ℕ) → n < length graph.nodes → val graph kept n ≡ node_value (node_at graph n) (at kept n) (values graph kept) }
     ensures all { (graph : Graph) (kept : Values) → length (values graph kept) ≡ length graph.nodes }
+    ensures again { (graph : Graph) (kept : Values) → values graph (values graph kept) ≡ values graph kept }
 {}
 
 /// In two states, a signal or choose has the same value where all nodes have that its value rests on.

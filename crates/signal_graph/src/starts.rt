@@ -18,8 +18,8 @@ pub(crate) fn start_values(alloc: Global, nodes: &[Node]) -> Result<Vec<Value>, 
 {
     let mut starts = Vec::new(alloc);
     for node in nodes {
-        let value = node.value(alloc, node.start_value(), starts.as_slice())?;
-        starts.push(value)?;
+        let found = node.evaluate(node.start_value(), starts.as_slice());
+        starts.push(found.value)?;
     }
     Ok(starts)
 }
@@ -35,8 +35,7 @@ pub(crate) fn all_picks(
 {
     let mut picked = Vec::new(alloc);
     for node in nodes {
-        let picks = node.picks(alloc, values)?;
-        picked.push(picks)?;
+        picked.push(node.picks(values))?;
     }
     Ok(picked)
 }

@@ -11,7 +11,7 @@ loop-selector-preserved c =
     let k = c.loop-selector.selector-index in
     let seen = c.loop-selector.seen.items in
     let part = see_part seen parts k c.selector-item.result (omega arith) c.selector-item.is in
-    let names = c.as_slice.ensures ∙ c.inputs.ensures in
+    let names = c.as_slice.ensures ∙ c.inputs.ensures.names in
     let after = c.in_ok-see.ensures ∙ ap (seen_after seen) names in
     c.loop-selector.invariant ∙ part ∙ ap (λ (s : List (List ℕ)). seen_after s (script_names (drop (k + 1) parts))) (sym after)
 

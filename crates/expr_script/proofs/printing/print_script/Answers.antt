@@ -17,6 +17,6 @@ loop-token-preserved c =
 pub returns : goal.returns
 returns c =
     written_end c.loop-token.text (written c.inputs-names.result.now false c.deref-token-items.result.now) c.inputs-names.result.now c.loop-token.behind_word c.deref-token-items.result.now c.loop-token.token-index c.loop-token-test.false c.loop-token.invariant
-    ∙ ap (λ names. written names false c.deref-token-items.result.now) c.inputs-names.ensures
+    ∙ ap (λ names. written names false c.deref-token-items.result.now) c.inputs-names.ensures.names
     ∙ ap (written c.args.script.now.names false) (c.deref-token-items.ensures.value ∙ c.in_ok-tokens.ensures ∙ ap (λ tree. tokens (canonical tree)) c.tree.ensures)
     ∙ written_joined c.args.script.now.names (tokens (canonical c.args.script.now.tree)) []

@@ -1,6 +1,7 @@
-use Rattle.std.proofs.Common.{◌≡◌, drop}
+use Rattle.std.proofs.Common.{◌≡◌, drop, map, length}
+use Rattle.signal_graph.specs.Graph.{Graph, number_of}
 use Rattle.signal_graph.specs.Machine.{with_sets}
 use Rattle.serial_machine.proofs.machine.apply.Given as goal
 
-abbrev pub invariant-loop-name : goal.invariant-loop-name
-invariant-loop-name l = with_sets l.graph l.values.items (drop l.name-index l.sets) ≡ with_sets l.graph l.fn.values.items l.sets
+abbrev pub invariant-loop-index : goal.invariant-loop-index
+invariant-loop-index l = (length l.values.items ≡ length l.fn.values.items) × ((graph : Graph) → l.nodes ≡ map (λ s. number_of graph s.0) l.sets → with_sets graph l.values.items (drop l.index l.sets) ≡ with_sets graph l.fn.values.items l.sets)

@@ -1,7 +1,7 @@
-use Rattle.std.proofs.Common.{◌≡◌, map, take}
-use Rattle.signal_graph.specs.Graph.{number_of}
+use Rattle.std.proofs.Common.{◌≡◌, ◌≤◌, map, take, length}
+use Rattle.std.specs.Prelude.{vec_len, vec_capacity}
 use Rattle.signal_graph.specs.Values.{at}
 use Rattle.serial_machine.proofs.machine.look.Given as goal
 
-abbrev pub invariant-loop-name : goal.invariant-loop-name
-invariant-loop-name l = l.seen ≡ map (λ name. at l.values (number_of l.graph name)) (take l.name-index l.looks)
+abbrev pub invariant-loop-node : goal.invariant-loop-node
+invariant-loop-node l = (l.seen.items ≡ map (at l.values) (take l.node-index l.nodes)) × (vec_len l.seen ≡ l.node-index) × (length l.nodes ≤ vec_capacity l.seen)

@@ -1,6 +1,6 @@
-use Rattle.std.proofs.Common.{◌≡◌, [], drop, length}
-use Rattle.signal_graph.specs.Values.{values_from, start}
+use Rattle.std.proofs.Common.{◌≡◌, ◌<◌, ℕ, [], take, length, get_or}
+use Rattle.signal_graph.specs.Values.{values, start, picks}
 use Rattle.serial_machine.proofs.machine.Machine.new.Given as goal
 
 abbrev pub invariant-loop-node : goal.invariant-loop-node
-invariant-loop-node l = (values_from l.values.items (drop l.node l.graph.nodes) (start l.graph) ≡ values_from [] l.graph.nodes (start l.graph)) × (length l.values.items ≡ l.node)
+invariant-loop-node l = (l.values.items ≡ take l.node (values l.graph (start l.graph))) × (length l.picks.items ≡ l.node) × ((m : ℕ) → m < l.node → get_or l.picks.items m [] ≡ picks l.graph (start l.graph) m)

@@ -1,6 +1,4 @@
-use Rattle.std.proofs.Common.{◌≡◌, if◌then◌else◌, Some, None, ◌∙◌}
-use Rattle.signal_graph.specs.Graph.{place_in}
-use Rattle.signal_graph.specs.Tables.{is_declared}
+use Rattle.std.proofs.Common.{◌∙◌}
 use Rattle.signal_graph.proofs.GraphNames.{index_finds, found_has_name, none_has_name}
 use Rattle.signal_graph.proofs.names.NameTable.find.Goals as goal
 
