@@ -1,6 +1,6 @@
 -- A run that takes its scripts: the room of its log, and what is left of lists whose items move.
 use Rattle.std.proofs.Common.{◌≡◌, ℕ, zero, suc, ◌+◌, ◌-◌, ◌<◌, ◌≤◌, min, Bool, true, false, cond, List, [], ◌∷◌, ◌++◌, length, drop, get_or, Option, Some, None, refl, sym, ap, ◌∙◌, subst, arith, length-append}
-use Rattle.std.specs.Prelude.{All}
+use Rattle.std.specs.Prelude.{All, sum_by}
 use Rattle.std.proofs.lemmas.List.{drop_more, length-take}
 use Rattle.std.proofs.lemmas.List.Sums.{sum_by-cons}
 use Rattle.signal_graph.specs.declared.call.Call.{Call}
@@ -37,29 +37,27 @@ pub nothing_left : {A : Type 0} (xs : List A) → length xs ≡ 0 → xs ≡ []
 nothing_left [] h = refl
 nothing_left (x ∷ xs) h = absurd (omega arith)
 
-named_cond : (b : Bool) (call : Call) (calls : List Call) → length (cond b (call ∷ calls) calls) ≡ length calls + cond b 1 0
-named_cond true call calls = omega arith
-named_cond false call calls = omega arith
+named_cond : (b : Bool) (call : Call) (calls : List Call) (n : ℕ) → length calls ≤ n → length (cond b (call ∷ calls) calls) ≤ n + 1
+named_cond true call calls n h = omega arith
+named_cond false call calls n h = omega arith
 
--- the well-named calls from an index on
-pub one_named : (graph : Graph) (calls : List Call) (i : ℕ) (d : Call) → i < length calls → is_well_named graph (get_or calls i d) ≡ true → length (well_named graph (drop i calls)) ≡ length (well_named graph (drop (i + 1) calls)) + 1
-one_named graph calls i d within h =
-    ap (λ cs. length (well_named graph cs)) (drop_more calls i d within)
-    ∙ named_cond (is_well_named graph (get_or calls i d)) (get_or calls i d) (well_named graph (drop (i + 1) calls))
-    ∙ ap (λ b. length (well_named graph (drop (i + 1) calls)) + cond b 1 0) h
+few_named : (graph : Graph) (calls : List Call) → length (well_named graph calls) ≤ length calls
+few_named graph [] = omega arith
+few_named graph (call ∷ calls) = named_cond (is_well_named graph call) call (well_named graph calls) (length calls) (few_named graph calls)
 
-pub none_named : (graph : Graph) (calls : List Call) (i : ℕ) (d : Call) → i < length calls → is_well_named graph (get_or calls i d) ≡ false → length (well_named graph (drop i calls)) ≡ length (well_named graph (drop (i + 1) calls))
-none_named graph calls i d within h =
-    let none : length (well_named graph (drop (i + 1) calls)) + 0 ≡ length (well_named graph (drop (i + 1) calls)) = omega arith in
-    ap (λ cs. length (well_named graph cs)) (drop_more calls i d within)
-    ∙ named_cond (is_well_named graph (get_or calls i d)) (get_or calls i d) (well_named graph (drop (i + 1) calls))
-    ∙ ap (λ b. length (well_named graph (drop (i + 1) calls)) + cond b 1 0) h
-    ∙ none
+-- no more calls are well-named than there are
+pub few_of_all : (graph : Graph) (scripts : List (List Call)) → count_well_named graph scripts ≤ sum_by length scripts
+few_of_all graph [] = omega arith
+few_of_all graph (calls ∷ scripts) =
+    let named = sum_by-cons (λ (cs : List Call). length (well_named graph cs)) calls scripts in
+    let all = sum_by-cons (λ (cs : List Call). length cs) calls scripts in
+    let one = few_named graph calls in
+    let rest = few_of_all graph scripts in
+    omega (arith, named, all, one, rest)
 
--- the well-named calls of the callers from an index on
-pub next_count : (graph : Graph) (scripts : List (List Call)) (i : ℕ) (d : List Call) → i < length scripts → count_well_named graph (drop i scripts) ≡ length (well_named graph (get_or scripts i d)) + count_well_named graph (drop (i + 1) scripts)
-next_count graph scripts i d within =
-    ap (count_well_named graph) (drop_more scripts i d within) ∙ sum_by-cons (λ (cs : List Call). length (well_named graph cs)) (get_or scripts i d) (drop (i + 1) scripts)
+-- the calls of the callers from an index on
+pub next_count : (scripts : List (List Call)) (i : ℕ) (d : List Call) → i < length scripts → sum_by length (drop i scripts) ≡ length (get_or scripts i d) + sum_by length (drop (i + 1) scripts)
+next_count scripts i d within = ap (sum_by length) (drop_more scripts i d within) ∙ sum_by-cons (λ (cs : List Call). length cs) (get_or scripts i d) (drop (i + 1) scripts)
 
 le_through : (a b c d e : ℕ) → a ≤ b → b ≡ c → c ≤ d → e ≡ d → a ≤ e
 le_through a b c d e below same room kept = omega arith
@@ -83,7 +81,7 @@ moved_next graph graph_now limit limit_now caller n call rest items calls progre
     ∙ whole
 
 -- where a log has room for all callers' calls, it has room for those of the next
-pub room_for_caller : (graph graph_now : Graph) (limit limit_now n : ℕ) (calls : List Call) (rest items scripts : List (List Call)) (progress : Progress) (capacity capacity_now : ℕ) → graph_now ≡ graph → limit_now ≡ limit → capacity_now ≡ capacity → items ≡ calls ∷ rest → all_run graph limit (n + 1) items progress ≡ all_run graph limit 1 scripts nothing_yet → capacity ≡ min limit (count_well_named graph scripts) → length (all_called graph_now limit_now (n + 1) 1 calls progress).log ≤ capacity_now
+pub room_for_caller : (graph graph_now : Graph) (limit limit_now n : ℕ) (calls : List Call) (rest items scripts : List (List Call)) (progress : Progress) (capacity capacity_now : ℕ) → graph_now ≡ graph → limit_now ≡ limit → capacity_now ≡ capacity → items ≡ calls ∷ rest → all_run graph limit (n + 1) items progress ≡ all_run graph limit 1 scripts nothing_yet → min limit (count_well_named graph scripts) ≤ capacity → length (all_called graph_now limit_now (n + 1) 1 calls progress).log ≤ capacity_now
 room_for_caller graph graph_now limit limit_now n calls rest items scripts progress capacity capacity_now g l c steps whole count =
     let moved = all_called graph limit (n + 1) 1 calls progress in
     let size = whole_size graph limit scripts in

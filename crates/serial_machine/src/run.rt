@@ -1,7 +1,8 @@
 // The run of all scripts, thread after thread.
 
-ghost use Rattle.std.specs.Prelude.{◌≡◌, ◌<◌, ◌≤◌, ◌+◌, ◌^◌, ◌∷◌, [], ◌++◌, length, take, None, IfOk, OnOk, All};
+ghost use Rattle.std.specs.Prelude.{◌≡◌, ◌<◌, ◌≤◌, ◌+◌, ◌^◌, ◌∷◌, [], ◌++◌, length, take, Some, None, IfOk, IfErr, OnOk, All};
 ghost use Rattle.signal_graph.specs.Machine.{misnamed};
+ghost use Rattle.signal_graph.specs.Named.{numbers_in};
 ghost use Rattle.signal_graph.specs.Legal.{Legal, state_after, finals};
 ghost use Rattle.signal_graph.specs.Values.{values};
 ghost use Rattle.call_log.specs.LeftOut.{why_not, refusal};
@@ -10,12 +11,12 @@ ghost use Rattle.serial_machine.specs.Progress.{why_not_next, entry_of, called, 
 ghost use Rattle.serial_machine.specs.Running.{IsWithinLimits};
 ghost use Rattle.serial_machine.specs.SerialOrder.{made_in, serial_calls, CountsVersions};
 
-use crate::count::count_to_make;
+use crate::count::count_calls;
 use crate::machine::Machine;
 use call_log::{Finished, Log, Logged, Refused, RefusedList, Why};
 use script_tree::items::Items;
 use script_tree::memory::OutOfMemory;
-use signal_graph::call::{Call, CallList, Scripts};
+use signal_graph::call::{Call, CallList, Named, Scripts};
 use signal_graph::graph::Graph;
 use std::alloc::Global;
 use std::marker::Model;
@@ -69,24 +70,29 @@ impl<'g> Run<'g> {
         })
     }
 
-    /// Why the next call is not made, where it is not.
+    /// The nodes that the next call names, or why it is not made.
     #[tactic(auto, using(crate::proofs::Runs::used_up, crate::proofs::Runs::has_room))]
-    fn why_not(&self, call: &Call) -> Option<Why>
+    fn named(&self, call: &Call) -> Result<Named, Why>
         requires { IsWithinLimits call.now }
-        ensures { result ≡ why_not_next self.now.graph self.now.limit self.now.progress.log call.now }
+        ensures ok { IfOk result (λ named. named ≡ numbers_in self.now.graph call.now) }
+        ensures none { OnOk result (why_not_next self.now.graph self.now.limit self.now.progress.log call.now ≡ None) }
+        ensures some { IfErr result (λ why. why_not_next self.now.graph self.now.limit self.now.progress.log call.now ≡ Some why) }
     {
-        if let Some(place) = call.misnamed(self.machine.graph()) {
-            return Some(Why::UnknownName(place));
+        match call.named_in(self.machine.graph()) {
+            Err(place) => Err(Why::UnknownName(place)),
+            Ok(named) => {
+                if self.log.len() >= self.limit {
+                    return Err(Why::VersionsUsedUp(self.limit));
+                }
+                Ok(named)
+            }
         }
-        if self.log.len() >= self.limit {
-            return Some(Why::VersionsUsedUp(self.limit));
-        }
-        None
     }
 
-    /// Makes a call with the next version.
-    fn make(&mut self, caller: u32, call: Call) -> Result<(), OutOfMemory>
-        requires named { misnamed self.old.graph call ≡ None }
+    /// Makes a call that names these nodes, with the next version.
+    fn make(&mut self, caller: u32, call: Call, named: &Named) -> Result<(), OutOfMemory>
+        requires right { misnamed self.old.graph call ≡ None }
+        requires named { named.now ≡ numbers_in self.old.graph call }
         requires below { length self.old.progress.log < self.old.limit }
         requires room { length self.old.progress.log < self.old.capacity }
         ensures graph { self.new.graph ≡ self.old.graph }
@@ -96,7 +102,7 @@ impl<'g> Run<'g> {
         ensures refused { self.new.progress.refused ≡ self.old.progress.refused }
     {
         let version = self.log.len() + 1;
-        let reply = self.machine.step(&call)?;
+        let reply = self.machine.step_named(&call, named)?;
         self.log.append(Logged {
             caller,
             version,
@@ -116,9 +122,9 @@ impl<'g> Run<'g> {
         ensures capacity { OnOk result (self.new.capacity ≡ self.old.capacity) }
         ensures called { OnOk result (self.new.progress ≡ called self.old.graph self.old.limit caller number call self.old.progress) }
     {
-        match self.why_not(&call) {
-            None => self.make(caller, call),
-            Some(why) => self.refused.push(Refused {
+        match self.named(&call) {
+            Ok(named) => self.make(caller, call, &named),
+            Err(why) => self.refused.push(Refused {
                 caller,
                 number,
                 why,
@@ -147,7 +153,6 @@ impl<'g> Run<'g> {
     /// What the run leaves.
     fn finish(self) -> Finished
         ensures log { result.log.entries ≡ self.entry.progress.log }
-        ensures spare { length self.entry.progress.log + result.log.spare ≡ self.entry.capacity }
         ensures refused { result.refused ≡ self.entry.progress.refused }
         ensures finals { result.finals ≡ finals self.entry.graph self.entry.progress.log }
     {
@@ -202,7 +207,6 @@ pub fn serial(
     ensures merge { IfOk result (λ run. Merge graph.now scripts.now versions run.log.entries run.refused) }
     ensures calls { IfOk result (λ run. made_in run.log.entries ≡ take versions (serial_calls graph.now scripts.now)) }
     ensures versions { IfOk result (λ run. CountsVersions run.log.entries) }
-    ensures spare { IfOk result (λ run. run.log.spare ≡ 0) }
     ensures finals { IfOk result (λ run. run.finals ≡ finals graph.now run.log.entries) }
 {
     let scripts = copied_scripts(alloc, scripts)?;
@@ -224,10 +228,9 @@ pub fn serial_owned(
     ensures merge { IfOk result (λ run. Merge graph.now scripts versions run.log.entries run.refused) }
     ensures calls { IfOk result (λ run. made_in run.log.entries ≡ take versions (serial_calls graph.now scripts)) }
     ensures versions { IfOk result (λ run. CountsVersions run.log.entries) }
-    ensures spare { IfOk result (λ run. run.log.spare ≡ 0) }
     ensures finals { IfOk result (λ run. run.finals ≡ finals graph.now run.log.entries) }
 {
-    let count = count_to_make(graph, scripts.as_slice(), versions);
+    let count = count_calls(scripts.as_slice(), versions);
     let mut run = Run::new(alloc, graph, versions, count)?;
     let mut caller = 0;
     for calls in scripts.into_vec() {

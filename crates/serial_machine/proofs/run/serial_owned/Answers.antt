@@ -1,5 +1,5 @@
 use Rattle.std.proofs.Common.{◌≡◌, ◌+◌, ◌<◌, ◌^◌, ◌∷◌, [], ℕ, min, List, take, length, sym, ap, ◌∙◌, subst, arith}
-use Rattle.std.specs.Prelude.{All}
+use Rattle.std.specs.Prelude.{All, sum_by}
 use Rattle.std.specs.Vec.Iter.{into_iter_items}
 use Rattle.signal_graph.specs.declared.log.Logged.{Logged}
 use Rattle.signal_graph.specs.declared.log.Refused.{Refused}
@@ -13,7 +13,7 @@ use Rattle.serial_machine.specs.Running.{IsWithinLimits}
 use Rattle.serial_machine.specs.SerialOrder.{made_in, serial_calls, CountsVersions}
 use Rattle.serial_machine.proofs.Runs.{run_is_legal}
 use Rattle.serial_machine.proofs.Merging.{run_is_merge, run_makes_first, run_counts_versions}
-use Rattle.serial_machine.proofs.Moving.{whole_size, all_rest, nothing_left, room_for_caller, moved_caller, whole_run}
+use Rattle.serial_machine.proofs.Moving.{few_of_all, all_rest, nothing_left, room_for_caller, moved_caller, whole_run}
 use Rattle.serial_machine.proofs.run.serial_owned.Goals as goal
 
 legal : (graph : Graph) (limit : ℕ) (scripts : List (List Call)) (log : List Logged) (progress : Progress) → log ≡ progress.log → progress ≡ all_run graph limit 1 scripts nothing_yet → Legal graph log
@@ -36,9 +36,11 @@ call_all-requires-clause-room c =
     let at = c.loop-calls in
     let i = at.invariant in
     let steps : into_iter_items at.calls-iterator ≡ c.in-Some.calls ∷ into_iter_items c.next.new.self = c.in-Some.ensures.steps.0 in
-    let count : c.count_to_make-count.result ≡ min c.args.versions (count_well_named c.args.graph.now c.args.scripts) = c.count_to_make-count.ensures ∙ ap (λ s. min c.args.versions (count_well_named c.args.graph.now s)) c.as_slice.ensures in
+    let count : c.count_calls-count.result ≡ min c.args.versions (sum_by length c.args.scripts) = c.count_calls-count.ensures ∙ ap (λ (s : List (List Call)). min c.args.versions (sum_by length s)) c.as_slice.ensures in
+    let few = few_of_all c.args.graph.now c.args.scripts in
+    let room : min c.args.versions (count_well_named c.args.graph.now c.args.scripts) ≤ c.count_calls-count.result = omega (arith, count, few) in
     room_for_caller c.args.graph.now at.run.graph c.args.versions at.run.limit at.caller c.in-Some.calls (into_iter_items c.next.new.self) (into_iter_items at.calls-iterator)
-    c.args.scripts at.run.progress c.count_to_make-count.result at.run.capacity i.0 i.1 i.2 steps i.7 count
+    c.args.scripts at.run.progress c.count_calls-count.result at.run.capacity i.0 i.1 i.2 steps i.7 room
 
 pub loop-calls-preserved : goal.loop-calls-preserved
 loop-calls-preserved c =
@@ -90,14 +92,3 @@ returns-clause-versions c =
     let empty : into_iter_items at.calls-iterator ≡ [] = nothing_left (into_iter_items at.calls-iterator) (sym at.invariant.4 ∙ none.0) in
     let whole = whole_run c.args.graph.now c.args.versions (at.caller + 1) (into_iter_items at.calls-iterator) c.args.scripts at.run.progress empty at.invariant.7 in
     counting c.args.graph.now c.args.versions c.args.scripts c.finish.result.log.entries at.run.progress c.finish.ensures.log whole
-
-pub returns-clause-spare : goal.returns-clause-spare
-returns-clause-spare c =
-    let at = c.loop-calls in
-    let none = c.in-None.ensures.steps in
-    let empty : into_iter_items at.calls-iterator ≡ [] = nothing_left (into_iter_items at.calls-iterator) (sym at.invariant.4 ∙ none.0) in
-    let whole = whole_run c.args.graph.now c.args.versions (at.caller + 1) (into_iter_items at.calls-iterator) c.args.scripts at.run.progress empty at.invariant.7 in
-    let count : c.count_to_make-count.result ≡ min c.args.versions (count_well_named c.args.graph.now c.args.scripts) = c.count_to_make-count.ensures ∙ ap (λ s. min c.args.versions (count_well_named c.args.graph.now s)) c.as_slice.ensures in
-    let size : length at.run.progress.log ≡ min c.args.versions (count_well_named c.args.graph.now c.args.scripts) = ap (λ (p : Progress). length p.log) whole ∙ whole_size c.args.graph.now c.args.versions c.args.scripts in
-    let capacity = at.invariant.2 in
-    omega (arith, count, size, capacity, c.finish.ensures.spare)
