@@ -1,7 +1,8 @@
 // The run of all scripts, thread after thread.
 
-ghost use Rattle.std.specs.Prelude.{◌≡◌, ◌<◌, ◌≤◌, ◌+◌, ◌^◌, ◌∷◌, [], ◌++◌, length, None, IfOk, OnOk, All};
+ghost use Rattle.std.specs.Prelude.{◌≡◌, ◌<◌, ◌≤◌, ◌+◌, ◌^◌, ◌∷◌, [], ◌++◌, length, Some, None, IfOk, IfErr, OnOk, All};
 ghost use Rattle.signal_graph.specs.Machine.{misnamed};
+ghost use Rattle.signal_graph.specs.Named.{numbers_in};
 ghost use Rattle.signal_graph.specs.Legal.{Legal, state_after, finals};
 ghost use Rattle.signal_graph.specs.Values.{values};
 ghost use Rattle.call_log.specs.LeftOut.{why_not, refusal};
@@ -14,7 +15,7 @@ use crate::machine::Machine;
 use call_log::{Finished, Log, Logged, Refused, RefusedList, Why};
 use script_tree::items::Items;
 use script_tree::memory::OutOfMemory;
-use signal_graph::call::{Call, CallList, Scripts};
+use signal_graph::call::{Call, CallList, Named, Scripts};
 use signal_graph::graph::Graph;
 use std::alloc::Global;
 use std::marker::Model;
@@ -61,24 +62,29 @@ impl<'g> Run<'g> {
         })
     }
 
-    /// Why the next call is not made, where it is not.
+    /// The nodes that the next call names, or why it is not made.
     #[tactic(auto, using(crate::proofs::Runs::used_up, crate::proofs::Runs::has_room))]
-    fn why_not(&self, call: &Call) -> Option<Why>
+    fn named(&self, call: &Call) -> Result<Named, Why>
         requires { IsWithinLimits call.now }
-        ensures { result ≡ why_not_next self.now.graph self.now.limit self.now.progress.log call.now }
+        ensures ok { IfOk result (λ named. named ≡ numbers_in self.now.graph call.now) }
+        ensures none { OnOk result (why_not_next self.now.graph self.now.limit self.now.progress.log call.now ≡ None) }
+        ensures some { IfErr result (λ why. why_not_next self.now.graph self.now.limit self.now.progress.log call.now ≡ Some why) }
     {
-        if let Some(place) = call.misnamed(self.machine.graph()) {
-            return Some(Why::UnknownName(place));
+        match call.named_in(self.machine.graph()) {
+            Err(place) => Err(Why::UnknownName(place)),
+            Ok(named) => {
+                if self.log.len() >= self.limit {
+                    return Err(Why::VersionsUsedUp(self.limit));
+                }
+                Ok(named)
+            }
         }
-        if self.log.len() >= self.limit {
-            return Some(Why::VersionsUsedUp(self.limit));
-        }
-        None
     }
 
-    /// Makes a call with the next version.
-    fn make(&mut self, caller: u32, call: &Call) -> Result<(), OutOfMemory>
-        requires named { misnamed self.old.graph call.now ≡ None }
+    /// Makes a call that names these nodes, with the next version.
+    fn make(&mut self, caller: u32, call: &Call, named: &Named) -> Result<(), OutOfMemory>
+        requires right { misnamed self.old.graph call.now ≡ None }
+        requires named { named.now ≡ numbers_in self.old.graph call.now }
         requires room { length self.old.progress.log < self.old.limit }
         ensures graph { self.new.graph ≡ self.old.graph }
         ensures limit { self.new.limit ≡ self.old.limit }
@@ -88,7 +94,7 @@ impl<'g> Run<'g> {
         let copy = call.copy(self.alloc)?;
         self.log.reserve_one()?;
         let version = self.log.len() + 1;
-        let reply = self.machine.step(call)?;
+        let reply = self.machine.step_named(call, named)?;
         self.log.append(Logged {
             caller,
             version,
@@ -106,9 +112,9 @@ impl<'g> Run<'g> {
         ensures limit { self.new.limit ≡ self.old.limit }
         ensures called { OnOk result (self.new.progress ≡ called self.old.graph self.old.limit caller number call.now self.old.progress) }
     {
-        match self.why_not(call) {
-            None => self.make(caller, call),
-            Some(why) => self.refused.push(Refused {
+        match self.named(call) {
+            Ok(named) => self.make(caller, call, &named),
+            Err(why) => self.refused.push(Refused {
                 caller,
                 number,
                 why,

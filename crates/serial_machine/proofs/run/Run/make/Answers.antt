@@ -26,7 +26,7 @@ invariant_of-self-2 c =
     let entry : Logged = record { caller = c.args.caller; version = c.len-version.result + 1; call = c.in_ok-copy.copy; reply = c.in_ok-reply.reply } in
     let grown : c.append.new.self.entries ≡ c.self.inside.log.entries ++ entry ∷ [] = c.append.ensures.entries ∙ ap (λ es. es ++ entry ∷ []) c.in_ok-reserve_one.ensures.entries in
     let more : length c.append.new.self.entries ≡ length c.self.inside.log.entries + 1 = ap length grown ∙ length-append c.self.inside.log.entries (entry ∷ []) in (
-      stands_more c.self.inside.machine c.step.new.self c.self.inside.log.entries c.append.new.self.entries entry c.args.call.now
+      stands_more c.self.inside.machine c.step_named.new.self c.self.inside.log.entries c.append.new.self.entries entry c.args.call.now
           c.in_ok-reply.ensures.graph grown c.in_ok-copy.ensures
           (c.in_ok-reply.ensures.moves (state_after c.self.inside.machine.graph c.self.inside.log.entries) c.self.invariant.0),
       omega (arith, more, size, limit, c.requires.room),
