@@ -1,8 +1,7 @@
 -- Loops over the nodes of a graph by their numbers.
 use Rattle.std.proofs.Common.{◌≡◌, ℕ, zero, suc, ◌+◌, ◌<◌, ◌≤◌, Bool, true, false, List, [], ◌∷◌, ◌++◌, length, drop, get_or, refl, ap, ◌∙◌, arith}
-use Rattle.std.specs.Prelude.{filter, map, cond, slice_set, slice_index_or, slice_get, Option, Some, None, ◌||◌}
+use Rattle.std.specs.Prelude.{filter, cond, slice_set, slice_index_or, slice_get, Option, Some, None, ◌||◌}
 use Rattle.std.specs.List.{list_any}
-use Rattle.std.proofs.lemmas.Bool.Decides.{nat_tests}
 use Rattle.std.proofs.lemmas.List.{drop_more}
 use Rattle.std.proofs.lemmas.Option.{slice_get_within, get_or_from_slice_get}
 use Rattle.script_tree.specs.declared.value.Fault.TheVariants.{Kind}
@@ -10,9 +9,9 @@ use Rattle.script_tree.specs.declared.value.Value.{Value}
 use Rattle.script_tree.specs.declared.value.Value.TheVariants.{Fault as Faulty}
 use Rattle.signal_graph.specs.declared.node.Node.{Node}
 use Rattle.signal_graph.specs.declared.node.Node.TheVariants.{Source}
-use Rattle.signal_graph.specs.Graph.{Graph, IsGraph, node_at, place_in, number_of, numbers_from}
-use Rattle.signal_graph.specs.Values.{Values, at, nodes_in, node_value, values_from, start_value, start}
-use Rattle.signal_graph.specs.Machine.{with_sets, names_node}
+use Rattle.signal_graph.specs.Graph.{Graph, number_of, numbers_from}
+use Rattle.signal_graph.specs.Values.{Values, at, nodes_in}
+use Rattle.signal_graph.specs.Machine.{with_sets}
 use Rattle.signal_graph.specs.OnePass.{new_value, new_from}
 
 -- how many nodes from a number on pass a test
@@ -58,18 +57,6 @@ any_append p (x ∷ xs) ys = either (p x) (any_append p xs ys)
     either true e = refl
     either false e = e
 
-start_at : (nodes : List Node) (n : ℕ) → n < length nodes → at (map start_value nodes) n ≡ start_value (slice_index_or nodes n (Source (Faulty Kind)))
-start_at [] n h = absurd (omega arith)
-start_at (node ∷ nodes) zero h = refl
-start_at (node ∷ nodes) (suc n) h = start_at nodes n (omega arith)
-
--- the next node's value in the start state
-pub start_step : (graph : Graph) (earlier : Values) (n : ℕ) → n < length graph.nodes → length earlier ≡ n → values_from earlier (drop n graph.nodes) (start graph) ≡ values_from (earlier ++ node_value (node_at graph n) (start_value (node_at graph n)) earlier ∷ []) (drop (n + 1) graph.nodes) (start graph)
-start_step graph earlier n within here =
-    ap (λ ns. values_from earlier ns (start graph)) (drop_more graph.nodes n (Source (Faulty Kind)) within)
-    ∙ ap (λ i. values_from (earlier ++ node_value (node_at graph n) (at (start graph) i) earlier ∷ []) (drop (n + 1) graph.nodes) (start graph)) here
-    ∙ ap (λ v. values_from (earlier ++ node_value (node_at graph n) v earlier ∷ []) (drop (n + 1) graph.nodes) (start graph)) (start_at graph.nodes n within)
-
 -- the next set of a fire
 pub sets_step : (graph : Graph) (kept : Values) (sets : List (List ℕ × Value)) (i : ℕ) (d : List ℕ × Value) → i < length sets → with_sets graph kept (drop i sets) ≡ with_sets graph (slice_set kept (number_of graph (get_or sets i d).0) (get_or sets i d).1) (drop (i + 1) sets)
 sets_step graph kept sets i d within = ap (with_sets graph kept) (drop_more sets i d within)
@@ -79,14 +66,3 @@ pub set_beyond : (values : Values) (n : ℕ) (v : Value) → length values ≤ n
 set_beyond [] n v h = refl
 set_beyond (u ∷ values) zero v h = absurd (omega arith)
 set_beyond (u ∷ values) (suc n) v h = ap (λ vs. u ∷ vs) (set_beyond values n v (omega arith))
-
-place_within : (names : List (List ℕ)) (name : List ℕ) → place_in names name ≤ length names
-place_within [] name = omega arith
-place_within (other ∷ names) name = let rest = place_within names name in grind (arith, rest)
-
--- a name that no node has gets the number behind the last node
-pub number_beyond : (graph : Graph) (name : List ℕ) → IsGraph graph → names_node graph name ≡ false → number_of graph name ≡ length graph.nodes
-number_beyond graph name is_graph absent =
-    let within = place_within graph.names name in
-    let named = is_graph.named in
-    grind (arith, nat_tests, within, named)

@@ -139,8 +139,8 @@ impl<'g> Machine<'g> {
         self.make(call, sets.as_slice(), looks.as_slice())
     }
 
-    /// Makes a call whose names were looked up, as `step` does. Takes memory for the reply alone; where there is none,
-    /// the machine is as it was.
+    /// Makes a call whose names were looked up, as `step` does. Takes memory; where there is none, the machine is as it
+    /// was.
     pub fn step_named(&mut self, call: &Call, named: &Named) -> Result<Reply, OutOfMemory>
         requires right { misnamed self.old.graph call.now ≡ None }
         requires named { named.now ≡ numbers_in self.old.graph call.now }
