@@ -1,6 +1,6 @@
 // From a source to a deck.
 
-ghost use Rattle.std.specs.Prelude.{◌≡◌, ◌+◌, ◌<◌, ◌≤◌, ◌^◌, length, Ok, IfOk, IfErr};
+ghost use Rattle.std.specs.Prelude.{◌≡◌, ◌+◌, ◌≤◌, length, Ok, IfOk, IfErr};
 ghost use Rattle.script_tree.specs.declared.limits.TheConstants.{DECK_BYTES as MOST};
 ghost use Rattle.fs_io.specs.Bytes.{Ends};
 ghost use Rattle.deck_text.specs.Reasons.{ReadsDeck};
@@ -20,7 +20,6 @@ use std::alloc::Global;
 #[tactic(auto, using(crate::proofs::Inputs::given_first))]
 fn read_input<S: Source>(alloc: Global, source: &mut S) -> Result<Text, Stop>
     ensures ok { IfOk result (IsInput (S.left source.old)) }
-    ensures small { IfOk result (λ bytes. length bytes < 2 ^ 32) }
     ensures end { IfOk result (λ bytes. length bytes ≤ MOST → Ends (S.left source.old) (S.left source.new)) }
     ensures err { IfErr result (IsUnread (S.faults source.old) (S.faults source.new)) }
 {
@@ -33,7 +32,6 @@ fn read_input<S: Source>(alloc: Global, source: &mut S) -> Result<Text, Stop>
 
 // The deck that bytes are read as.
 fn judge(alloc: Global, bytes: &[u8]) -> Result<Deck, Stop>
-    requires { length bytes.now < 2 ^ 32 }
     ensures ok { IfOk result (λ deck. ReadsDeck bytes.now (Ok deck)) }
     ensures err { IfErr result (IsRefused bytes.now) }
 {
