@@ -7,9 +7,9 @@ ghost use Rattle.signal_graph.specs.declared.call.Call.{Call};
 ghost use Rattle.signal_graph.specs.declared.node.NodeKind.TheVariants as kind;
 ghost use Rattle.signal_graph.specs.Graph.{Graph, IsGraph, node_at, name_at, kind_of, inputs_of, is_in, static_outs, stands_in};
 ghost use Rattle.signal_graph.specs.Values.{Values, at, values, val, node_value, deps};
-ghost use Rattle.signal_graph.specs.Machine.{with_sets, misnamed, after};
+ghost use Rattle.signal_graph.specs.Machine.{with_sets, sets_of, misnamed, after};
 ghost use Rattle.signal_graph.specs.Evaluation.{CanEvaluate};
-ghost use Rattle.signal_graph.specs.OnePass.{new_from, after_call};
+ghost use Rattle.signal_graph.specs.OnePass.{new_value, new_from, after_call};
 
 /// No node of a graph has more than 64 inputs.
 pub fn inputs_are_few()
@@ -39,6 +39,11 @@ pub fn skips()
 pub fn literal()
     ensures pass { (graph : Graph) → IsGraph graph → (kept : Values) → length kept ≡ length graph.nodes → (call : Call) → misnamed graph call ≡ None → values graph (after graph kept call) ≡ after_call graph (values graph kept) call }
     ensures size { (graph : Graph) (kept : Values) (call : Call) → length (after graph kept call) ≡ length kept }
+{}
+
+/// Each node's value after a call follows from the values before it and from the new values of the nodes that it names.
+pub fn new_values_are()
+    ensures { (graph : Graph) → IsGraph graph → (kept : Values) → length kept ≡ length graph.nodes → (call : Call) → misnamed graph call ≡ None → (n : ℕ) → n < length graph.nodes → val graph (after graph kept call) n ≡ new_value (node_at graph n) (at (with_sets graph (values graph kept) (sets_of call)) n) (val graph kept n) (values graph kept) (values graph (after graph kept call)) }
 {}
 
 /// What one pass gives is a state, and its values are what it keeps.
