@@ -12,8 +12,8 @@ use Rattle.signal_graph.specs.declared.node.Node.TheVariants.{Source, Signal, Fo
 use Rattle.signal_graph.specs.Graph.{Graph, node_at, is_in, is_source, inputs_of, body_of, static_outs}
 use Rattle.signal_graph.specs.Values.{select, taken, nodes_in}
 use Rattle.node_versions.specs.Entries.{first_open, value_before, picks_before, active_nodes}
-use Rattle.flow_model.specs.Sets.{is_empty}
-use Rattle.flow_model.specs.State.{Core, LiveCall, Found, Gives, Selects, call, cell, entries, outs, executes, opens, changes, precedes}
+use Rattle.flow_model.specs.Machine.Lists.{is_empty}
+use Rattle.flow_model.specs.Machine.State.{Core, LiveCall, Found, Gives, Selects, call, cell, entries, outs, executes, opens, changes, precedes}
 
 -- ---- dependencies
 
@@ -31,10 +31,12 @@ active_outs graph s t m = static_outs graph m ++ active_nodes (entries s m) (out
 
 -- ---- what is gathered and found
 
+-- the value that is gathered of m, if it is
 abbrev pub gathered_of : ℕ → List (ℕ × Value) → Option Value
 gathered_of m [] = None
 gathered_of m (p ∷ ps) = elim (p.0 == m) [ true ↦ Some p.1 | false ↦ gathered_of m ps ]
 
+-- that value, or a fault
 abbrev pub value_or : Option Value → Value
 value_or None = Faulty NoChoice
 value_or (Some v) = v
@@ -43,9 +45,11 @@ value_or (Some v) = v
 abbrev pub value_gathered : Core → ℕ → ℕ → Value
 value_gathered s n m = value_or (gathered_of m (cell s n).gathered)
 
+-- The value of m is gathered for n.
 abbrev pub is_gathered : Core → ℕ → ℕ → Bool
 is_gathered s n m = is_some (gathered_of m (cell s n).gathered)
 
+-- The node is evaluated.
 abbrev pub is_found : Core → ℕ → Bool
 is_found s n = is_some (cell s n).found
 
@@ -55,20 +59,25 @@ picks_of_found None = []
 picks_of_found (Some (Gives v)) = []
 picks_of_found (Some (Selects selections)) = map taken selections
 
+-- what the node's selectors picked
 abbrev pub found_picks : Core → ℕ → List (Option ℕ)
 found_picks s n = picks_of_found (cell s n).found
 
+-- the candidates among that
 abbrev pub found_candidates : Core → ℕ → List ℕ
 found_candidates s n = nodes_in (found_picks s n)
 
+-- The call had picked c before.
 abbrev pub is_prior : Core → ℕ → ℕ → ℕ → Bool
 is_prior s t n c = is_in c (prior_picks s t n)
 
+-- The node's selectors picked c.
 abbrev pub is_candidate : Core → ℕ → ℕ → Bool
 is_candidate s n c = is_in c (found_candidates s n)
 
--- ---- when a node's turn has come
+-- ---- where a call can work
 
+-- There is a number, and it is this one.
 abbrev pub is_some_of : Option ℕ → ℕ → Bool
 is_some_of None t = false
 is_some_of (Some u) t = u == t
@@ -82,20 +91,22 @@ abbrev pub at_front : Graph → Core → ℕ → ℕ → Bool
 at_front graph s t n = executes s t && heads s t n && not (list_any (opens s t) (deps graph s t n))
 
 -- Besides, it has nothing left to frame.
-abbrev pub turn : Graph → Core → ℕ → ℕ → Bool
-turn graph s t n = is_empty (call s t).wanted && at_front graph s t n
+abbrev pub can_work : Graph → Core → ℕ → ℕ → Bool
+can_work graph s t n = is_empty (call s t).wanted && at_front graph s t n
 
 -- The call has changed a node that this one rests on.
 abbrev pub touched : Graph → Core → ℕ → ℕ → Bool
 touched graph s t n = not (is_source (node_at graph n)) && list_any (changes s t) (deps graph s t n)
 
+-- The call can work at the node and has changed what it rests on.
 abbrev pub due : Graph → Core → ℕ → ℕ → Bool
-due graph s t n = turn graph s t n && touched graph s t n
+due graph s t n = can_work graph s t n && touched graph s t n
 
 -- An executing call after this one wants the node.
 abbrev pub presses : Core → ℕ → ℕ → LiveCall → Bool
 presses s t n c = c.executing && precedes s t c.version && is_in n c.wanted
 
+-- Some call presses for the node.
 abbrev pub pressed : Core → ℕ → ℕ → Bool
 pressed s t n = list_any (presses s t n) s.calls
 
@@ -117,6 +128,7 @@ is_idle s t = executes s t && is_empty (call s t).wanted && is_empty (call s t).
 abbrev pub run_over : Scripted → List ℕ → (ℕ → Value) → Value → Value
 run_over script inputs read acc = eval_script script.tree (map read inputs) acc
 
+-- the value of a pick
 abbrev pub pick_over : (ℕ → Value) → Result ℕ Fault → Value
 pick_over read (Ok c) = read c
 pick_over read (Err f) = Faulty f
@@ -126,13 +138,16 @@ abbrev pub finds : Node → (ℕ → Value) → Value → Found
 finds (Source start) read acc = Gives start
 finds (Signal script inputs) read acc = Gives (run_over script inputs read (Faulty Kind))
 finds (Fold start script inputs) read acc = Gives (run_over script inputs read acc)
-finds (Choose selectors body inputs) read acc = Selects (map (λ selector. select (run_over selector.script selector.inputs read (Faulty Kind)) selector.candidates) selectors)
+finds (Choose selectors body inputs) read acc = Selects
+    (map (λ selector. select (run_over selector.script selector.inputs read (Faulty Kind)) selector.candidates) selectors)
 
+-- what the selectors of a choose selected
 abbrev pub selections_of : Option Found → List (Result ℕ Fault)
 selections_of None = []
 selections_of (Some (Gives v)) = []
 selections_of (Some (Selects selections)) = selections
 
+-- the value of the first pick
 abbrev pub first_pick_over : (ℕ → Value) → List (Result ℕ Fault) → Value
 first_pick_over read [] = Faulty NoChoice
 first_pick_over read (selection ∷ rest) = pick_over read selection
@@ -151,6 +166,7 @@ value_over body read (Selects selections) = body_over body read selections
 abbrev pub found_now : Graph → Core → ℕ → ℕ → Found
 found_now graph s t n = finds (node_at graph n) (value_gathered s n) (value_before (entries s n) t)
 
+-- the body's value over what is gathered
 abbrev pub body_now : Graph → Core → ℕ → Value
 body_now graph s n = body_over (body_of (node_at graph n)) (value_gathered s n) (selections_of (cell s n).found)
 
@@ -164,10 +180,14 @@ abbrev pub value_without : Core → ℕ → Option Found → Value
 value_without s n None = Faulty NoChoice
 value_without s n (Some found) = value_over None (value_gathered s n) found
 
+-- the value of a node with or without a body
 abbrev pub value_by : Core → ℕ → Option Scripted → Value
 value_by s n None = value_without s n (cell s n).found
 value_by s n (Some body) = value_or (cell s n).body
 
 -- the node's new value
 abbrev pub value_now : Graph → Core → ℕ → ℕ → Value
-value_now graph s t n = elim (is_source (node_at graph n)) [ true ↦ set_value n (Faulty NoChoice) (call s t).sets | false ↦ value_by s n (body_of (node_at graph n)) ]
+value_now graph s t n = elim (is_source (node_at graph n)) [
+  | true ↦ set_value n (Faulty NoChoice) (call s t).sets
+  | false ↦ value_by s n (body_of (node_at graph n))
+]

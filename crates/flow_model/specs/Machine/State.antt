@@ -1,5 +1,5 @@
 -- The core's state: the live calls, each node's list with what is being worked out there, the recorded order, and the log.
-use Rattle.std.specs.Prelude.{ℕ, zero, suc, Bool, true, false, ◌&&◌, ◌||◌, not, ◌==◌, List, [], ◌∷◌, map, filter, Option, Some, None, Result, slice_index_or}
+use Rattle.std.specs.Prelude.{ℕ, Bool, true, false, ◌&&◌, ◌||◌, not, ◌==◌, List, [], ◌∷◌, map, filter, Option, Some, None, is_some, Result, slice_index_or}
 use Rattle.script_tree.specs.declared.value.Fault.{Fault}
 use Rattle.script_tree.specs.declared.value.Value.{Value}
 use Rattle.signal_graph.specs.declared.call.Call.{Call}
@@ -12,6 +12,7 @@ use Rattle.order_graph.specs.Order.{reaches}
 use Rattle.node_versions.specs.declared.entry.State.TheVariants.{Done}
 use Rattle.node_versions.specs.declared.entry.Entry.{Entry}
 use Rattle.node_versions.specs.Entries.{OutEdge}
+use Rattle.flow_model.specs.Machine.Lists.{change_at}
 
 -- A live call: whose it is, its version and slot, whether it executes or still frames, what it asks for, and by node
 -- what it sets and looks at; the nodes that it has yet to frame, that are open for it and that it has changed; how many
@@ -43,7 +44,8 @@ pub record Cell : Type 0 where
   pub found : Option Found
   pub body : Option Value
 
--- The pairs join versions.
+-- A pair of the recorded order joins two calls, and has the node at which they met. Here it names them by version; where code
+-- keeps the order it names them by slot (Parts/SlotPairs).
 pub record Core : Type 0 where
   pub callers : ℕ
   pub limit : ℕ
@@ -55,13 +57,29 @@ pub record Core : Type 0 where
 
 -- ---- calls
 
+-- the live call of a version, if there is one
 abbrev pub call_of : List LiveCall → ℕ → Option LiveCall
 call_of [] t = None
 call_of (c ∷ cs) t = elim (c.version == t) [ true ↦ Some c | false ↦ call_of cs t ]
 
+-- a call with nothing in it
 abbrev pub no_call : LiveCall
-no_call = record { caller = 0; version = 0; slot = 0; executing = false; call = Read []; sets = []; looks = []; wanted = []; open_nodes = []; changed = []; evaluated = 0; looked = [] }
+no_call = record {
+  caller = 0;
+  version = 0;
+  slot = 0;
+  executing = false;
+  call = Read [];
+  sets = [];
+  looks = [];
+  wanted = [];
+  open_nodes = [];
+  changed = [];
+  evaluated = 0;
+  looked = [];
+}
 
+-- the call that there is, or that one
 abbrev pub call_or : Option LiveCall → LiveCall
 call_or None = no_call
 call_or (Some c) = c
@@ -70,43 +88,49 @@ call_or (Some c) = c
 abbrev pub call : Core → ℕ → LiveCall
 call s t = call_or (call_of s.calls t)
 
-abbrev pub some_call : Option LiveCall → Bool
-some_call None = false
-some_call (Some c) = true
-
+-- The version is of a live call.
 abbrev pub live : Core → ℕ → Bool
-live s t = some_call (call_of s.calls t)
+live s t = is_some (call_of s.calls t)
 
 -- It has ended, or it is version 0, which counts as an ended call.
 abbrev pub ended : Core → Entry → Bool
 ended s e = not (live s e.version)
 
+-- The call lives and has framed all that it reaches.
 abbrev pub executes : Core → ℕ → Bool
 executes s t = (call s t).executing
 
-abbrev pub frames : Core → ℕ → Bool
-frames s t = live s t && not (executes s t)
+-- The call lives and frames still.
+abbrev pub is_framing : Core → ℕ → Bool
+is_framing s t = live s t && not (executes s t)
 
+-- The call has yet to frame the node.
 abbrev pub wants : Core → ℕ → ℕ → Bool
 wants s t n = is_in n (call s t).wanted
 
+-- The node is open for the call.
 abbrev pub opens : Core → ℕ → ℕ → Bool
 opens s t n = is_in n (call s t).open_nodes
 
+-- The call has changed the node.
 abbrev pub changes : Core → ℕ → ℕ → Bool
 changes s t n = is_in n (call s t).changed
 
 -- ---- nodes
 
+-- a node with nothing at it
 abbrev pub no_cell : Cell
 no_cell = record { entries = []; outs = []; gathered = []; found = None; body = None }
 
+-- what is kept of a node
 abbrev pub cell : Core → ℕ → Cell
 cell s n = slice_index_or s.cells n no_cell
 
+-- the node's list
 abbrev pub entries : Core → ℕ → List Entry
 entries s n = (cell s n).entries
 
+-- the node's out-edges
 abbrev pub outs : Core → ℕ → List OutEdge
 outs s n = (cell s n).outs
 
@@ -118,20 +142,18 @@ precedes s u v = reaches s.pairs u v || (not (live s u) && live s v)
 
 -- ---- changes of one call or node
 
+-- the calls with one of them changed
 abbrev pub change_call : ℕ → (LiveCall → LiveCall) → List LiveCall → List LiveCall
 change_call t f [] = []
 change_call t f (c ∷ cs) = elim (c.version == t) [ true ↦ f c ∷ cs | false ↦ c ∷ change_call t f cs ]
 
-abbrev pub change_cell : ℕ → (Cell → Cell) → List Cell → List Cell
-change_cell n f [] = []
-change_cell zero f (c ∷ cs) = f c ∷ cs
-change_cell (suc n) f (c ∷ cs) = c ∷ change_cell n f cs
-
+-- the state with one live call changed
 abbrev pub with_call : Core → ℕ → (LiveCall → LiveCall) → Core
 with_call s t f = record s { calls = change_call t f s.calls }
 
+-- the state with one node changed
 abbrev pub with_cell : Core → ℕ → (Cell → Cell) → Core
-with_cell s n f = record s { cells = change_cell n f s.cells }
+with_cell s n f = record s { cells = change_at n f s.cells }
 
 -- ---- the opening state
 
@@ -139,11 +161,22 @@ with_cell s n f = record s { cells = change_cell n f s.cells }
 abbrev pub start_outs : Graph → ℕ → List OutEdge
 start_outs graph m = map (λ n. (n, 0)) (filter (λ n. is_in m (nodes_in (picks graph (start graph) n))) (numbers graph))
 
+-- the start value, as a Done of version 0
 abbrev pub start_entry : Graph → ℕ → Entry
 start_entry graph n = record { version = 0; slot = 0; state = Done (val graph (start graph) n) false (picks graph (start graph) n) }
 
+-- the node at the start
 abbrev pub start_cell : Graph → ℕ → Cell
 start_cell graph n = record { entries = start_entry graph n ∷ []; outs = start_outs graph n; gathered = []; found = None; body = None }
 
+-- no call has begun
 abbrev pub opening : Graph → ℕ → ℕ → Core
-opening graph callers limit = record { callers = callers; limit = limit; begun = 0; calls = []; cells = map (start_cell graph) (numbers graph); pairs = []; log = [] }
+opening graph callers limit = record {
+  callers = callers;
+  limit = limit;
+  begun = 0;
+  calls = [];
+  cells = map (start_cell graph) (numbers graph);
+  pairs = [];
+  log = [];
+}

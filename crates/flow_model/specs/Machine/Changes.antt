@@ -8,19 +8,21 @@ use Rattle.node_versions.specs.declared.entry.State.{State}
 use Rattle.node_versions.specs.declared.entry.State.TheVariants.{Mark, Frame, Done}
 use Rattle.node_versions.specs.declared.entry.Entry.{Entry}
 use Rattle.node_versions.specs.Entries.{is_frame, changed_of, has, at, behind, front, rest, placed, with_state, with_out, OutEdge}
-use Rattle.flow_model.specs.Sets.{put, put_all, take_out, without}
-use Rattle.flow_model.specs.State.{Core, Cell, LiveCall, call, live, executes, frames, entries, precedes, with_call, with_cell}
+use Rattle.flow_model.specs.Machine.Sets.{put, put_all, take_out, without}
+use Rattle.flow_model.specs.Machine.State.{Core, Cell, LiveCall, call, live, executes, is_framing, entries, precedes, with_call, with_cell}
 
 -- ---- entering
 
 -- The call's place is before the first entry that stops it: the call is before that entry's, or executes while that one
 -- frames.
 abbrev pub stops_call : Core → ℕ → ℕ → Bool
-stops_call s t u = precedes s t u || (executes s t && frames s u)
+stops_call s t u = precedes s t u || (executes s t && is_framing s u)
 
+-- the same of an entry
 abbrev pub stops : Core → ℕ → Entry → Bool
 stops s t e = stops_call s t e.version
 
+-- the call of the first entry of a list, and of the last one
 abbrev pub first_version : List Entry → Option ℕ
 first_version [] = None
 first_version (e ∷ es) = Some e.version
@@ -38,12 +40,16 @@ abbrev pub link_right : Core → ℕ → ℕ → Option ℕ → List Pair → Li
 link_right s t m None pairs = pairs
 link_right s t m (Some u) pairs = elim (live s u) [ true ↦ linked pairs t u m | false ↦ pairs ]
 
+-- the recorded order after the call has entered the node's list
 abbrev pub linked_at : Core → ℕ → ℕ → List Pair
-linked_at s t m = link_right s t m (first_version (rest (stops s t) (entries s m))) (link_left s t m (last_version None (front (stops s t) (entries s m))) s.pairs)
+linked_at s t m = link_right s t m (first_version (rest (stops s t) (entries s m)))
+    (link_left s t m (last_version None (front (stops s t) (entries s m))) s.pairs)
 
+-- the call's entry in a state
 abbrev pub new_entry : Core → ℕ → State → Entry
 new_entry s t state = record { version = t; slot = (call s t).slot; state = state }
 
+-- the node with the call's entry at its place
 abbrev pub place_entry : Core → ℕ → State → Cell → Cell
 place_entry s t state c = record c { entries = placed (stops s t) (new_entry s t state) c.entries }
 
@@ -51,6 +57,7 @@ place_entry s t state c = record c { entries = placed (stops s t) (new_entry s t
 abbrev pub enter : Core → ℕ → ℕ → State → Core
 enter s t m state = record s { cells = (with_cell s m (place_entry s t state)).cells; pairs = linked_at s t m }
 
+-- it enters with a Mark
 abbrev pub enter_mark : Core → ℕ → ℕ → Core
 enter_mark s t m = enter s t m Mark
 
@@ -60,6 +67,7 @@ ensure_mark s t m = elim (has (entries s m) t) [ true ↦ s | false ↦ enter s 
 
 -- ---- raising and finishing
 
+-- the node with another state of the call's entry
 abbrev pub set_state : ℕ → State → Cell → Cell
 set_state t state c = record c { entries = with_state t state c.entries }
 
@@ -71,8 +79,12 @@ raise s t n = with_cell s n (set_state t Frame)
 abbrev pub opened : ℕ → List ℕ → LiveCall → LiveCall
 opened n outs c = record c { wanted = put_all (without outs (put n c.open_nodes)) (take_out n c.wanted); open_nodes = put n c.open_nodes }
 
+-- the node is open for the call no more, which has changed it or not
 abbrev pub closed : ℕ → Bool → LiveCall → LiveCall
-closed n changed c = record c { open_nodes = take_out n c.open_nodes; changed = elim changed [ true ↦ put n c.changed | false ↦ c.changed ] }
+closed n changed c = record c {
+  open_nodes = take_out n c.open_nodes;
+  changed = elim changed [ true ↦ put n c.changed | false ↦ c.changed ];
+}
 
 -- the call's Frame becomes a Done
 abbrev pub finish : Core → ℕ → ℕ → Value → Bool → List (Option ℕ) → Core
@@ -82,6 +94,7 @@ finish s t n value changed picks = with_call (with_cell s n (set_state t (Done v
 abbrev pub cleared : Cell → Cell
 cleared c = record c { gathered = []; found = None; body = None }
 
+-- the state after that
 abbrev pub clear : Core → ℕ → Core
 clear s n = with_cell s n cleared
 
@@ -95,6 +108,7 @@ hands_on state = is_frame state || changed_of state
 abbrev pub is_told : List Entry → ℕ → ℕ → LiveCall → Bool
 is_told es t n c = behind es t c.version && at hands_on es c.version && not (is_in n c.open_nodes)
 
+-- the call comes to want n where it is told
 abbrev pub tell_call : List Entry → ℕ → ℕ → LiveCall → LiveCall
 tell_call es t n c = record c { wanted = elim (is_told es t n c) [ true ↦ put n c.wanted | false ↦ c.wanted ] }
 
@@ -104,6 +118,7 @@ tell s t n m = record s { calls = map (tell_call (entries s m) t n) s.calls }
 
 -- ---- out-edges
 
+-- an out-edge to n since t
 abbrev pub add_edge : ℕ → ℕ → Cell → Cell
 add_edge n t c = record c { outs = with_out c.outs n t }
 
@@ -112,5 +127,6 @@ abbrev pub remove_first : ℕ → List OutEdge → List OutEdge
 remove_first n [] = []
 remove_first n (edge ∷ edges) = elim (edge.0 == n) [ true ↦ edges | false ↦ edge ∷ remove_first n edges ]
 
+-- no out-edge to n
 abbrev pub drop_edge : ℕ → Cell → Cell
 drop_edge n c = record c { outs = remove_first n c.outs }

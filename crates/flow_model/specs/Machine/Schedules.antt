@@ -10,10 +10,11 @@ use Rattle.signal_graph.specs.Machine.{misnamed}
 use Rattle.flow_model.specs.declared.step.Step.TheVariants.{End}
 use Rattle.flow_model.specs.declared.step.Turn.{Turn}
 use Rattle.flow_model.specs.declared.step.Turn.TheVariants as turn
-use Rattle.flow_model.specs.State.{Core, LiveCall, opening}
-use Rattle.flow_model.specs.Steps.{allowed}
-use Rattle.flow_model.specs.Next.{next, least_version}
-use Rattle.flow_model.specs.Histories.{Move, Begin, Make, after_move}
+use Rattle.flow_model.specs.Machine.Lists.{is_empty, change_at}
+use Rattle.flow_model.specs.Machine.State.{Core, LiveCall, opening}
+use Rattle.flow_model.specs.Machine.Steps.{allowed}
+use Rattle.flow_model.specs.Machine.Next.{next, least_version}
+use Rattle.flow_model.specs.Machine.Histories.{Move, Begin, Make, after_move}
 
 -- A thread: the calls that it has not begun, the number of its next call, and its calls that were refused.
 pub record Thread : Type 0 where
@@ -27,39 +28,49 @@ pub record Play : Type 0 where
   pub core : Core
   pub threads : List Thread
 
+-- a thread with nothing to do, for numbers of none
 abbrev pub no_thread : Thread
 no_thread = record { left = []; number = 1; refused = [] }
 
+-- the thread with a number, counted from 0
 abbrev pub thread : Play → ℕ → Thread
 thread play i = slice_index_or play.threads i no_thread
 
-abbrev pub change_thread : ℕ → (Thread → Thread) → List Thread → List Thread
-change_thread i f [] = []
-change_thread zero f (x ∷ xs) = f x ∷ xs
-change_thread (suc i) f (x ∷ xs) = x ∷ change_thread i f xs
-
+-- the play after one more move
 abbrev pub made : Graph → Play → Move → Play
 made graph play move = record play { moves = play.moves ++ move ∷ []; core = after_move graph play.core move }
 
+-- the thread without the call that it has begun
 abbrev pub goes_on : List Call → Thread → Thread
 goes_on left x = record x { left = left; number = suc x.number }
 
+-- the thread without the call that was refused
 abbrev pub refuses : ℕ → Why → List Call → Thread → Thread
-refuses caller why left x = record { left = left; number = suc x.number; refused = x.refused ++ record { caller = caller; number = x.number; why = why } ∷ [] }
+refuses caller why left x = record {
+  left = left;
+  number = suc x.number;
+  refused = x.refused ++ record { caller = caller; number = x.number; why = why } ∷ [];
+}
 
 -- why the next call of a thread is refused, if it is
 abbrev pub refused_for : ℕ → ℕ → Option ℕ → Option Why
 refused_for begun limit (Some place) = Some (UnknownName place)
 refused_for begun limit None = elim (nat_lt begun limit) [ true ↦ None | false ↦ Some (VersionsUsedUp limit) ]
 
+-- the thread has begun its next call
+abbrev pub gone_on : ℕ → List Call → Play → Play
+gone_on i left play = record play { threads = change_at i (goes_on left) play.threads }
+
+-- the play after the call has begun or was refused
 abbrev pub begin_or_refuse : Graph → Play → ℕ → Call → List Call → Option Why → Play
-begin_or_refuse graph play i call left None = (let q = made graph play (Begin (suc i) call) in record q { threads = change_thread i (goes_on left) q.threads })
-begin_or_refuse graph play i call left (Some why) = record play { threads = change_thread i (refuses (suc i) why left) play.threads }
+begin_or_refuse graph play i call left None = gone_on i left (made graph play (Begin (suc i) call))
+begin_or_refuse graph play i call left (Some why) = record play { threads = change_at i (refuses (suc i) why left) play.threads }
 
 -- a thread without a live call begins its next one, or that is refused
 abbrev pub begin_next : Graph → Play → ℕ → List Call → Play
 begin_next graph play i [] = play
-begin_next graph play i (call ∷ left) = begin_or_refuse graph play i call left (refused_for play.core.begun play.core.limit (misnamed graph call))
+begin_next graph play i (call ∷ left) = begin_or_refuse graph play i call left
+    (refused_for play.core.begun play.core.limit (misnamed graph call))
 
 -- a live call makes its next step; where it has none left it ends, if it can
 abbrev pub make_turn : Graph → Play → ℕ → Turn → Play
@@ -67,6 +78,7 @@ make_turn graph play t (turn.Step step) = made graph play (Make step)
 make_turn graph play t (turn.NotYet cause) = play
 make_turn graph play t turn.Ready = elim (allowed graph play.core (End t)) [ true ↦ made graph play (Make (End t)) | false ↦ play ]
 
+-- the play after a turn of a thread that has no live call, or has one
 abbrev pub turn_of : Graph → Play → ℕ → Option ℕ → Play
 turn_of graph play i None = begin_next graph play i (thread play i).left
 turn_of graph play i (Some t) = make_turn graph play t (next graph play.core t)
@@ -88,21 +100,15 @@ take_turns graph play (suc i ∷ schedule) = take_turns graph (take_turn graph p
 -- ---- the rounds that follow
 
 -- No call is live or left.
-abbrev pub no_calls_left : List Call → Bool
-no_calls_left [] = true
-no_calls_left (call ∷ calls) = false
-
-abbrev pub no_calls : List LiveCall → Bool
-no_calls [] = true
-no_calls (c ∷ cs) = false
-
 abbrev pub is_over : Play → Bool
-is_over play = no_calls play.core.calls && list_all (λ x. no_calls_left x.left) play.threads
+is_over play = is_empty play.core.calls && list_all (λ x. is_empty x.left) play.threads
 
+-- one turn of each thread from one on
 abbrev pub round_from : Graph → ℕ → List Thread → Play → Play
 round_from graph i [] play = play
 round_from graph i (x ∷ xs) play = round_from graph (suc i) xs (take_turn graph play i)
 
+-- so many rounds, while the play is not over
 abbrev pub rounds : ℕ → Graph → Play → Play
 rounds zero graph play = play
 rounds (suc more) graph play = elim (is_over play) [ true ↦ play | false ↦ rounds more graph (round_from graph 0 play.threads play) ]
@@ -111,13 +117,19 @@ rounds (suc more) graph play = elim (is_over play) [ true ↦ play | false ↦ r
 abbrev pub most_rounds : Graph → List (List Call) → ℕ
 most_rounds graph scripts = sum_by length scripts * (140 * length graph.nodes + 200)
 
+-- the play before its first turn
 abbrev pub at_start : Graph → List (List Call) → ℕ → Play
-at_start graph scripts limit = record { moves = []; core = opening graph (length scripts) limit; threads = map (λ calls. record { left = calls; number = 1; refused = [] }) scripts }
+at_start graph scripts limit = record {
+  moves = [];
+  core = opening graph (length scripts) limit;
+  threads = map (λ calls. record { left = calls; number = 1; refused = [] }) scripts;
+}
 
 -- the turns of a schedule, and then rounds
 abbrev pub replayed : Graph → List (List Call) → ℕ → List ℕ → Play
 replayed graph scripts limit schedule = rounds (most_rounds graph scripts) graph (take_turns graph (at_start graph scripts limit) schedule)
 
+-- the refused calls of all threads
 abbrev pub all_refused : List Thread → List Refused
 all_refused [] = []
 all_refused (x ∷ xs) = x.refused ++ all_refused xs

@@ -1,5 +1,5 @@
 -- Sets of nodes, as ascending lists.
-use Rattle.std.specs.Prelude.{ℕ, Bool, true, false, ◌==◌, nat_lt, ◌<◌, List, [], ◌∷◌, Option, Some, None}
+use Rattle.std.specs.Prelude.{ℕ, true, false, ◌==◌, nat_lt, ◌<◌, List, [], ◌∷◌, Option, Some, None}
 use Rattle.std.specs.List.{AllByRecursion}
 use Rattle.signal_graph.specs.Graph.{is_in}
 
@@ -22,10 +22,6 @@ take_out n (x ∷ xs) = elim (x == n) [ true ↦ take_out n xs | false ↦ x ∷
 abbrev pub without : List ℕ → List ℕ → List ℕ
 without [] xs = []
 without (n ∷ ns) xs = elim (is_in n xs) [ true ↦ without ns xs | false ↦ n ∷ without ns xs ]
-
-abbrev pub is_empty : List ℕ → Bool
-is_empty [] = true
-is_empty (x ∷ xs) = false
 
 -- the least node of a set
 abbrev pub least : List ℕ → Option ℕ
