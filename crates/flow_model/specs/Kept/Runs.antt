@@ -7,8 +7,8 @@ use Rattle.node_versions.specs.declared.entry.State.{State}
 use Rattle.node_versions.specs.declared.entry.State.TheVariants.{Mark, Frame, Done}
 use Rattle.node_versions.specs.declared.entry.Entry.{Entry}
 use Rattle.node_versions.specs.Entries.{OutEdge, is_frame, is_done, has, at, behind, first_open, is_active, picks_at, has_out, has_node}
-use Rattle.flow_model.specs.State.{Core, call, live, entries, outs}
-use Rattle.flow_model.specs.Words.{heads, touched, is_gathered, is_prior}
+use Rattle.flow_model.specs.Machine.State.{Core, call, live, entries, outs}
+use Rattle.flow_model.specs.Machine.Words.{heads, touched, is_gathered, is_prior}
 
 -- Neighbouring Dones whose picks have one candidate: the calls at which the run begins and ends, where there are such.
 pub record Run : Type 0 where
@@ -27,14 +27,17 @@ abbrev pub begin_at : Bool → ℕ → Run
 begin_at true v = record { begins = None; ends = None }
 begin_at false v = record { begins = Some v; ends = None }
 
+-- the run that a Done with the candidate goes on with: the one before, or a new one
 abbrev pub go_on : Option Run → Bool → ℕ → Option Run
 go_on None fresh v = Some (begin_at fresh v)
 go_on (Some r) fresh v = Some r
 
+-- the runs that have ended, after a Done without the candidate
 abbrev pub close : Option Run → ℕ → List Run → List Run
 close None v rs = rs
 close (Some r) v rs = rs ++ record r { ends = Some v } ∷ []
 
+-- what is met after one more Done
 abbrev pub read_done : ℕ → ℕ → List (Option ℕ) → Reading → Reading
 read_done m v picks q = record {
   fresh = false;
@@ -42,15 +45,18 @@ read_done m v picks q = record {
   closed = elim (is_in m (nodes_in picks)) [ true ↦ q.closed | false ↦ close q.current v q.closed ];
 }
 
+-- the same after one more entry; only a Done tells anything
 abbrev pub read_state : ℕ → ℕ → State → Reading → Reading
 read_state m v Mark q = q
 read_state m v Frame q = q
 read_state m v (Done value changed picks) q = read_done m v picks q
 
+-- the same after a list
 abbrev pub read_all : ℕ → List Entry → Reading → Reading
 read_all m [] q = q
 read_all m (e ∷ es) q = read_all m es (read_state m e.version e.state q)
 
+-- at the start of a list
 abbrev pub nothing_read : Reading
 nothing_read = record { fresh = true; current = None; closed = [] }
 
@@ -58,6 +64,7 @@ nothing_read = record { fresh = true; current = None; closed = [] }
 abbrev pub dropper : Core → ℕ → ℕ → Option ℕ
 dropper s n m = elim (has_node (outs s m) n) [ true ↦ None | false ↦ first_open (entries s n) ]
 
+-- the run in which the list ends
 abbrev pub last_run : Option Run → Option ℕ → List Run
 last_run None dropped = []
 last_run (Some r) dropped = record r { ends = dropped } ∷ []
@@ -82,6 +89,7 @@ abbrev pub is_until : Core → ℕ → Option ℕ → ℕ → Bool
 is_until s m None u = true
 is_until s m (Some z) u = live s z && behind (entries s m) u z
 
+-- The run covers a call's entry at the candidate.
 abbrev pub covers : Core → ℕ → ℕ → Run → Bool
 covers s m u r = has (entries s m) u && is_from s m r.begins u && is_until s m r.ends u
 
@@ -91,6 +99,7 @@ reacts graph s u m n = is_in n (static_outs graph m) || list_any (covers s m u) 
 
 -- ---- settled entries
 
+-- a Frame, or a Done, which was one
 abbrev pub is_framed_state : State → Bool
 is_framed_state state = is_frame state || is_done state
 
@@ -108,16 +117,19 @@ was_due graph s u n = at is_done (entries s n) u && touched graph s u n
 
 -- u has dropped m at n.
 abbrev pub dropped : Core → ℕ → ℕ → ℕ → Bool
-dropped s u n m = is_prior s u n m && ((at is_done (entries s n) u && not (picks_it s u n m)) || (heads s u n && not (has_node (outs s m) n)))
+dropped s u n m = is_prior s u n m
+    && ((at is_done (entries s n) u && not (picks_it s u n m)) || (heads s u n && not (has_node (outs s m) n)))
 
 -- u's entry at m is settled by what u does at n.
 abbrev pub settles : Graph → Core → ℕ → ℕ → ℕ → Bool
-settles graph s u m n = (heads s u n && is_gathered s n m) || dropped s u n m || (was_due graph s u n && (is_in m (inputs_of (node_at graph n)) || picks_it s u n m))
+settles graph s u m n = (heads s u n && is_gathered s n m) || dropped s u n m
+    || (was_due graph s u n && (is_in m (inputs_of (node_at graph n)) || picks_it s u n m))
 
 -- u has looked at m.
 abbrev pub looked_at : Core → ℕ → ℕ → Bool
 looked_at s u m = is_in m (take (length (call s u).looked) (call s u).looks)
 
+-- u's entry at m is settled: something was read there, or was not and can't be any more.
 pub data IsSettled (graph : Graph) (s : Core) (u m : ℕ) : Type 0 where
   by_node : (n : ℕ) → settles graph s u m n ≡ true → IsSettled graph s u m
   by_look : looked_at s u m ≡ true → IsSettled graph s u m
