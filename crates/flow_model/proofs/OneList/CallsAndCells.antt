@@ -1,11 +1,12 @@
--- What the readers say after a change of one call or one cell.
+-- A change of one call or one cell is read there, and every other call and cell is read as before.
 use Rattle.std.proofs.Common.{◌≡◌, ℕ, Bool, true, false, ◌||◌, ◌==◌, ◌⊎◌, ◌≢◌, inl, inr, refl, sym, ap, arith, List, [], ◌∷◌, ◌++◌, true≢false, ◌∙◌, subst, Option, Some, None}
+use Rattle.std.specs.Prelude.{is_some}
 use Rattle.std.proofs.lemmas.Bool.Decides.{eqb_tells}
 use Rattle.std.specs.Prelude.{map}
 use Rattle.std.specs.List.{list_any}
-use Rattle.flow_model.specs.State.{Core, LiveCall, call, call_of, call_or, some_call, live, executes, with_call, change_call}
-use Rattle.flow_model.specs.Steps.{without_call, started}
-use Rattle.flow_model.proofs.Truths.{same_number, equal_test, is_not_true, true_or_false}
+use Rattle.flow_model.specs.Machine.State.{Core, LiveCall, call, call_of, call_or, live, executes, with_call, change_call}
+use Rattle.flow_model.specs.Machine.Steps.{without_call, started}
+use Rattle.flow_model.proofs.General.Truths.{same_number, equal_test, is_not_true, true_or_false}
 
 -- The change keeps what tells one call from another, and its phase.
 pub record KeepsPhase (f : LiveCall → LiveCall) : Type 0 where
@@ -36,7 +37,7 @@ pub without_call-same : (t : ℕ) (cs : List LiveCall) → call_of (without_call
 without_call-same t [] = refl
 without_call-same t (c ∷ cs) = let r = without_call-same t cs in grind (arith, eqb_tells, r)
 
-option_call-live : (f : LiveCall → LiveCall) (o : Option LiveCall) → some_call (option_call f o) ≡ some_call o
+option_call-live : (f : LiveCall → LiveCall) (o : Option LiveCall) → is_some (option_call f o) ≡ is_some o
 option_call-live f None = refl
 option_call-live f (Some c) = refl
 
@@ -49,8 +50,8 @@ pub with_call-live : (s : Core) (t : ℕ) (f : LiveCall → LiveCall) → ((c : 
 with_call-live s t f k = λ i u. at u i
   where
     go : (u : ℕ) → ((u == t) ≡ true) ⊎ ((u == t) ≡ false) → live (with_call s t f) u ≡ live s u
-    go u (inl e) = subst (λ (w : ℕ). live (with_call s t f) w ≡ live s w) (sym (same_number u t e)) (ap some_call (change_call-same t f k s.calls) ∙ option_call-live f (call_of s.calls t))
-    go u (inr e) = ap some_call (change_call-other t u f k s.calls (λ x. is_not_true _ e (equal_test u t x)))
+    go u (inl e) = subst (λ (w : ℕ). live (with_call s t f) w ≡ live s w) (sym (same_number u t e)) (ap is_some (change_call-same t f k s.calls) ∙ option_call-live f (call_of s.calls t))
+    go u (inr e) = ap is_some (change_call-other t u f k s.calls (λ x. is_not_true _ e (equal_test u t x)))
 
     at : (u : ℕ) → live (with_call s t f) u ≡ live s u
     at u = go u (true_or_false (u == t))
@@ -69,7 +70,7 @@ with_call-executes s t f k = λ i u. at u i
     at u = go u (true_or_false (u == t))
 
 pub map_call-live : (s : Core) (f : LiveCall → LiveCall) → ((c : LiveCall) → (f c).version ≡ c.version) → live (record s { calls = map f s.calls }) ≡ live s
-map_call-live s f k = λ i u. (ap some_call (map_call-reads f k s.calls u) ∙ option_call-live f (call_of s.calls u)) i
+map_call-live s f k = λ i u. (ap is_some (map_call-reads f k s.calls u) ∙ option_call-live f (call_of s.calls u)) i
 
 pub map_call-executes : (s : Core) (f : LiveCall → LiveCall) → KeepsPhase f → executes (record s { calls = map f s.calls }) ≡ executes s
 map_call-executes s f k = λ i u. (ap (λ (o : Option LiveCall). (call_or o).executing) (map_call-reads f k.version s.calls u) ∙ option_call-executes f k (call_of s.calls u)) i
@@ -87,7 +88,7 @@ pub call_of-append : (cs : List LiveCall) (c : LiveCall) (u : ℕ) → call_of (
 call_of-append [] c u = refl
 call_of-append (x ∷ xs) c u = let r = call_of-append xs c u in grind (arith, r)
 
-pub started-executes : (t : ℕ) (cs : List LiveCall) (u : ℕ) → some_call (call_of cs t) ≡ true → (call_or (call_of (change_call t started cs) u)).executing ≡ ((u == t) || (call_or (call_of cs u)).executing)
+pub started-executes : (t : ℕ) (cs : List LiveCall) (u : ℕ) → is_some (call_of cs t) ≡ true → (call_or (call_of (change_call t started cs) u)).executing ≡ ((u == t) || (call_or (call_of cs u)).executing)
 started-executes t [] u h = absurd (true≢false (sym h))
 started-executes t (c ∷ cs) u h = let r = started-executes t cs u in grind (arith, eqb_tells, r)
 
@@ -96,7 +97,7 @@ pub with_call-field : {A : Type 0} (read : LiveCall → A) (s : Core) (t : ℕ) 
     → read (call (with_call s t f) u) ≡ elim (u == t) as (λ _. A) [ true ↦ read (f (call s t)) | false ↦ read (call s u) ]
 with_call-field {A} read s t f k u lt = go (u == t) refl
   where
-    changed : (o : Option LiveCall) → some_call o ≡ true → call_or (option_call f o) ≡ f (call_or o)
+    changed : (o : Option LiveCall) → is_some o ≡ true → call_or (option_call f o) ≡ f (call_or o)
     changed None h = absurd (true≢false (sym h))
     changed (Some c) h = refl
 

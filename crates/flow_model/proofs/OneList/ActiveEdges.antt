@@ -1,4 +1,4 @@
--- Which out-edges are active for a call that enters a list, or has its Mark raised there.
+-- A call that gets a Frame is before none of the calls whose out-edges are active for it.
 use Rattle.std.proofs.Common.{◌≡◌, ℕ, Bool, true, false, ◌||◌, not, ◌==◌, refl, arith, List, [], ◌∷◌, ◌++◌}
 use Rattle.std.proofs.lemmas.Bool.Decides.{eqb_tells}
 use Rattle.signal_graph.specs.Graph.{Graph}
@@ -6,13 +6,13 @@ use Rattle.node_versions.specs.declared.entry.State.{State}
 use Rattle.node_versions.specs.declared.entry.State.TheVariants.{Frame}
 use Rattle.node_versions.specs.declared.entry.Entry.{Entry}
 use Rattle.node_versions.specs.Entries.{has, behind, up_to, is_active, with_state, front, rest, placed}
-use Rattle.flow_model.specs.State.{Core, live, entries, precedes}
-use Rattle.flow_model.specs.Changes.{stops, stops_call, new_entry}
-use Rattle.flow_model.specs.Lawful.{IsLawful}
-use Rattle.flow_model.proofs.Truths.{not_true, is_not_true}
-use Rattle.flow_model.proofs.Lists.{with_state-has, front-goes, front-has}
-use Rattle.flow_model.proofs.ListFacts.{placed-has}
-use Rattle.flow_model.proofs.FramedWith.{before-not_after}
+use Rattle.flow_model.specs.Machine.State.{Core, live, entries, precedes}
+use Rattle.flow_model.specs.Machine.Changes.{stops, stops_call, new_entry}
+use Rattle.flow_model.specs.Kept.Lawful.{IsLawful}
+use Rattle.flow_model.proofs.General.Truths.{not_true, is_not_true}
+use Rattle.flow_model.proofs.OneList.InOrder.{with_state-has, front-goes, front-has}
+use Rattle.flow_model.proofs.OneList.OneEntryACall.{placed-has}
+use Rattle.flow_model.proofs.Wants.FramedWith.{before-not_after}
 
 pub with_state-up_to : (t : ℕ) (x : State) (es : List Entry) (v u : ℕ) → has (up_to (with_state t x es) v) u ≡ has (up_to es v) u
 with_state-up_to t x [] v u = refl

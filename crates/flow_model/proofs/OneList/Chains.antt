@@ -1,11 +1,11 @@
--- The closure of the recorded pairs.
+-- A chain of recorded pairs that is prolonged is a chain, and a pair more makes no cycle where no chain leads back.
 use Rattle.std.proofs.Common.{◌≡◌, ℕ, true, false, not, ◌&&◌, ◌||◌, ◌==◌, ◌⊎◌, ◌≢◌, inl, inr, refl, arith, List, [], ◌∷◌, subst}
 use Rattle.std.proofs.lemmas.Bool.Decides.{eqb_tells}
 use Rattle.order_graph.specs.declared.pair.Pair.{Pair}
 use Rattle.order_graph.specs.Order.{Precedes, is_recorded, reaches, linked, retired}
 use Rattle.order_graph.specs.Order.Precedes.{by_pair, by_chain}
 use Rattle.order_graph.proofs.Reaching.{decides, reaches-linked, reaches-retired}
-use Rattle.flow_model.proofs.Truths.{not_true, is_not_true}
+use Rattle.flow_model.proofs.General.Truths.{not_true, is_not_true}
 
 pub recorded-reaches : (ps : List Pair) (a b : ℕ) → is_recorded ps a b ≡ true → reaches ps a b ≡ true
 recorded-reaches ps a b h = (decides ps a b).1 (by_pair h)

@@ -1,4 +1,4 @@
--- What lists show after an entry is placed, gets another state, or ended entries are collected.
+-- Which calls a list has after an entry is placed, gets another state, or ended entries are collected, and that each has one entry.
 use Rattle.std.proofs.Common.{◌≡◌, ℕ, suc, ◌+◌, ◌≤◌, Bool, true, false, ◌&&◌, ◌||◌, not, ◌==◌, ◌⊎◌, ◌≢◌, inl, inr, refl, sym, ap, arith, List, [], ◌∷◌, ◌++◌, length, true≢false, ◌∙◌, subst, Option, Some, None}
 use Rattle.std.specs.Prelude.{filter, if◌then◌else◌}
 use Rattle.std.specs.List.{cons_option}
@@ -7,9 +7,9 @@ use Rattle.std.proofs.lemmas.Bool.Decides.{eqb_tells}
 use Rattle.node_versions.specs.declared.entry.State.{State}
 use Rattle.node_versions.specs.declared.entry.Entry.{Entry}
 use Rattle.node_versions.specs.Entries.{IsUnique, behind, is_done, has, at, front, rest, placed, with_state, only_done, last_done, collected}
-use Rattle.flow_model.proofs.Truths.{or_right, same_number, equal_test, not_true, is_not_true, true_or_false}
-use Rattle.flow_model.proofs.Lists.{on_calls, has-append, front-rest, filter-has, with_state-has, last_done-has}
-use Rattle.flow_model.proofs.States.{more-has, more-at, more-at_it}
+use Rattle.flow_model.proofs.General.Truths.{or_right, same_number, equal_test, not_true, is_not_true, true_or_false}
+use Rattle.flow_model.proofs.OneList.InOrder.{on_calls, has-append, front-rest, filter-has, with_state-has, last_done-has}
+use Rattle.flow_model.proofs.OneList.StatesAndPlaces.{more-has, more-at, more-at_it}
 
 -- ---- one entry more
 
@@ -79,7 +79,7 @@ filter-unique p (e ∷ es) q = go (p e.version) (filter-unique p es q.1)
     go true r = (absent, r)
     go false r = r
 
-pub filter-length : (p : Entry → Bool) (es : List Entry) → length (filter p es) ≤ length es
+filter-length : (p : Entry → Bool) (es : List Entry) → length (filter p es) ≤ length es
 filter-length p [] = omega arith
 filter-length p (e ∷ es) = go (p e) (filter-length p es)
   where

@@ -1,4 +1,4 @@
--- The opening state: what its lists and out-edges are.
+-- In the opening state each list has one Done of version 0, and out-edges stand where the start picks are.
 use Rattle.std.proofs.Common.{◌≡◌, ℕ, zero, suc, ◌+◌, ◌<◌, ◌≤◌, Bool, true, false, ◌&&◌, ◌||◌, ◌==◌, ◌⊎◌, inl, inr, refl, sym, ap, arith, List, [], ◌∷◌, map, true≢false, ◌∙◌, subst, Option, Some, None, length, slice_index_or}
 use Rattle.std.specs.Prelude.{filter, slice_get, pos, negsuc}
 use Rattle.std.specs.List.{AllZip, AllByRecursion}
@@ -13,9 +13,9 @@ use Rattle.signal_graph.specs.Values.{Values, select, selected, taken, picks, pi
 use Rattle.node_versions.specs.declared.entry.Entry.{Entry}
 use Rattle.node_versions.specs.declared.entry.State.TheVariants.{Done}
 use Rattle.node_versions.specs.Entries.{OutEdge, AreDifferent, is_frame, is_mark, has, at, behind, first_open, has_out, has_node}
-use Rattle.flow_model.specs.State.{Core, Cell, cell, entries, no_cell, opening, start_cell, start_outs}
-use Rattle.flow_model.specs.Lawful.{IsPickOf, lists_candidate, count_edges}
-use Rattle.flow_model.proofs.Truths.{or_cases, or_left, or_right, and_both, same_number, other_number, not_true, is_not_true, true_or_false}
+use Rattle.flow_model.specs.Machine.State.{Core, Cell, cell, entries, no_cell, opening, start_cell, start_outs}
+use Rattle.flow_model.specs.Kept.Lawful.{IsPickOf, lists_candidate, count_edges}
+use Rattle.flow_model.proofs.General.Truths.{or_cases, or_left, or_right, and_both, same_number, other_number, not_true, is_not_true, true_or_false}
 
 read-from : {A : Type 0} (f : ℕ → A) (d : A) (k : ℕ) (nodes : List Node) (n : ℕ) → n < length nodes → slice_index_or (map f (numbers_from k nodes)) n d ≡ f (k + n)
 read-from f d k [] n h = absurd (omega arith)
@@ -84,7 +84,7 @@ opening-IsStart graph callers limit n = go (opening-cell graph callers limit n)
 
 -- ---- picks
 
-slice_get-is_in : (cs : List ℕ) (i c : ℕ) → slice_get cs i ≡ Some c → is_in c cs ≡ true
+pub slice_get-is_in : (cs : List ℕ) (i c : ℕ) → slice_get cs i ≡ Some c → is_in c cs ≡ true
 slice_get-is_in [] i c h = cc
 slice_get-is_in (x ∷ xs) zero c h = grind (arith, eqb_tells)
 slice_get-is_in (x ∷ xs) (suc i) c h = let r = slice_get-is_in xs i c h in grind (arith, r)

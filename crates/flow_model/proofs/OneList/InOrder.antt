@@ -1,4 +1,4 @@
--- The calls of a list in order, and an entry put into it.
+-- A list of which each call is before those behind it stays so where an entry is put at its place.
 use Rattle.std.proofs.Common.{◌≡◌, ℕ, Bool, true, false, not, ◌||◌, ◌==◌, ◌⊎◌, inl, inr, refl, sym, ap, arith, List, [], ◌∷◌, ◌++◌, true≢false, ◌∙◌, subst, Option, Some, None}
 use Rattle.std.specs.Prelude.{filter, if◌then◌else◌}
 use Rattle.std.specs.List.{cons_option}
@@ -7,8 +7,8 @@ use Rattle.std.proofs.lemmas.Bool.Decides.{eqb_tells}
 use Rattle.node_versions.specs.declared.entry.State.{State}
 use Rattle.node_versions.specs.declared.entry.Entry.{Entry}
 use Rattle.node_versions.specs.Entries.{has, behind, front, rest, placed, with_state, is_done, last_done, only_done, collected}
-use Rattle.flow_model.specs.Changes.{first_version, last_version}
-use Rattle.flow_model.proofs.Truths.{or_cases, or_left, or_right, same_number, equal_test, true_or_false}
+use Rattle.flow_model.specs.Machine.Changes.{first_version, last_version}
+use Rattle.flow_model.proofs.General.Truths.{or_cases, or_left, or_right, same_number, equal_test, true_or_false}
 
 -- a test of calls as a test of entries
 abbrev pub on_calls : (ℕ → Bool) → Entry → Bool
@@ -45,7 +45,7 @@ Ascends-map R S f [] h = tt
 Ascends-map R S f (e ∷ es) h = (λ v k. f e.version v (h.0 v k), Ascends-map R S f es h.1)
 
 -- What is true of two joined lists.
-pub Ascends-left : (R : ℕ → ℕ → Type 0) (xs ys : List Entry) → Ascends R (xs ++ ys) → Ascends R xs
+Ascends-left : (R : ℕ → ℕ → Type 0) (xs ys : List Entry) → Ascends R (xs ++ ys) → Ascends R xs
 Ascends-left R [] ys h = tt
 Ascends-left R (e ∷ es) ys h = (λ v k. h.0 v (has-append es ys v ∙ or_left _ _ k), Ascends-left R es ys h.1)
 
@@ -62,7 +62,7 @@ Ascends-across R (e ∷ es) ys u v h k l = go (or_cases _ _ k) (λ x. Ascends-ac
     go (inr x) further = further x
 
 -- An entry between two parts.
-pub Ascends-put : (R : ℕ → ℕ → Type 0) (e : Entry) (xs ys : List Entry) → Ascends R (xs ++ ys) → Each (λ u. R u e.version) xs → Each (R e.version) ys → Ascends R (xs ++ e ∷ ys)
+Ascends-put : (R : ℕ → ℕ → Type 0) (e : Entry) (xs ys : List Entry) → Ascends R (xs ++ ys) → Each (λ u. R u e.version) xs → Each (R e.version) ys → Ascends R (xs ++ e ∷ ys)
 Ascends-put R e [] ys h f b = (b, h)
 Ascends-put R e (x ∷ xs) ys h f b = (λ v k. go v (or_cases _ _ (sym (has-append xs (e ∷ ys) v) ∙ k)), Ascends-put R e xs ys h.1 (λ u k. f u (or_right _ _ k)) b)
   where
@@ -78,7 +78,7 @@ Ascends-put R e (x ∷ xs) ys h f b = (λ v k. go v (or_cases _ _ (sym (has-appe
 abbrev pub IsTransitive : (ℕ → ℕ → Type 0) → Type 0
 IsTransitive R = (u v w : ℕ) → R u v → R v w → R u w
 
-pub Each-rest : (R : ℕ → ℕ → Type 0) → IsTransitive R → (t : ℕ) (ys : List Entry) → Ascends R ys → ((v : ℕ) → first_version ys ≡ Some v → R t v) → Each (R t) ys
+Each-rest : (R : ℕ → ℕ → Type 0) → IsTransitive R → (t : ℕ) (ys : List Entry) → Ascends R ys → ((v : ℕ) → first_version ys ≡ Some v → R t v) → Each (R t) ys
 Each-rest R trans t [] h n u k = absurd (true≢false (sym k))
 Each-rest R trans t (e ∷ es) h n u k = go (or_cases _ _ k)
   where
@@ -90,7 +90,7 @@ Each-from : (R : ℕ → ℕ → Type 0) → IsTransitive R → (t : ℕ) (e : E
 Each-from R trans t e [] h n = n e.version refl
 Each-from R trans t e (x ∷ xs) h n = trans e.version x.version t (h.0 x.version (or_left _ _ (equal_test x.version x.version refl))) (Each-from R trans t x xs h.1 n)
 
-pub Each-front : (R : ℕ → ℕ → Type 0) → IsTransitive R → (t : ℕ) (xs : List Entry) (seen : Option ℕ) → Ascends R xs → ((v : ℕ) → last_version seen xs ≡ Some v → R v t) → Each (λ u. R u t) xs
+Each-front : (R : ℕ → ℕ → Type 0) → IsTransitive R → (t : ℕ) (xs : List Entry) (seen : Option ℕ) → Ascends R xs → ((v : ℕ) → last_version seen xs ≡ Some v → R v t) → Each (λ u. R u t) xs
 Each-front R trans t [] seen h n u k = absurd (true≢false (sym k))
 Each-front R trans t (e ∷ es) seen h n u k = go (or_cases _ _ k) (Each-front R trans t es (Some e.version) h.1 n u)
   where
@@ -159,7 +159,7 @@ pub filter-has : (test : ℕ → Bool) (es : List Entry) (u : ℕ) → has (filt
 filter-has test [] u h = absurd (true≢false (sym h))
 filter-has test (e ∷ es) u h = let r = filter-has test es u in grind (arith, eqb_tells, r)
 
-pub filter-Ascends : (R : ℕ → ℕ → Type 0) (test : ℕ → Bool) (es : List Entry) → Ascends R es → Ascends R (filter (on_calls test) es)
+filter-Ascends : (R : ℕ → ℕ → Type 0) (test : ℕ → Bool) (es : List Entry) → Ascends R es → Ascends R (filter (on_calls test) es)
 filter-Ascends R test [] h = h
 filter-Ascends R test (e ∷ es) h = go (test e.version) (filter-Ascends R test es h.1)
   where

@@ -1,12 +1,13 @@
--- How many different numbers a list can have.
+-- Different numbers of a range are no more than the range has, so that a slot is free or all are used.
 use Rattle.std.proofs.Common.{◌≡◌, ℕ, zero, suc, ◌+◌, ◌<◌, ◌≤◌, Bool, true, false, ◌||◌, ◌==◌, ◌⊎◌, ◌≢◌, inl, inr, refl, sym, ap, arith, List, [], ◌∷◌, length, map, true≢false, ◌∙◌, subst, Option, Some}
+use Rattle.std.specs.Prelude.{is_some}
 use Rattle.std.specs.List.{list_any}
 use Rattle.signal_graph.specs.Graph.{is_in}
-use Rattle.flow_model.specs.State.{LiveCall, call_of, call_or, some_call}
-use Rattle.flow_model.specs.Steps.{uses_slot, free_slot}
-use Rattle.flow_model.specs.Lawful.{times, AreDistinct}
-use Rattle.flow_model.proofs.Truths.{or_left, or_right, same_number, equal_test, other_number, not_true, is_not_true, true_or_false}
-use Rattle.flow_model.proofs.Versions.{live-in, tail-distinct, head-distinct, in-times}
+use Rattle.flow_model.specs.Machine.State.{LiveCall, call_of, call_or}
+use Rattle.flow_model.specs.Machine.Steps.{uses_slot, free_slot}
+use Rattle.flow_model.specs.Kept.Lawful.{times, AreDistinct}
+use Rattle.flow_model.proofs.General.Truths.{or_left, or_right, same_number, equal_test, other_number, not_true, is_not_true, true_or_false}
+use Rattle.flow_model.proofs.OneStep.VersionsStayFresh.{live-in, tail-distinct, head-distinct, in-times}
 
 -- how often the numbers from one on stand in a list, k of them
 abbrev pub total : List ℕ → ℕ → ℕ → ℕ
@@ -89,10 +90,10 @@ total-missing xs from (suc k) c d a b z = go (true_or_false (c == from)) (λ (p 
 -- a call of the list with this value of the field
 pub record Holder (f : LiveCall → ℕ) (cs : List LiveCall) (x : ℕ) : Type 0 where
   pub version : ℕ
-  pub known : some_call (call_of cs version) ≡ true
+  pub known : is_some (call_of cs version) ≡ true
   pub value : f (call_or (call_of cs version)) ≡ x
 
-pub read-tail : (c : LiveCall) (cs : List LiveCall) (v : ℕ) → AreDistinct (map (λ (c : LiveCall). c.version) (c ∷ cs)) → some_call (call_of cs v) ≡ true → call_of (c ∷ cs) v ≡ call_of cs v
+pub read-tail : (c : LiveCall) (cs : List LiveCall) (v : ℕ) → AreDistinct (map (λ (c : LiveCall). c.version) (c ∷ cs)) → is_some (call_of cs v) ≡ true → call_of (c ∷ cs) v ≡ call_of cs v
 read-tail c cs v d k =
     let n = head-distinct c.version (map (λ (c : LiveCall). c.version) cs) d in
     let i = live-in cs v k in
@@ -107,22 +108,22 @@ holder f (c ∷ cs) x d h = go (true_or_false (f c == x)) (holder f cs x (tail-d
     go (inl e) further =
         let w = equal_test c.version c.version refl in
         let r : call_of (c ∷ cs) c.version ≡ Some c = rw (w, call_of) refl in
-        record { version = c.version; known = ap some_call r; value = ap (λ (o : Option LiveCall). f (call_or o)) r ∙ same_number (f c) x e }
+        record { version = c.version; known = ap is_some r; value = ap (λ (o : Option LiveCall). f (call_or o)) r ∙ same_number (f c) x e }
     go (inr e) further =
         let p = further (subst (λ (b : Bool). (b || is_in x (map f cs)) ≡ true) e h) in
         let r = read-tail c cs p.version d p.known in
-        record { version = p.version; known = ap some_call r ∙ p.known; value = ap (λ (o : Option LiveCall). f (call_or o)) r ∙ p.value }
+        record { version = p.version; known = ap is_some r ∙ p.known; value = ap (λ (o : Option LiveCall). f (call_or o)) r ∙ p.value }
 
 pub field-distinct : (f : LiveCall → ℕ) (cs : List LiveCall) → AreDistinct (map (λ (c : LiveCall). c.version) cs)
-    → ((u v : ℕ) → some_call (call_of cs u) ≡ true → some_call (call_of cs v) ≡ true → f (call_or (call_of cs u)) ≡ f (call_or (call_of cs v)) → u ≡ v) → AreDistinct (map f cs)
+    → ((u v : ℕ) → is_some (call_of cs u) ≡ true → is_some (call_of cs v) ≡ true → f (call_or (call_of cs u)) ≡ f (call_or (call_of cs v)) → u ≡ v) → AreDistinct (map f cs)
 field-distinct f [] d h x = omega arith
 field-distinct f (c ∷ cs) d h x = go (true_or_false (f c == x)) (field-distinct f cs (tail-distinct c.version (map (λ (c : LiveCall). c.version) cs) d) apart x)
   where
-    apart : (u v : ℕ) → some_call (call_of cs u) ≡ true → some_call (call_of cs v) ≡ true → f (call_or (call_of cs u)) ≡ f (call_or (call_of cs v)) → u ≡ v
+    apart : (u v : ℕ) → is_some (call_of cs u) ≡ true → is_some (call_of cs v) ≡ true → f (call_or (call_of cs u)) ≡ f (call_or (call_of cs v)) → u ≡ v
     apart u v k l e =
         let a = read-tail c cs u d k in
         let b = read-tail c cs v d l in
-        h u v (ap some_call a ∙ k) (ap some_call b ∙ l) (ap (λ (o : Option LiveCall). f (call_or o)) a ∙ e ∙ sym (ap (λ (o : Option LiveCall). f (call_or o)) b))
+        h u v (ap is_some a ∙ k) (ap is_some b ∙ l) (ap (λ (o : Option LiveCall). f (call_or o)) a ∙ e ∙ sym (ap (λ (o : Option LiveCall). f (call_or o)) b))
 
     none : f c ≡ x → is_in x (map f cs) ≡ true → ⊥
     none e i =
@@ -130,7 +131,7 @@ field-distinct f (c ∷ cs) d h x = go (true_or_false (f c == x)) (field-distinc
         let w = equal_test c.version c.version refl in
         let r : call_of (c ∷ cs) c.version ≡ Some c = rw (w, call_of) refl in
         let q = read-tail c cs p.version d p.known in
-        let same : c.version ≡ p.version = h c.version p.version (ap some_call r) (ap some_call q ∙ p.known) (ap (λ (o : Option LiveCall). f (call_or o)) r ∙ e ∙ sym (ap (λ (o : Option LiveCall). f (call_or o)) q ∙ p.value)) in
+        let same : c.version ≡ p.version = h c.version p.version (ap is_some r) (ap is_some q ∙ p.known) (ap (λ (o : Option LiveCall). f (call_or o)) r ∙ e ∙ sym (ap (λ (o : Option LiveCall). f (call_or o)) q ∙ p.value)) in
         is_not_true _ (head-distinct c.version (map (λ (c : LiveCall). c.version) cs) d) (subst (λ (v : ℕ). is_in v (map (λ (c : LiveCall). c.version) cs) ≡ true) (sym same) (live-in cs p.version p.known))
 
     zero_times : (n : ℕ) → (1 ≤ n → ⊥) → n ≡ 0

@@ -1,11 +1,11 @@
--- The test of the order.
+-- The test of the order tells whether one call is before another.
 use Rattle.std.proofs.Common.{◌≡◌, ℕ, ◌⊎◌, inl, inr, Bool, true, false, not, ◌&&◌, arith}
 use Rattle.std.specs.Prelude.{IsTrue, ◌↔◌}
 use Rattle.std.proofs.lemmas.Bool.{or_cases, or_left, or_right}
 use Rattle.order_graph.specs.Order.{reaches}
 use Rattle.order_graph.proofs.Reaching.{decides}
-use Rattle.flow_model.specs.State.{Core, live, precedes}
-use Rattle.flow_model.specs.Order.{IsBefore, by_pairs, has_ended}
+use Rattle.flow_model.specs.Machine.State.{Core, live, precedes}
+use Rattle.flow_model.specs.Machine.Order.{IsBefore, by_pairs, has_ended}
 
 ended_and_live : (a b : Bool) → (not a && b) ≡ true → (a ≡ false) × (b ≡ true)
 ended_and_live a b h = (grind arith, grind arith)

@@ -1,4 +1,4 @@
--- A call enters a list: the order has no cycle, no framing call comes before an executing one, and the lists ascend.
+-- Where a call enters a list, the order has no cycle, no framing call comes before an executing one, and each list stands in order.
 use Rattle.std.proofs.Common.{◌≡◌, ℕ, zero, suc, Bool, true, false, ◌&&◌, ◌||◌, not, ◌⊎◌, ◌≢◌, inl, inr, refl, sym, ap, arith, List, [], ◌∷◌, ◌∙◌, subst, Option, Some, None, slice_index_or}
 use Rattle.std.proofs.lemmas.Bool.Decides.{eqb_tells}
 use Rattle.order_graph.specs.declared.pair.Pair.{Pair}
@@ -6,11 +6,12 @@ use Rattle.order_graph.specs.Order.{reaches, linked}
 use Rattle.node_versions.specs.declared.entry.State.{State}
 use Rattle.node_versions.specs.declared.entry.Entry.{Entry}
 use Rattle.node_versions.specs.Entries.{has, front, rest, placed}
-use Rattle.flow_model.specs.State.{Core, Cell, cell, no_cell, live, executes, frames, entries, with_cell, change_cell}
-use Rattle.flow_model.specs.Changes.{stops, stops_call, first_version, last_version, link_left, link_right, linked_at, new_entry, place_entry, enter}
-use Rattle.flow_model.proofs.Truths.{is_not_true}
-use Rattle.flow_model.proofs.OrderLemmas.{reaches-link, reaches-trans, link-no_cycle}
-use Rattle.flow_model.proofs.Lists.{Ascends, Ascends-map, Ascends-across, placed-Ascends, IsTransitive, front-goes, rest-stops, front-rest, front-has, rest-has, last-has, first-has}
+use Rattle.flow_model.specs.Machine.Lists.{change_at}
+use Rattle.flow_model.specs.Machine.State.{Core, Cell, cell, no_cell, live, executes, is_framing, entries, with_cell}
+use Rattle.flow_model.specs.Machine.Changes.{stops, stops_call, first_version, last_version, link_left, link_right, linked_at, new_entry, place_entry, enter}
+use Rattle.flow_model.proofs.General.Truths.{is_not_true}
+use Rattle.flow_model.proofs.OneList.Chains.{reaches-link, reaches-trans, link-no_cycle}
+use Rattle.flow_model.proofs.OneList.InOrder.{Ascends, Ascends-map, Ascends-across, placed-Ascends, IsTransitive, front-goes, rest-stops, front-rest, front-has, rest-has, last-has, first-has}
 
 -- The recorded order, where f and x are the tests for framing and executing calls.
 pub record Apart (ps : List Pair) (f x : ℕ → Bool) : Type 0 where
@@ -30,7 +31,7 @@ link-apart ps f x a b n h oa ob fits u v fu xv =
     let h3 = λ (y : f b ≡ true). h.apart b v y xv in
     grind (arith, eqb_tells, e, h1, h2, h3)
 
-pub link-Apart : (ps : List Pair) (f x : ℕ → Bool) (a b n : ℕ) → Apart ps f x → IsOneOf f x a → IsOneOf f x b → (f a && x b) ≡ false
+link-Apart : (ps : List Pair) (f x : ℕ → Bool) (a b n : ℕ) → Apart ps f x → IsOneOf f x a → IsOneOf f x b → (f a && x b) ≡ false
     → a ≢ b → reaches ps b a ≡ false → Apart (linked ps a b n) f x
 link-Apart ps f x a b n h oa ob fits ne away = record { no_cycle = link-no_cycle ps a b n h.no_cycle ne away; apart = link-apart ps f x a b n h oa ob fits }
 
@@ -57,8 +58,8 @@ pub record Stands (ps : List Pair) (lives runs : ℕ → Bool) (lists_of : ℕ �
 abbrev pub Standing : Core → (ℕ → ℕ → Bool) → Type 0
 Standing s old = Stands s.pairs (live s) (executes s) (entries s) old
 
-frames-live : (s : Core) (u : ℕ) → live s u ≡ true → IsOneOf (frames s) (executes s) u
-frames-live s u h = record { one = grind arith; not_both = grind arith }
+is_framing-live : (s : Core) (u : ℕ) → live s u ≡ true → IsOneOf (is_framing s) (executes s) u
+is_framing-live s u h = record { one = grind arith; not_both = grind arith }
 
 Comes-trans : (s : Core) (old : ℕ → ℕ → Bool) → ((u v : ℕ) → reaches s.pairs u v ≡ true → (live s u && live s v) ≡ true) → IsTransitive (λ u v. old u v ≡ true) → IsTransitive (Comes s old)
 Comes-trans s old pl ot u v w h k =
@@ -80,11 +81,11 @@ pub record Neighbours (s : Core) (old : ℕ → ℕ → Bool) (t : ℕ) (l r : O
   pub right_stops : (v : ℕ) → r ≡ Some v → (v ≢ t) × (stops_call s t v ≡ true)
   pub across : (u v : ℕ) → l ≡ Some u → r ≡ Some v → Comes s old u v
 
-left-Apart : (s : Core) (old : ℕ → ℕ → Bool) (t m : ℕ) (l r : Option ℕ) → Standing s old → live s t ≡ true → Neighbours s old t l r → Apart (link_left s t m l s.pairs) (frames s) (executes s)
+left-Apart : (s : Core) (old : ℕ → ℕ → Bool) (t m : ℕ) (l r : Option ℕ) → Standing s old → live s t ≡ true → Neighbours s old t l r → Apart (link_left s t m l s.pairs) (is_framing s) (executes s)
 left-Apart s old t m None r h lt q = h.order
 left-Apart s old t m (Some u) r h lt q = if-Apart (live s u) _ _ _ _
     (λ lu. let g = q.left_goes u refl in
-    link-Apart s.pairs (frames s) (executes s) u t m h.order (frames-live s u lu) (frames-live s t lt) (grind arith) g.0 (grind arith))
+    link-Apart s.pairs (is_framing s) (executes s) u t m h.order (is_framing-live s u lu) (is_framing-live s t lt) (grind arith) g.0 (grind arith))
     (λ _. h.order)
 
 -- No chain leads from the right neighbour to t.
@@ -106,12 +107,12 @@ right-away s old t m (Some u) v h lt q =
     let cu = h.order.no_cycle u in
     grind (arith, eqb_tells, c, a, tr, e, x, tu, cu)
 
-entered-Apart : (s : Core) (old : ℕ → ℕ → Bool) (t m : ℕ) (l r : Option ℕ) → Standing s old → live s t ≡ true → Neighbours s old t l r → Apart (link_right s t m r (link_left s t m l s.pairs)) (frames s) (executes s)
+entered-Apart : (s : Core) (old : ℕ → ℕ → Bool) (t m : ℕ) (l r : Option ℕ) → Standing s old → live s t ≡ true → Neighbours s old t l r → Apart (link_right s t m r (link_left s t m l s.pairs)) (is_framing s) (executes s)
 entered-Apart s old t m l None h lt q = left-Apart s old t m l None h lt q
 entered-Apart s old t m l (Some v) h lt q = if-Apart (live s v) _ _ _ _
     (λ lv. let g = q.right_stops v refl in
     let a = h.order.apart t v in
-    link-Apart (link_left s t m l s.pairs) (frames s) (executes s) t v m (left-Apart s old t m l (Some v) h lt q) (frames-live s t lt) (frames-live s v lv) (grind arith) (λ e. g.0 (sym e)) (right-away s old t m l v h lt q))
+    link-Apart (link_left s t m l s.pairs) (is_framing s) (executes s) t v m (left-Apart s old t m l (Some v) h lt q) (is_framing-live s t lt) (is_framing-live s v lv) (grind arith) (λ e. g.0 (sym e)) (right-away s old t m l v h lt q))
     (λ _. left-Apart s old t m l (Some v) h lt q)
 
 -- ---- What entering adds to the order
@@ -168,21 +169,21 @@ neighbours s old t m h lt no_entry =
 
 -- A cell after a change of one: the same, or the change of it.
 abbrev OneChange : ℕ → (Cell → Cell) → List Cell → ℕ → Type 0
-OneChange n f cs m = (slice_index_or (change_cell n f cs) m no_cell ≡ slice_index_or cs m no_cell) ⊎ ((m ≡ n) × (slice_index_or (change_cell n f cs) m no_cell ≡ f (slice_index_or cs m no_cell)))
+OneChange n f cs m = (slice_index_or (change_at n f cs) m no_cell ≡ slice_index_or cs m no_cell) ⊎ ((m ≡ n) × (slice_index_or (change_at n f cs) m no_cell ≡ f (slice_index_or cs m no_cell)))
 
 one_more : (n : ℕ) (f : Cell → Cell) (c : Cell) (cs : List Cell) (m : ℕ) → OneChange n f cs m → OneChange (suc n) f (c ∷ cs) (suc m)
 one_more n f c cs m (inl x) = inl x
 one_more n f c cs m (inr x) = inr (ap suc x.0, x.1)
 
-change_cell-reads : (n : ℕ) (f : Cell → Cell) (cs : List Cell) (m : ℕ) → OneChange n f cs m
-change_cell-reads n f [] m = inl refl
-change_cell-reads zero f (c ∷ cs) zero = inr (refl, refl)
-change_cell-reads zero f (c ∷ cs) (suc m) = inl refl
-change_cell-reads (suc n) f (c ∷ cs) zero = inl refl
-change_cell-reads (suc n) f (c ∷ cs) (suc m) = one_more n f c cs m (change_cell-reads n f cs m)
+change_at-reads : (n : ℕ) (f : Cell → Cell) (cs : List Cell) (m : ℕ) → OneChange n f cs m
+change_at-reads n f [] m = inl refl
+change_at-reads zero f (c ∷ cs) zero = inr (refl, refl)
+change_at-reads zero f (c ∷ cs) (suc m) = inl refl
+change_at-reads (suc n) f (c ∷ cs) zero = inl refl
+change_at-reads (suc n) f (c ∷ cs) (suc m) = one_more n f c cs m (change_at-reads n f cs m)
 
 pub with_cell-cell : (s : Core) (n : ℕ) (f : Cell → Cell) (m : ℕ) → (cell (with_cell s n f) m ≡ cell s m) ⊎ ((m ≡ n) × (cell (with_cell s n f) m ≡ f (cell s m)))
-with_cell-cell s n f m = change_cell-reads n f s.cells m
+with_cell-cell s n f m = change_at-reads n f s.cells m
 
 -- A list after a change of one cell.
 pub with_cell-entries : (s : Core) (n : ℕ) (f : Cell → Cell) (g : List Entry → List Entry) → ((c : Cell) → (f c).entries ≡ g c.entries) → (m : ℕ)

@@ -1,4 +1,4 @@
--- Which s an entry has, and what stands behind it, after a change of a list.
+-- Which state an entry has and what stands behind it, after an entry comes, gets another state, or lists are joined.
 use Rattle.std.proofs.Common.{◌≡◌, ℕ, Bool, true, false, ◌&&◌, ◌||◌, ◌==◌, ◌≢◌, refl, sym, arith, List, [], ◌∷◌, ◌++◌, true≢false, Some, Option}
 use Rattle.script_tree.specs.declared.value.Value.{Value}
 use Rattle.std.proofs.lemmas.Bool.Decides.{eqb_tells}
@@ -6,7 +6,7 @@ use Rattle.node_versions.specs.declared.entry.State.{State}
 use Rattle.node_versions.specs.declared.entry.State.TheVariants as state
 use Rattle.node_versions.specs.declared.entry.Entry.{Entry}
 use Rattle.node_versions.specs.Entries.{IsUnique, has, at, behind, with_state, is_frame, is_done, first_open}
-use Rattle.flow_model.proofs.Lists.{has-append, with_state-has}
+use Rattle.flow_model.proofs.OneList.InOrder.{has-append, with_state-has}
 
 -- ---- Another mode
 
@@ -24,7 +24,7 @@ pub at-append : (test : State → Bool) (xs ys : List Entry) (u : ℕ) → at te
 at-append test [] ys u = refl
 at-append test (e ∷ es) ys u = let r = at-append test es ys u in grind (arith, eqb_tells, r)
 
-pub behind-append : (xs ys : List Entry) (u v : ℕ) → behind (xs ++ ys) u v ≡ elim (has xs u) as (λ _. Bool) [ true ↦ behind xs u v || has ys v | false ↦ behind ys u v ]
+behind-append : (xs ys : List Entry) (u v : ℕ) → behind (xs ++ ys) u v ≡ elim (has xs u) as (λ _. Bool) [ true ↦ behind xs u v || has ys v | false ↦ behind ys u v ]
 behind-append [] ys u v = refl
 behind-append (e ∷ es) ys u v = let r = behind-append es ys u v in let h = has-append es ys v in grind (arith, eqb_tells, r, h)
 
@@ -45,10 +45,6 @@ behind-total (e ∷ es) u v h k ne = let r = behind-total es u v in grind (arith
 pub behind-trans : (es : List Entry) (u v w : ℕ) → IsUnique es → behind es u v ≡ true → behind es v w ≡ true → behind es u w ≡ true
 behind-trans [] u v w q h k = h
 behind-trans (e ∷ es) u v w q h k = let r = behind-trans es u v w q.1 in let b = behind-has es u v in let c = behind-has es v w in grind (arith, eqb_tells, r, b, c)
-
-pub behind-not_both : (es : List Entry) (u v : ℕ) → IsUnique es → behind es u v ≡ true → behind es v u ≡ false
-behind-not_both [] u v q h = refl
-behind-not_both (e ∷ es) u v q h = let r = behind-not_both es u v q.1 in let b = behind-has es u v in let c = behind-has es v u in grind (arith, eqb_tells, r, b, c)
 
 -- ---- No Done behind a Frame
 

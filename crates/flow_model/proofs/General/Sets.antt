@@ -1,11 +1,11 @@
--- Membership in sets of nodes.
+-- A set with a node put in or taken out has the other members that it had, and is a set still.
 use Rattle.std.proofs.Common.{◌≡◌, ℕ, Bool, true, false, ◌&&◌, ◌||◌, not, ◌==◌, arith, List, [], ◌∷◌, refl, ap, ◌<◌, ◌≢◌}
 use Rattle.std.specs.Prelude.{nat_lt}
 use Rattle.std.specs.List.{AllByRecursion}
 use Rattle.std.proofs.lemmas.Bool.Decides.{eqb_tells}
 use Rattle.signal_graph.specs.Graph.{is_in}
-use Rattle.flow_model.specs.Sets.{put, take_out, put_all, without, IsSet}
-use Rattle.flow_model.proofs.Truths.{same_number, other_number}
+use Rattle.flow_model.specs.Machine.Sets.{put, take_out, put_all, without, IsSet}
+use Rattle.flow_model.proofs.General.Truths.{same_number, other_number}
 
 pub in-put : (m n : ℕ) (xs : List ℕ) → is_in m (put n xs) ≡ ((m == n) || is_in m xs)
 in-put m n [] = grind (arith, eqb_tells)

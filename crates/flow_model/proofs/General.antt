@@ -1,0 +1,7 @@
+-- Numbers, lists and sets.
+pub mod Truths
+pub mod AnyAndAll
+pub mod Counting
+pub mod Sets
+pub mod Pigeons
+pub mod Sums

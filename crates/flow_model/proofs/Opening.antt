@@ -1,0 +1,3 @@
+-- The opening state.
+pub mod OpeningLists
+pub mod OpeningIsLawful
