@@ -1,4 +1,4 @@
--- Each step keeps the sets of a call sets.
+-- Each step and each beginning keep what a call wants, has open and has changed ascending lists with no node twice.
 use Rattle.std.proofs.Common.{◌≡◌, ℕ, suc, Bool, true, false, ◌==◌, ◌⊎◌, inl, inr, refl, sym, List, [], subst, Option, Some, None}
 use Rattle.signal_graph.specs.declared.call.Call.{Call}
 use Rattle.signal_graph.specs.Graph.{Graph}
@@ -7,16 +7,16 @@ use Rattle.node_versions.specs.declared.entry.State.TheVariants.{Mark, Frame, Do
 use Rattle.node_versions.specs.Entries.{has, at, is_mark, value_before, picks_before}
 use Rattle.flow_model.specs.declared.step.Step.{Step}
 use Rattle.flow_model.specs.declared.step.Step.TheVariants as steps
-use Rattle.flow_model.specs.Sets.{IsSet, put, take_out, without}
-use Rattle.flow_model.specs.State.{Core, LiveCall, call, call_of, call_or, no_call, entries, with_cell, with_call}
-use Rattle.flow_model.specs.Words.{active_outs, found_now, value_now, found_picks, next_look}
-use Rattle.flow_model.specs.Changes.{enter, raise, ensure_mark, set_state, opened, closed, tell_call, is_told, add_edge}
-use Rattle.flow_model.specs.Steps.{apply, begin, new_call, open_node, frame, started, counted, with_look, is_change, keep_found, look_value, nodes_set, sets_in, without_call}
-use Rattle.flow_model.specs.Lawful.{IsLawful, SetsAreSets}
-use Rattle.flow_model.proofs.Truths.{same_number, equal_test, is_not_true, true_or_false}
-use Rattle.flow_model.proofs.Sets.{put-IsSet, take_out-IsSet, put_all-IsSet}
-use Rattle.flow_model.proofs.Readers.{change_call-same, change_call-other, map_call-reads, option_call, without_call-other, without_call-same}
-use Rattle.flow_model.proofs.Beginnings.{begin-call}
+use Rattle.flow_model.specs.Machine.Sets.{IsSet, put, take_out, without}
+use Rattle.flow_model.specs.Machine.State.{Core, LiveCall, call, call_of, call_or, no_call, entries, with_cell, with_call}
+use Rattle.flow_model.specs.Machine.Words.{active_outs, found_now, value_now, found_picks, next_look}
+use Rattle.flow_model.specs.Machine.Changes.{enter, raise, ensure_mark, set_state, opened, closed, tell_call, is_told, add_edge}
+use Rattle.flow_model.specs.Machine.Steps.{apply, begin, new_call, open_node, frame, started, counted, with_look, is_change, keep_found, look_value, nodes_set, sets_in, without_call}
+use Rattle.flow_model.specs.Kept.Lawful.{IsLawful, SetsAreSets}
+use Rattle.flow_model.proofs.General.Truths.{same_number, equal_test, is_not_true, true_or_false}
+use Rattle.flow_model.proofs.General.Sets.{put-IsSet, take_out-IsSet, put_all-IsSet}
+use Rattle.flow_model.proofs.OneList.CallsAndCells.{change_call-same, change_call-other, map_call-reads, option_call, without_call-other, without_call-same}
+use Rattle.flow_model.proofs.OneStep.BegunCalls.{begin-call}
 
 pub record HasSets (c : LiveCall) : Type 0 where
   pub wanted : IsSet c.wanted

@@ -1,21 +1,20 @@
 -- Each step keeps the versions apart, the lists as many as the nodes, and each list within its room.
 use Rattle.std.proofs.Common.{◌≡◌, ℕ, ◌+◌, ◌≤◌, Bool, true, false, refl, sym, length, ◌∙◌, subst}
-use Rattle.signal_graph.specs.declared.call.Call.{Call}
 use Rattle.signal_graph.specs.Graph.{Graph}
 use Rattle.node_versions.specs.declared.entry.State.TheVariants.{Mark, Frame}
 use Rattle.node_versions.specs.Entries.{has, at, is_mark}
 use Rattle.flow_model.specs.declared.step.Step.{Step}
 use Rattle.flow_model.specs.declared.step.Step.TheVariants as steps
-use Rattle.flow_model.specs.State.{Core, LiveCall, entries, with_cell, with_call}
-use Rattle.flow_model.specs.Changes.{enter, raise, ensure_mark, opened, closed, tell_call, add_edge}
-use Rattle.flow_model.specs.Words.{active_outs}
-use Rattle.flow_model.specs.Steps.{allowed, apply, begin, open_node, frame, started, counted, is_change}
-use Rattle.flow_model.specs.Lawful.{IsLawful, VersionsAreFresh}
-use Rattle.flow_model.proofs.Allowed.{executes-live, idle-executes, end-idle}
-use Rattle.flow_model.proofs.PartsOfSteps.{step-parts}
-use Rattle.flow_model.proofs.ListSteps.{step-list}
-use Rattle.flow_model.proofs.ListsOfSteps.{list-room}
-use Rattle.flow_model.proofs.Versions.{SameCalls, same-VersionsAreFresh, change_call-versions, map-versions, begin-VersionsAreFresh, end-VersionsAreFresh}
+use Rattle.flow_model.specs.Machine.State.{Core, LiveCall, entries, with_cell, with_call}
+use Rattle.flow_model.specs.Machine.Changes.{enter, raise, ensure_mark, opened, closed, tell_call, add_edge}
+use Rattle.flow_model.specs.Machine.Words.{active_outs}
+use Rattle.flow_model.specs.Machine.Steps.{allowed, apply, open_node, frame, started, counted, is_change}
+use Rattle.flow_model.specs.Kept.Lawful.{IsLawful, VersionsAreFresh}
+use Rattle.flow_model.proofs.OneStep.WhoMayStep.{executes-live, idle-executes, end-idle}
+use Rattle.flow_model.proofs.OneStep.SameLengths.{step-parts}
+use Rattle.flow_model.proofs.OneStep.ChangesOfOneList.{step-list}
+use Rattle.flow_model.proofs.OrderStays.EntriesAndRoom.{list-room}
+use Rattle.flow_model.proofs.OneStep.VersionsStayFresh.{SameCalls, same-VersionsAreFresh, change_call-versions, map-versions, end-VersionsAreFresh}
 
 changed_call : (s : Core) (q : Core) (t : ℕ) (f : LiveCall → LiveCall) → ((c : LiveCall) → (f c).version ≡ c.version) → SameCalls s q → SameCalls s (with_call q t f)
 changed_call s q t f k h = record { calls = change_call-versions t f k q.calls ∙ h.calls; log = h.log; begun = h.begun }
@@ -54,9 +53,6 @@ step-VersionsAreFresh graph s (steps.Mark t m) h a = same-VersionsAreFresh s (ap
 step-VersionsAreFresh graph s (steps.Look t) h a = same-VersionsAreFresh s (apply graph s (steps.Look t)) (changed_call s s t _ (λ c. refl) (same s)) h.versions_are_fresh
 step-VersionsAreFresh graph s (steps.End t) h a = end-VersionsAreFresh s (apply graph s (steps.End t)) t (refl, refl, refl) h.versions_are_fresh (executes-live s t (idle-executes s t (end-idle graph s t a)))
 step-VersionsAreFresh graph s (steps.Collect n) h a = same-VersionsAreFresh s (apply graph s (steps.Collect n)) (record { calls = refl; log = refl; begun = refl }) h.versions_are_fresh
-
-pub begins-VersionsAreFresh : (graph : Graph) (s : Core) (caller : ℕ) (c : Call) → IsLawful graph s → VersionsAreFresh (begin graph s caller c)
-begins-VersionsAreFresh graph s caller c h = begin-VersionsAreFresh graph s caller c h.versions_are_fresh
 
 pub step-lists : (graph : Graph) (s : Core) (step : Step) → IsLawful graph s → length (apply graph s step).cells ≡ length graph.nodes
 step-lists graph s step h = (step-parts graph s step).cells ∙ h.lists

@@ -1,5 +1,6 @@
--- The order, the phases and the lists stand after each change that a step makes.
+-- Each change of which steps are made keeps the order: no cycle, phases apart, lists in order.
 use Rattle.std.proofs.Common.{◌≡◌, ℕ, suc, Bool, true, false, ◌&&◌, ◌||◌, not, ◌==◌, ◌⊎◌, ◌≢◌, inl, inr, refl, sym, ap, arith, List, true≢false, ◌∙◌, subst, Option, Some, None, map}
+use Rattle.std.specs.Prelude.{is_some}
 use Rattle.std.proofs.lemmas.Bool.Decides.{eqb_tells}
 use Rattle.script_tree.specs.declared.value.Value.{Value}
 use Rattle.signal_graph.specs.declared.call.Call.{Call}
@@ -11,14 +12,14 @@ use Rattle.node_versions.specs.declared.entry.State.TheVariants.{Mark, Frame, Do
 use Rattle.node_versions.specs.declared.entry.Entry.{Entry}
 use Rattle.node_versions.specs.Entries.{has, at, is_mark, with_state, collected}
 use Rattle.flow_model.specs.declared.step.Step.TheVariants.{End}
-use Rattle.flow_model.specs.State.{Core, LiveCall, Cell, call_of, call_or, some_call, live, ended, executes, frames, entries, with_cell, with_call}
-use Rattle.flow_model.specs.Changes.{enter, ensure_mark, set_state, raise, finish, tell}
-use Rattle.flow_model.specs.Steps.{apply, begin, new_call, frames_before, framing_before, any_before, open_node, frame, started, without_call, collect}
-use Rattle.flow_model.proofs.Truths.{and_both, same_number, equal_test, not_true, is_not_true, true_or_false}
-use Rattle.flow_model.proofs.Lists.{Ascends, Ascends-map-in, with_state-Ascends, collected-Ascends, IsTransitive}
-use Rattle.flow_model.proofs.Enter.{Stands, Standing, Comes, Comes_in, Apart, enter-Standing, with_cell-entries}
-use Rattle.flow_model.proofs.Readers.{KeepsPhase, with_call-live, with_call-executes, map_call-live, map_call-executes, list_any-none, call_of-append, without_call-other, without_call-same, started-executes, last_call}
-use Rattle.flow_model.proofs.OrderLemmas.{LastPair, last_pair, reaches-retire, recorded-reaches, none-reaches}
+use Rattle.flow_model.specs.Machine.State.{Core, LiveCall, Cell, call_of, call_or, live, ended, executes, is_framing, entries, with_cell, with_call}
+use Rattle.flow_model.specs.Machine.Changes.{enter, ensure_mark, set_state, raise, finish, tell}
+use Rattle.flow_model.specs.Machine.Steps.{apply, begin, new_call, is_framing_before, any_framing_before, any_before, open_node, frame, started, without_call, collect}
+use Rattle.flow_model.proofs.General.Truths.{and_both, same_number, equal_test, not_true, is_not_true, true_or_false}
+use Rattle.flow_model.proofs.OneList.InOrder.{Ascends, Ascends-map-in, with_state-Ascends, collected-Ascends, IsTransitive}
+use Rattle.flow_model.proofs.OneList.Entering.{Stands, Standing, Comes, Comes_in, Apart, enter-Standing, with_cell-entries}
+use Rattle.flow_model.proofs.OneList.CallsAndCells.{KeepsPhase, with_call-live, with_call-executes, map_call-live, map_call-executes, list_any-none, call_of-append, without_call-other, without_call-same, started-executes, last_call}
+use Rattle.flow_model.proofs.OneList.Chains.{LastPair, last_pair, reaches-retire, recorded-reaches, none-reaches}
 
 -- ---- Where a step leaves the parts alone
 
@@ -27,13 +28,13 @@ with_call-Standing s old t f k h =
     subst (λ (x : ℕ → Bool). Stands s.pairs (live (with_call s t f)) x (entries s) old) (sym (with_call-executes s t f k))
     (subst (λ (l : ℕ → Bool). Stands s.pairs l (executes s) (entries s) old) (sym (with_call-live s t f k.version)) h)
 
-pub map_call-Standing : (s : Core) (old : ℕ → ℕ → Bool) (f : LiveCall → LiveCall) → KeepsPhase f → Standing s old → Standing (record s { calls = map f s.calls }) old
+map_call-Standing : (s : Core) (old : ℕ → ℕ → Bool) (f : LiveCall → LiveCall) → KeepsPhase f → Standing s old → Standing (record s { calls = map f s.calls }) old
 map_call-Standing s old f k h =
     subst (λ (x : ℕ → Bool). Stands s.pairs (live (record s { calls = map f s.calls })) x (entries s) old) (sym (map_call-executes s f k))
     (subst (λ (l : ℕ → Bool). Stands s.pairs l (executes s) (entries s) old) (sym (map_call-live s f k.version)) h)
 
 -- A list is changed to one that ascends where it did.
-pub with_cell-Standing : (s : Core) (old : ℕ → ℕ → Bool) (n : ℕ) (f : Cell → Cell) (g : List Entry → List Entry) → ((c : Cell) → (f c).entries ≡ g c.entries)
+with_cell-Standing : (s : Core) (old : ℕ → ℕ → Bool) (n : ℕ) (f : Cell → Cell) (g : List Entry → List Entry) → ((c : Cell) → (f c).entries ≡ g c.entries)
     → ((es : List Entry) → Ascends (Comes s old) es → Ascends (Comes s old) (g es)) → Standing s old → Standing (with_cell s n f) old
 with_cell-Standing s old n f g same keeps h = record {
   order = h.order;
@@ -46,9 +47,6 @@ with_cell-Standing s old n f g same keeps h = record {
     go m (inl e) = subst (Ascends (Comes s old)) (sym e) (h.lists m)
     go m (inr e) = subst (Ascends (Comes s old)) (sym e.1) (keeps (entries s m) (h.lists m))
 
-same-list : (s : Core) (old : ℕ → ℕ → Bool) (es : List Entry) → Ascends (Comes s old) es → Ascends (Comes s old) es
-same-list s old es h = h
-
 -- ---- The steps
 
 pub same_list-Standing : (s : Core) (old : ℕ → ℕ → Bool) (n : ℕ) (f : Cell → Cell) → ((c : Cell) → (f c).entries ≡ c.entries) → Standing s old → Standing (with_cell s n f) old
@@ -60,7 +58,7 @@ set_state-Standing s old t n state h = with_cell-Standing s old n _ (with_state 
 pub finish-Standing : (s : Core) (old : ℕ → ℕ → Bool) (t n : ℕ) (v : Value) (changed : Bool) (ps : List (Option ℕ)) → Standing s old → Standing (finish s t n v changed ps) old
 finish-Standing s old t n v changed ps h = with_call-Standing (with_cell s n (set_state t (Done v changed ps))) old t _ (record { version = λ c. refl; executing = λ c. refl }) (set_state-Standing s old t n (Done v changed ps) h)
 
-pub open_node-Standing : (graph : Graph) (s : Core) (old : ℕ → ℕ → Bool) (t n : ℕ) → Standing s old → Standing (open_node graph s t n) old
+open_node-Standing : (graph : Graph) (s : Core) (old : ℕ → ℕ → Bool) (t n : ℕ) → Standing s old → Standing (open_node graph s t n) old
 open_node-Standing graph s old t n h = with_call-Standing s old t _ (record { version = λ c. refl; executing = λ c. refl }) h
 
 pub ensure_mark-Standing : (s : Core) (old : ℕ → ℕ → Bool) (t m : ℕ) → Standing s old → live s t ≡ true → Standing (ensure_mark s t m) old
@@ -81,7 +79,7 @@ frame-Standing graph s old t n h lt fresh = go (at is_mark (entries s n) t) refl
     go false e = open_node-Standing graph (enter s t n Frame) old t n (enter-Standing s old t n Frame h lt (fresh e))
 
 -- An ended call comes before each live one.
-pub ended-Comes : (s : Core) (old : ℕ → ℕ → Bool) (u v : ℕ) → not (live s u) ≡ true → not (live s v) ≡ false → Comes s old u v
+ended-Comes : (s : Core) (old : ℕ → ℕ → Bool) (u v : ℕ) → not (live s u) ≡ true → not (live s v) ≡ false → Comes s old u v
 ended-Comes s old u v a b = grind arith
 
 pub collect-Standing : (s : Core) (old : ℕ → ℕ → Bool) (n : ℕ) → Standing s old → Standing (with_cell s n (collect s)) old
@@ -112,7 +110,7 @@ start-Apart ps lives runs now t h e none = record {
       grind (arith, eqb_tells, eu, ev, a, n);
 }
 
-start-Stands : (s : Core) (old : ℕ → ℕ → Bool) (t : ℕ) → Standing s old → live s t ≡ true → ((u : ℕ) → frames s u ≡ true → reaches s.pairs u t ≡ false)
+start-Stands : (s : Core) (old : ℕ → ℕ → Bool) (t : ℕ) → Standing s old → live s t ≡ true → ((u : ℕ) → is_framing s u ≡ true → reaches s.pairs u t ≡ false)
     → Stands s.pairs (live s) (executes (with_call s t started)) (entries s) old
 start-Stands s old t h lt none = record {
   order = start-Apart s.pairs (live s) (executes s) (executes (with_call s t started)) t h.order (λ u. started-executes t s.calls u lt) none;
@@ -122,16 +120,16 @@ start-Stands s old t h lt none = record {
 }
 
 -- No direct predecessor frames.
-executing_before : (s : Core) (t w : ℕ) → framing_before s t ≡ false → live s w ≡ true → is_recorded s.pairs w t ≡ true → (frames s w ≡ false) × (executes s w ≡ true)
+executing_before : (s : Core) (t w : ℕ) → any_framing_before s t ≡ false → live s w ≡ true → is_recorded s.pairs w t ≡ true → (is_framing s w ≡ false) × (executes s w ≡ true)
 executing_before s t w h lw r = go (call_of s.calls w) refl
   where
-    go : (o : Option LiveCall) → call_of s.calls w ≡ o → (frames s w ≡ false) × (executes s w ≡ true)
-    go None e = absurd (true≢false (sym lw ∙ ap some_call e))
-    go (Some c) e = let q = list_any-none (frames_before s t) s.calls w c h e in grind (arith, q)
+    go : (o : Option LiveCall) → call_of s.calls w ≡ o → (is_framing s w ≡ false) × (executes s w ≡ true)
+    go None e = absurd (true≢false (sym lw ∙ ap is_some e))
+    go (Some c) e = let q = list_any-none (is_framing_before s t) s.calls w c h e in grind (arith, q)
 
-pub start-Standing : (s : Core) (old : ℕ → ℕ → Bool) (t : ℕ) → Standing s old → live s t ≡ true → framing_before s t ≡ false → Standing (with_call s t started) old
+pub start-Standing : (s : Core) (old : ℕ → ℕ → Bool) (t : ℕ) → Standing s old → live s t ≡ true → any_framing_before s t ≡ false → Standing (with_call s t started) old
 start-Standing s old t h lt none = subst (λ (l : ℕ → Bool). Stands s.pairs l (executes (with_call s t started)) (entries s) old) (sym (with_call-live s t started (λ c. refl)))
-    (start-Stands s old t h lt (no_framing_reaches s.pairs (frames s) (executes s) t h.order
+    (start-Stands s old t h lt (no_framing_reaches s.pairs (is_framing s) (executes s) t h.order
     (λ w r. executing_before s t w none (and_both (live s w) _ (h.pairs_live w t (recorded-reaches s.pairs w t r))).0 r)))
 
 -- ---- End
@@ -180,7 +178,7 @@ pub not_before : (s : Core) (old : ℕ → ℕ → Bool) (t : ℕ) → Standing 
 not_before s old t h none w = not_true _ (λ r. go (call_of s.calls w) refl r (and_both (live s w) _ (h.pairs_live w t (recorded-reaches s.pairs w t r))).0)
   where
     go : (o : Option LiveCall) → call_of s.calls w ≡ o → is_recorded s.pairs w t ≡ true → live s w ≡ true → ⊥
-    go None e r l = true≢false (sym l ∙ ap some_call e)
+    go None e r l = true≢false (sym l ∙ ap is_some e)
     go (Some c) e r l = let q = list_any-none (λ c. is_recorded s.pairs c.version t) s.calls w c none e in is_not_true _ q.0 (subst (λ (x : ℕ). is_recorded s.pairs x t ≡ true) (sym q.1) r)
 
 pub end-Standing : (graph : Graph) (s : Core) (old now : ℕ → ℕ → Bool) (t : ℕ) → Standing s old → live s t ≡ true → any_before s t ≡ false
@@ -197,7 +195,7 @@ end-Standing graph s old now t h lt none more trans joins = record {
     first = not_before s old t h none
 
     lives : (u : ℕ) → live (apply graph s (End t)) u ≡ (not (u == t) && live s u)
-    lives = reads_without some_call refl t s.calls
+    lives = reads_without is_some refl t s.calls
 
     runs : (u : ℕ) → executes (apply graph s (End t)) u ≡ (not (u == t) && executes s u)
     runs = reads_without (λ (o : Option LiveCall). (call_or o).executing) refl t s.calls
@@ -224,7 +222,7 @@ begin-Stands ps lives runs lives2 runs2 lists_of old t h new fresh el er = recor
         let b : v ≢ t = λ x. is_not_true _ (fresh n) (subst (λ (w : ℕ). has (lists_of n) w ≡ true) x k) in
         let e1 = el u in let e2 = el v in grind (arith, eqb_tells, e1, e2)
 
-last_call-live : (o : Option LiveCall) (c : LiveCall) (u : ℕ) → some_call (last_call o c u) ≡ ((u == c.version) || some_call o)
+last_call-live : (o : Option LiveCall) (c : LiveCall) (u : ℕ) → is_some (last_call o c u) ≡ ((u == c.version) || is_some o)
 last_call-live (Some x) c u = grind arith
 last_call-live None c u = grind (arith, eqb_tells)
 
@@ -235,5 +233,5 @@ last_call-other None c u h = grind (arith, eqb_tells)
 pub begin-Standing : (graph : Graph) (s : Core) (old : ℕ → ℕ → Bool) (caller : ℕ) (c : Call) → Standing s old → live s (suc s.begun) ≡ false → ((n : ℕ) → has (entries s n) (suc s.begun) ≡ false)
     → Standing (begin graph s caller c) old
 begin-Standing graph s old caller c h new fresh = begin-Stands s.pairs (live s) (executes s) _ _ (entries s) old (suc s.begun) h new fresh
-    (λ u. ap some_call (call_of-append s.calls (new_call graph s caller c) u) ∙ last_call-live (call_of s.calls u) (new_call graph s caller c) u)
+    (λ u. ap is_some (call_of-append s.calls (new_call graph s caller c) u) ∙ last_call-live (call_of s.calls u) (new_call graph s caller c) u)
     (λ u x. ap (λ (o : Option LiveCall). (call_or o).executing) (call_of-append s.calls (new_call graph s caller c) u) ∙ last_call-other (call_of s.calls u) (new_call graph s caller c) u x)

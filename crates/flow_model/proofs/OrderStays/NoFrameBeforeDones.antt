@@ -1,4 +1,4 @@
--- No Frame stands before a Done, and the open nodes of a call are those with its Frame.
+-- After each step no Frame stands before a Done.
 use Rattle.std.proofs.Common.{◌≡◌, ℕ, Bool, true, false, ◌||◌, not, ◌==◌, ◌⊎◌, ◌≢◌, inl, inr, refl, sym, ap, arith, List, [], ◌∷◌, true≢false, ◌∙◌, subst, Option, Some, None}
 use Rattle.signal_graph.specs.Graph.{Graph}
 use Rattle.order_graph.specs.Order.{reaches}
@@ -6,28 +6,28 @@ use Rattle.node_versions.specs.declared.entry.State.{State}
 use Rattle.node_versions.specs.declared.entry.State.TheVariants.{Mark, Frame}
 use Rattle.node_versions.specs.declared.entry.Entry.{Entry}
 use Rattle.node_versions.specs.Entries.{has, at, is_mark, is_frame, is_done, behind, front, rest, placed, collected, first_open}
-use Rattle.flow_model.specs.State.{Core, live, ended, executes, frames, entries, precedes, opens, wants}
-use Rattle.flow_model.specs.Words.{is_some_of}
-use Rattle.flow_model.specs.Changes.{stops, stops_call, new_entry, first_version}
-use Rattle.flow_model.specs.Lawful.{IsLawful, FramingComesLast, FramesAreOpen, WantsAreCovered, ended_before}
-use Rattle.flow_model.proofs.Truths.{or_cases, same_number, other_number, not_true, not_false, is_not_true, true_or_false}
-use Rattle.flow_model.proofs.OrderLemmas.{reaches-trans}
-use Rattle.flow_model.proofs.Lists.{Ascends, Ascends-right, front-rest, rest-stops, has-append}
-use Rattle.flow_model.proofs.Enter.{Standing, Comes, stop-live}
-use Rattle.flow_model.proofs.Allowed.{opens-live, wants-live, at_front-heads}
-use Rattle.flow_model.proofs.States.{FramesLast, more-FramesLast, raise-FramesLast, finish-FramesLast, across-behind, at-has, behind-total, behind-trans, first_open-none}
-use Rattle.flow_model.proofs.ListFacts.{collected-at, collected-behind_live}
-use Rattle.flow_model.proofs.ListSteps.{ListStep, stays, marks, frames as frames_new, raises, finishes, collects}
-use Rattle.flow_model.proofs.OrderOfSteps.{lawful-Standing}
+use Rattle.flow_model.specs.Machine.State.{Core, live, ended, executes, is_framing, entries, precedes, opens, wants}
+use Rattle.flow_model.specs.Machine.Words.{is_some_of}
+use Rattle.flow_model.specs.Machine.Changes.{stops, stops_call, new_entry, first_version}
+use Rattle.flow_model.specs.Kept.Lawful.{IsLawful, FramingComesLast, FramesAreOpen, WantsAreCovered, ended_before}
+use Rattle.flow_model.proofs.General.Truths.{or_cases, same_number, other_number, not_true, not_false, is_not_true, true_or_false}
+use Rattle.flow_model.proofs.OneList.Chains.{reaches-trans}
+use Rattle.flow_model.proofs.OneList.InOrder.{Ascends, Ascends-right, front-rest, rest-stops, has-append}
+use Rattle.flow_model.proofs.OneList.Entering.{Standing, Comes, stop-live}
+use Rattle.flow_model.proofs.OneStep.WhoMayStep.{opens-live, wants-live, at_front-heads}
+use Rattle.flow_model.proofs.OneList.StatesAndPlaces.{FramesLast, more-FramesLast, raise-FramesLast, finish-FramesLast, across-behind, at-has, behind-total, behind-trans, first_open-none}
+use Rattle.flow_model.proofs.OneList.OneEntryACall.{collected-at, collected-behind_live}
+use Rattle.flow_model.proofs.OneStep.ChangesOfOneList.{ListStep, stays, marks, frames, raises, finishes, collects}
+use Rattle.flow_model.proofs.OrderStays.AfterEachStep.{lawful-Standing}
 
 -- Over the head of the part behind t's place: it frames where t does, and so does each live call after it.
-head-framing : (s : Core) (old : ℕ → ℕ → Bool) → Standing s old → (t r : ℕ) → live s t ≡ true → frames s t ≡ true → stops_call s t r ≡ true → frames s r ≡ true
+head-framing : (s : Core) (old : ℕ → ℕ → Bool) → Standing s old → (t r : ℕ) → live s t ≡ true → is_framing s t ≡ true → stops_call s t r ≡ true → is_framing s r ≡ true
 head-framing s old h t r lt ft k =
     let a = h.order.apart t r ft in
     let p = h.pairs_live t r in
     grind (arith, a, p)
 
-after-framing : (s : Core) (old : ℕ → ℕ → Bool) → Standing s old → (r w : ℕ) → frames s r ≡ true → Comes s old r w → frames s w ≡ true
+after-framing : (s : Core) (old : ℕ → ℕ → Bool) → Standing s old → (r w : ℕ) → is_framing s r ≡ true → Comes s old r w → is_framing s w ≡ true
 after-framing s old h r w fr k =
     let a = h.order.apart r w fr in
     let p = h.pairs_live r w in
@@ -46,8 +46,8 @@ part : (s : Core) (old : ℕ → ℕ → Bool) (t n : ℕ) → Standing s old �
 part s old t n h = Ascends-right (Comes s old) (front (stops s t) (entries s n)) (rest (stops s t) (entries s n)) (subst (Ascends (Comes s old)) (sym (front-rest (stops_call s t) (entries s n))) (h.lists n))
 
 -- A framing t: all behind its place frame.
-pub framing-part : (s : Core) (old : ℕ → ℕ → Bool) → Standing s old → (t n : ℕ) → live s t ≡ true → frames s t ≡ true → (w : ℕ) → has (rest (stops s t) (entries s n)) w ≡ true → frames s w ≡ true
-framing-part s old h t n lt ft = each_of_part (Comes s old) (λ w. frames s w ≡ true) (rest (stops s t) (entries s n)) (part s old t n h)
+pub framing-part : (s : Core) (old : ℕ → ℕ → Bool) → Standing s old → (t n : ℕ) → live s t ≡ true → is_framing s t ≡ true → (w : ℕ) → has (rest (stops s t) (entries s n)) w ≡ true → is_framing s w ≡ true
+framing-part s old h t n lt ft = each_of_part (Comes s old) (λ w. is_framing s w ≡ true) (rest (stops s t) (entries s n)) (part s old t n h)
     (λ r e. head-framing s old h t r lt ft (rest-stops (stops_call s t) (entries s n) r e)) (after-framing s old h)
 
 -- An executing t: a call before it stands before its place.
@@ -57,7 +57,7 @@ head-not_before s old h t v r lt lv xt b k =
     let t1 = reaches-trans s.pairs t v t in
     let t2 = reaches-trans s.pairs t r v in
     let t3 = reaches-trans s.pairs r v t in
-    let a = λ (f : frames s r ≡ true). h.order.apart r t f xt in
+    let a = λ (f : is_framing s r ≡ true). h.order.apart r t f xt in
     let p = h.pairs_live t r in
     grind (arith, c, t1, t2, t3, a, p)
 
@@ -93,7 +93,7 @@ covered-part s old h t n v lt lv xt b fl fv w k =
     fl.last v w (subst (λ (es : List Entry). behind es v w ≡ true) joined (across-behind f g v w in_f k)) fv
 
 -- Frame: what is known of framing calls, and of wanted nodes, says of the place of t.
-pub place-no_done : (s : Core) (old : ℕ → ℕ → Bool) → Standing s old → FramingComesLast s → FramesAreOpen s → WantsAreCovered s → (t n : ℕ) → live s t ≡ true → wants s t n ≡ true
+place-no_done : (s : Core) (old : ℕ → ℕ → Bool) → Standing s old → FramingComesLast s → FramesAreOpen s → WantsAreCovered s → (t n : ℕ) → live s t ≡ true → wants s t n ≡ true
     → (w : ℕ) → has (rest (stops s t) (entries s n)) w ≡ true → at is_done (entries s n) w ≡ false
 place-no_done s old h i2 i3 i5 t n lt wt w k = go (true_or_false (executes s t))
   where
@@ -103,7 +103,7 @@ place-no_done s old h i2 i3 i5 t n lt wt w k = go (true_or_false (executes s t))
         let v = c.by.0 in
         let fv : at is_frame (entries s n) v ≡ true = sym (i3.opens_frames v n) ∙ c.by.2 in
         covered-part s old h t n v lt (opens-live s v n c.by.2) x c.by.1 (record { last = i3.behind_dones n }) fv w k
-    go (inr x) = i2.no_done w n (framing-part s old h t n lt (let f : frames s t ≡ true = grind (arith, x, lt) in f) w k)
+    go (inr x) = i2.no_done w n (framing-part s old h t n lt (let f : is_framing s t ≡ true = grind (arith, x, lt) in f) w k)
 
 -- ---- a list after a step
 
@@ -123,7 +123,7 @@ raised-no_done : (graph : Graph) (s : Core) → IsLawful graph s → (t n : ℕ)
 raised-no_done graph s h t n wt m w k = go (true_or_false (executes s t))
   where
     go : (executes s t ≡ true) ⊎ (executes s t ≡ false) → at is_done (entries s n) w ≡ false
-    go (inr x) = absurd (is_not_true _ (h.framing_comes_last.no_mark t n (let l = wants-live s t n wt in let f : frames s t ≡ true = grind (arith, x, l) in f)) m)
+    go (inr x) = absurd (is_not_true _ (h.framing_comes_last.no_mark t n (let l = wants-live s t n wt in let f : is_framing s t ≡ true = grind (arith, x, l) in f)) m)
     go (inl x) =
         let c = h.wants_are_covered t n x wt in
         let v = c.by.0 in
@@ -161,7 +161,7 @@ head-first es t h = go (first_open es) h
 pub list-last : (graph : Graph) (s : Core) → IsLawful graph s → (n : ℕ) (es : List Entry) → ListStep graph s n es → FramesLast es
 list-last graph s h n es (stays e) = subst FramesLast (sym e) (lawful-last graph s h n)
 list-last graph s h n es (marks t x fresh r e) = subst FramesLast (sym e) (placed-last s t Mark (entries s n) refl fresh (lawful-last graph s h n) (λ f. absurd (true≢false (sym f))))
-list-last graph s h n es (frames_new t w fresh r e) = subst FramesLast (sym e) (placed-last s t Frame (entries s n) refl fresh (lawful-last graph s h n) (λ _. place-no_done s (ended_before s.log) (lawful-Standing graph s h) h.framing_comes_last h.frames_are_open h.wants_are_covered t n (wants-live s t n w) w))
+list-last graph s h n es (frames t w fresh r e) = subst FramesLast (sym e) (placed-last s t Frame (entries s n) refl fresh (lawful-last graph s h n) (λ _. place-no_done s (ended_before s.log) (lawful-Standing graph s h) h.framing_comes_last h.frames_are_open h.wants_are_covered t n (wants-live s t n w) w))
 list-last graph s h n es (raises t w m e) = subst FramesLast (sym e) (raise-FramesLast t (entries s n) (lawful-last graph s h n) (raised-no_done graph s h t n w m))
 list-last graph s h n es (finishes t v c ps f e) = subst FramesLast (sym e) (finish-FramesLast t v c ps (entries s n) (lawful-last graph s h n) (λ u k. first_open-none (entries s n) t u (h.one_entry n) (head-first (entries s n) t (at_front-heads graph s t n f)) k))
 list-last graph s h n es (collects e) = subst FramesLast (sym e) (record { last = λ u v k f. last u v k f })

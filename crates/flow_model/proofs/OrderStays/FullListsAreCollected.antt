@@ -1,21 +1,23 @@
--- A full list has entries of ended calls to collect.
+-- A full list has entries of ended calls to collect, and Collect leaves one entry more than there are callers at most.
 use Rattle.std.proofs.Common.{◌≡◌, ℕ, zero, suc, ◌+◌, ◌<◌, ◌≤◌, Bool, true, false, not, ◌||◌, ◌==◌, ◌⊎◌, inl, inr, refl, sym, ap, arith, List, [], ◌∷◌, length, map, ◌∙◌, subst, Option, Some, None}
-use Rattle.std.specs.Prelude.{filter, nat_lt}
+use Rattle.std.specs.Prelude.{filter, nat_lt, slice_index_or}
 use Rattle.std.specs.List.{cons_option}
 use Rattle.signal_graph.specs.Graph.{Graph, is_in}
 use Rattle.node_versions.specs.declared.entry.Entry.{Entry}
 use Rattle.node_versions.specs.Entries.{IsUnique, has, last_done}
 use Rattle.flow_model.specs.declared.step.Step.TheVariants as steps
-use Rattle.flow_model.specs.State.{Core, LiveCall, live, ended, entries}
-use Rattle.flow_model.specs.Words.{has_room}
-use Rattle.flow_model.specs.Steps.{allowed, collected_at}
-use Rattle.flow_model.specs.Lawful.{IsLawful, AreDistinct, times}
-use Rattle.flow_model.proofs.Truths.{same_number, other_number, is_not_true, true_or_false}
-use Rattle.flow_model.proofs.Lists.{on_calls, filter-has}
-use Rattle.flow_model.proofs.ListFacts.{filter-unique}
-use Rattle.flow_model.proofs.Versions.{times-in, in-times, live-in, live-version}
-use Rattle.flow_model.proofs.Pigeons.{total, total-length, total-all, total-bound, times-it, times-other, field-distinct, holder, Holder}
-use Rattle.flow_model.proofs.Beginnings.{calls-distinct, length-map}
+use Rattle.flow_model.specs.Machine.Lists.{change_at}
+use Rattle.flow_model.specs.Machine.State.{Core, Cell, LiveCall, live, ended, entries, no_cell}
+use Rattle.flow_model.specs.Machine.Words.{has_room}
+use Rattle.flow_model.specs.Machine.Steps.{allowed, apply, collect, collected_at}
+use Rattle.flow_model.specs.Kept.Lawful.{IsLawful, AreDistinct, times}
+use Rattle.flow_model.proofs.General.Truths.{same_number, other_number, is_not_true, true_or_false}
+use Rattle.flow_model.proofs.OneList.InOrder.{on_calls, filter-has}
+use Rattle.flow_model.proofs.OneList.OneEntryACall.{filter-unique}
+use Rattle.flow_model.proofs.OneStep.VersionsStayFresh.{times-in, in-times, live-in, live-version}
+use Rattle.flow_model.proofs.General.Pigeons.{total, total-length, total-all, total-bound, times-it, times-other, field-distinct, holder, Holder}
+use Rattle.flow_model.proofs.OneStep.BegunCalls.{calls-distinct}
+use Rattle.flow_model.proofs.General.AnyAndAll.{length-map}
 
 versions-have : (es : List Entry) (u : ℕ) → is_in u (map (λ (e : Entry). e.version) es) ≡ has es u
 versions-have [] u = refl
@@ -71,7 +73,7 @@ calls-few graph s h =
     inside : (x : ℕ) → Holder (λ c. c.caller) s.calls x → (1 ≤ x) × (x < 1 + s.callers)
     inside x p = let f = h.room_is_kept.callers_fit p.version p.known in subst (λ (k : ℕ). (1 ≤ k) × (k < 1 + s.callers)) p.value (f.0, (let g = f.1 in omega (arith, g)))
 
-pub live-entries : (graph : Graph) (s : Core) → IsLawful graph s → (n : ℕ) → length (filter (on_calls (λ v. not (not (live s v)))) (entries s n)) ≤ s.callers
+live-entries : (graph : Graph) (s : Core) → IsLawful graph s → (n : ℕ) → length (filter (on_calls (λ v. not (not (live s v)))) (entries s n)) ≤ s.callers
 live-entries graph s h n =
     let es = filter (on_calls (λ v. not (not (live s v)))) (entries s n) in
     let vs = map (λ (e : Entry). e.version) es in
@@ -90,7 +92,7 @@ live-entries graph s h n =
         twice true k = refl
         twice false k = k
 
-pub collected-few : (graph : Graph) (s : Core) → IsLawful graph s → (n : ℕ) → length (collected_at s n) ≤ suc s.callers
+collected-few : (graph : Graph) (s : Core) → IsLawful graph s → (n : ℕ) → length (collected_at s n) ≤ suc s.callers
 collected-few graph s h n = go (last_done (filter (ended s) (entries s n)))
   where
     go : (o : Option Entry) → length (cons_option o (filter (on_calls (λ v. not (not (live s v)))) (entries s n))) ≤ suc s.callers
@@ -110,3 +112,12 @@ full-collects graph s h m r =
       where
         lesser : (a b : ℕ) → a < b → nat_lt a b ≡ true
         lesser a b h = grind arith
+
+-- What Collect leaves in its list.
+pub collect-leaves : (graph : Graph) (s : Core) → IsLawful graph s → (n : ℕ) → length (entries (apply graph s (steps.Collect n)) n) ≤ s.callers + 1
+collect-leaves graph s h n = go s.cells n (s.callers + 1) (let c = collected-few graph s h n in omega (arith, c))
+  where
+    go : (cells : List Cell) (n k : ℕ) → length (collect s (slice_index_or cells n no_cell)).entries ≤ k → length (slice_index_or (change_at n (collect s) cells) n no_cell).entries ≤ k
+    go [] n k h = omega arith
+    go (c ∷ cs) zero k h = h
+    go (c ∷ cs) (suc n) k h = go cs n k h

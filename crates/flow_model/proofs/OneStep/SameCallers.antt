@@ -1,5 +1,6 @@
--- What no step changes of a live call.
+-- No step changes a live call's caller and slot, nor what it sets and looks at.
 use Rattle.std.proofs.Common.{◌≡◌, ℕ, ◌<◌, ◌≤◌, Bool, true, false, ◌==◌, ◌⊎◌, inl, inr, refl, sym, ap, arith, List, length, ◌∙◌, subst, Option}
+use Rattle.std.specs.Prelude.{is_some}
 use Rattle.script_tree.specs.declared.value.Value.{Value}
 use Rattle.signal_graph.specs.Graph.{Graph}
 use Rattle.signal_graph.specs.Machine.{misnamed}
@@ -9,16 +10,16 @@ use Rattle.node_versions.specs.declared.entry.State.TheVariants.{Mark, Frame, Do
 use Rattle.node_versions.specs.Entries.{has, at, is_mark, value_before, picks_before}
 use Rattle.flow_model.specs.declared.step.Step.{Step}
 use Rattle.flow_model.specs.declared.step.Step.TheVariants as steps
-use Rattle.flow_model.specs.State.{Core, LiveCall, call, call_or, some_call, live, entries, with_cell}
-use Rattle.flow_model.specs.Words.{active_outs, found_now, value_now, found_picks, next_look}
-use Rattle.flow_model.specs.Changes.{enter, raise, ensure_mark, set_state, opened, closed, tell_call, add_edge}
-use Rattle.flow_model.specs.Steps.{allowed, apply, open_node, frame, started, counted, with_look, is_change, keep_found, look_value, sets_in, looks_in}
-use Rattle.flow_model.specs.Lawful.{IsLawful, RoomIsKept, IsCallRight}
-use Rattle.flow_model.proofs.Truths.{same_number, equal_test, is_not_true, true_or_false}
-use Rattle.flow_model.proofs.Readers.{with_call-keeps, map_call-keeps, without_call-other, without_call-same}
-use Rattle.flow_model.proofs.PhasesOfSteps.{PhaseStep, stays, starts, ends, step-phases}
-use Rattle.flow_model.proofs.PartsOfSteps.{step-parts}
-use Rattle.flow_model.proofs.VersionsOfSteps.{step-room}
+use Rattle.flow_model.specs.Machine.State.{Core, LiveCall, call, call_or, live, entries, with_cell}
+use Rattle.flow_model.specs.Machine.Words.{active_outs, found_now, value_now, found_picks, next_look}
+use Rattle.flow_model.specs.Machine.Changes.{enter, raise, ensure_mark, set_state, opened, closed, tell_call, add_edge}
+use Rattle.flow_model.specs.Machine.Steps.{allowed, apply, open_node, frame, started, counted, with_look, is_change, keep_found, look_value, sets_in, looks_in}
+use Rattle.flow_model.specs.Kept.Lawful.{IsLawful, RoomIsKept, IsCallRight}
+use Rattle.flow_model.proofs.General.Truths.{same_number, equal_test, is_not_true, true_or_false}
+use Rattle.flow_model.proofs.OneList.CallsAndCells.{with_call-keeps, map_call-keeps, without_call-other, without_call-same}
+use Rattle.flow_model.proofs.OneStep.WhoLivesAndFrames.{PhaseStep, stays, starts, ends, step-phases}
+use Rattle.flow_model.proofs.OneStep.SameLengths.{step-parts}
+use Rattle.flow_model.proofs.OrderStays.VersionsAndLengths.{step-room}
 
 -- what is read of a call stays as it was through each change of a call
 pub record Stable {A : Type 0} (read : LiveCall → A) : Type 0 where
@@ -66,20 +67,20 @@ step-stable read k graph s (steps.Look t) u l = with_call-keeps read s t (with_l
 step-stable {A} read k graph s (steps.End t) u l = go (true_or_false (u == t))
   where
     go : ((u == t) ≡ true) ⊎ ((u == t) ≡ false) → read (call (apply graph s (steps.End t)) u) ≡ read (call s u)
-    go (inl e) = absurd (is_not_true _ (subst (λ (v : ℕ). live (apply graph s (steps.End t)) v ≡ false) (sym (same_number u t e)) (ap some_call (without_call-same t s.calls))) l)
+    go (inl e) = absurd (is_not_true _ (subst (λ (v : ℕ). live (apply graph s (steps.End t)) v ≡ false) (sym (same_number u t e)) (ap is_some (without_call-same t s.calls))) l)
     go (inr e) = ap (λ (o : Option LiveCall). read (call_or o)) (without_call-other t u s.calls (λ x. is_not_true _ e (equal_test u t x)))
 step-stable read k graph s (steps.Collect n) u l = refl
 
 caller-stable : Stable (λ (c : LiveCall). c.caller)
 caller-stable = record { opens = λ n outs c. refl; starts = λ c. refl; closes = λ n b c. refl; counts = λ c. refl; looks = λ v c. refl; tells = λ es t n c. refl }
 
-slot-stable : Stable (λ (c : LiveCall). c.slot)
+pub slot-stable : Stable (λ (c : LiveCall). c.slot)
 slot-stable = record { opens = λ n outs c. refl; starts = λ c. refl; closes = λ n b c. refl; counts = λ c. refl; looks = λ v c. refl; tells = λ es t n c. refl }
 
 call-stable : Stable (λ (c : LiveCall). c.call)
 call-stable = record { opens = λ n outs c. refl; starts = λ c. refl; closes = λ n b c. refl; counts = λ c. refl; looks = λ v c. refl; tells = λ es t n c. refl }
 
-sets-stable : Stable (λ (c : LiveCall). c.sets)
+pub sets-stable : Stable (λ (c : LiveCall). c.sets)
 sets-stable = record { opens = λ n outs c. refl; starts = λ c. refl; closes = λ n b c. refl; counts = λ c. refl; looks = λ v c. refl; tells = λ es t n c. refl }
 
 looks-stable : Stable (λ (c : LiveCall). c.looks)

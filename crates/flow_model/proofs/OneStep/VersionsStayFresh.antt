@@ -1,5 +1,6 @@
--- The versions of live and logged calls.
+-- The versions of live and logged calls stay distinct and begun, after a change of a call, a beginning and an End.
 use Rattle.std.proofs.Common.{◌≡◌, ℕ, zero, suc, ◌+◌, ◌≤◌, Bool, true, false, ◌&&◌, ◌||◌, ◌==◌, ◌⊎◌, inl, inr, refl, sym, ap, ap₂, arith, List, [], ◌∷◌, ◌++◌, map, length, true≢false, ◌∙◌, subst}
+use Rattle.std.specs.Prelude.{is_some}
 use Rattle.std.specs.Prelude.{filter}
 use Rattle.std.proofs.lemmas.Bool.Decides.{eqb_tells}
 use Rattle.std.proofs.lemmas.List.{map-append, length-append}
@@ -9,11 +10,12 @@ use Rattle.signal_graph.specs.declared.call.Call.{Call}
 use Rattle.signal_graph.specs.declared.log.Logged.{Logged}
 use Rattle.signal_graph.specs.Graph.{Graph, is_in}
 use Rattle.call_log.specs.Made.{versions_in}
-use Rattle.flow_model.specs.State.{Core, LiveCall, call, call_of, call_or, some_call, live, change_call}
-use Rattle.flow_model.specs.Steps.{begin, new_call, without_call, logged}
-use Rattle.flow_model.specs.Lawful.{times, versions, AreDistinct, VersionsAreFresh, log_has, ended_first, ended_before}
-use Rattle.flow_model.proofs.Truths.{or_cases, or_left, or_right, same_number, equal_test, not_true, is_not_true, true_or_false}
-use Rattle.flow_model.proofs.Lists.{IsTransitive}
+use Rattle.flow_model.specs.Machine.State.{Core, LiveCall, call, call_of, call_or, live, change_call}
+use Rattle.flow_model.specs.Machine.Steps.{begin, new_call, without_call, logged}
+use Rattle.flow_model.specs.Kept.Lawful.{times, versions, AreDistinct, VersionsAreFresh, log_has, ended_first, ended_before}
+use Rattle.flow_model.proofs.General.Truths.{or_cases, or_left, or_right, same_number, equal_test, not_true, is_not_true, true_or_false}
+use Rattle.flow_model.proofs.OneList.InOrder.{IsTransitive}
+use Rattle.flow_model.proofs.General.AnyAndAll.{length-map}
 
 pub times-append : (x : ℕ) (xs ys : List ℕ) → times x (xs ++ ys) ≡ times x xs + times x ys
 times-append x xs ys = ap length (filter-append (λ y. y == x) xs ys) ∙ length-append (filter (λ y. y == x) xs) (filter (λ y. y == x) ys)
@@ -26,7 +28,7 @@ times-in x (y ∷ ys) h = go (true_or_false (y == x)) (times-in x ys)
     go (inl e) further = rw e (omega arith)
     go (inr e) further = rw e (further (subst (λ (b : Bool). (b || is_in x ys) ≡ true) e h))
 
-pub times-none : (x : ℕ) (xs : List ℕ) → times x xs ≡ 0 → is_in x xs ≡ false
+times-none : (x : ℕ) (xs : List ℕ) → times x xs ≡ 0 → is_in x xs ≡ false
 times-none x xs h = not_true _ (λ k. let r = times-in x xs k in omega (arith, r, h))
 
 -- the calls and the log name the same versions, and as many have begun
@@ -34,10 +36,6 @@ pub record SameCalls (s q : Core) : Type 0 where
   pub calls : map (λ (c : LiveCall). c.version) q.calls ≡ map (λ (c : LiveCall). c.version) s.calls
   pub log : q.log ≡ s.log
   pub begun : q.begun ≡ s.begun
-
-length-map : {A B : Type 0} (f : A → B) (xs : List A) → length (map f xs) ≡ length xs
-length-map f [] = refl
-length-map f (x ∷ xs) = ap suc (length-map f xs)
 
 pub same-VersionsAreFresh : (s q : Core) → SameCalls s q → VersionsAreFresh s → VersionsAreFresh q
 same-VersionsAreFresh s q e h =
@@ -63,14 +61,14 @@ map-versions f keeps (c ∷ cs) = ap₂ (λ (v : ℕ) (vs : List ℕ). v ∷ vs)
 
 -- ---- live and logged calls have begun
 
-pub live-in : (cs : List LiveCall) (u : ℕ) → some_call (call_of cs u) ≡ true → is_in u (map (λ (c : LiveCall). c.version) cs) ≡ true
+pub live-in : (cs : List LiveCall) (u : ℕ) → is_some (call_of cs u) ≡ true → is_in u (map (λ (c : LiveCall). c.version) cs) ≡ true
 live-in [] u h = h
 live-in (c ∷ cs) u h = let r = live-in cs u in grind (arith, r)
 
 pub live-version : (s : Core) (u : ℕ) → live s u ≡ true → is_in u (versions s) ≡ true
 live-version s u h = list_any-append (λ m. m == u) (map (λ (c : LiveCall). c.version) s.calls) (versions_in s.log) ∙ or_left _ _ (live-in s.calls u h)
 
-pub logged-version : (s : Core) (u : ℕ) → log_has s.log u ≡ true → is_in u (versions s) ≡ true
+logged-version : (s : Core) (u : ℕ) → log_has s.log u ≡ true → is_in u (versions s) ≡ true
 logged-version s u h = list_any-append (λ m. m == u) (map (λ (c : LiveCall). c.version) s.calls) (versions_in s.log) ∙ or_right _ _ h
 
 pub not_begun-live : (s : Core) → VersionsAreFresh s → live s (suc s.begun) ≡ false
@@ -134,7 +132,7 @@ begin-VersionsAreFresh graph s caller c h =
 pub call-version : (s : Core) (t : ℕ) → live s t ≡ true → (call s t).version ≡ t
 call-version s t h = go s.calls h
   where
-    go : (cs : List LiveCall) → some_call (call_of cs t) ≡ true → (call_or (call_of cs t)).version ≡ t
+    go : (cs : List LiveCall) → is_some (call_of cs t) ≡ true → (call_or (call_of cs t)).version ≡ t
     go [] k = absurd (true≢false (sym k))
     go (c ∷ cs) k = let r = go cs in grind (arith, eqb_tells, r)
 
@@ -151,7 +149,7 @@ without-length t (c ∷ cs) = let r = without-length t cs in go (true_or_false (
     go (inr e) r = rw (e, without_call) (omega (arith, r))
 
 -- a call moves from the live ones to the log
-pub end-versions : (s : Core) (t x : ℕ) → VersionsAreFresh s → live s t ≡ true → times x (map (λ (c : LiveCall). c.version) (without_call t s.calls) ++ versions_in (s.log ++ logged (call s t) ∷ [])) ≡ times x (versions s)
+end-versions : (s : Core) (t x : ℕ) → VersionsAreFresh s → live s t ≡ true → times x (map (λ (c : LiveCall). c.version) (without_call t s.calls) ++ versions_in (s.log ++ logged (call s t) ∷ [])) ≡ times x (versions s)
 end-versions s t x h lt =
     let vs = map (λ (c : LiveCall). c.version) s.calls in
     let e1 = times-append x (map (λ (c : LiveCall). c.version) (without_call t s.calls)) (versions_in (s.log ++ logged (call s t) ∷ [])) in
@@ -225,7 +223,7 @@ ended_first-logged : (log : List Logged) (u v : ℕ) → ended_first log u v ≡
 ended_first-logged [] u v h = absurd (true≢false (sym h))
 ended_first-logged (x ∷ xs) u v h = let r = ended_first-logged xs u v in grind (arith, eqb_tells, r)
 
-pub ended_before-logged : (log : List Logged) (u v : ℕ) → ended_before log u v ≡ true → log_has log v ≡ true
+ended_before-logged : (log : List Logged) (u v : ℕ) → ended_before log u v ≡ true → log_has log v ≡ true
 ended_before-logged log u v h = let r = ended_first-logged log u v in grind (arith, r)
 
 pub tail-distinct : (x : ℕ) (xs : List ℕ) → AreDistinct (x ∷ xs) → AreDistinct xs
@@ -264,7 +262,7 @@ ended_before-trans s h u v w j k =
     grind (arith, t, a, b, zero)
 
 -- a call more at the end of the log
-logged-more : (log : List Logged) (x : Logged) (u : ℕ) → log_has (log ++ x ∷ []) u ≡ (log_has log u || (x.version == u))
+pub logged-more : (log : List Logged) (x : Logged) (u : ℕ) → log_has (log ++ x ∷ []) u ≡ (log_has log u || (x.version == u))
 logged-more [] x u = grind arith
 logged-more (y ∷ ys) x u = let r = logged-more ys x u in grind (arith, r)
 

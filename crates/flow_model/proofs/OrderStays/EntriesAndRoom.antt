@@ -1,6 +1,6 @@
--- Each step keeps what is said of lists: one entry a call, room, framing calls without Marks and Dones, and the ended
--- part with a Done and no Frame.
+-- Each step keeps one entry a call, room, framing calls without Marks and Dones, and ended entries with a Done and no Frame.
 use Rattle.std.proofs.Common.{◌≡◌, ℕ, suc, ◌+◌, ◌<◌, ◌≤◌, Bool, true, false, ◌&&◌, not, ◌==◌, ◌⊎◌, ◌≢◌, inl, inr, refl, sym, ap, arith, List, [], ◌∷◌, length, true≢false, ◌∙◌, subst, Option, Some, None}
+use Rattle.std.specs.Prelude.{is_some}
 use Rattle.std.proofs.lemmas.Bool.Decides.{eqb_tells}
 use Rattle.signal_graph.specs.declared.call.Call.{Call}
 use Rattle.signal_graph.specs.Graph.{Graph, is_in}
@@ -9,28 +9,28 @@ use Rattle.node_versions.specs.declared.entry.State.TheVariants.{Mark, Frame, Do
 use Rattle.node_versions.specs.declared.entry.Entry.{Entry}
 use Rattle.node_versions.specs.Entries.{IsUnique, is_mark, is_frame, is_done, has, at, placed, with_state}
 use Rattle.flow_model.specs.declared.step.Step.{Step}
-use Rattle.flow_model.specs.Sets.{is_empty}
-use Rattle.flow_model.specs.State.{Core, LiveCall, call, call_of, call_or, some_call, live, executes, frames, entries, wants}
-use Rattle.flow_model.specs.Words.{has_room, is_idle}
-use Rattle.flow_model.specs.Changes.{stops, stops_call, new_entry}
-use Rattle.flow_model.specs.Steps.{allowed, apply, begin, new_call}
-use Rattle.flow_model.specs.Lawful.{IsLawful, IsEnded, HasDone, FramingComesLast, EndedIsPrefix, ended_before}
-use Rattle.flow_model.proofs.Truths.{same_number, equal_test, not_true, is_not_true, true_or_false}
-use Rattle.flow_model.proofs.Allowed.{and_right, executes-live, wants-live, at_front-executes}
-use Rattle.flow_model.proofs.States.{with_state-at, at-has}
-use Rattle.flow_model.proofs.PartsOfSteps.{step-parts}
-use Rattle.flow_model.proofs.Readers.{call_of-append, last_call, last_call-other}
-use Rattle.flow_model.proofs.ListFacts.{placed-unique, placed-length, placed-at_other, placed-at, with_state-unique, with_state-length, collected-unique, collected-length, collected-at, collected-done}
-use Rattle.flow_model.proofs.ListSteps.{ListStep, stays, marks, frames as frames_new, raises, finishes, collects, step-list}
-use Rattle.flow_model.proofs.PhasesOfSteps.{PhaseStep, stays as phases_stay, starts, ends, step-phases, phase-frames, phase-ended}
-use Rattle.flow_model.proofs.OrderOfSteps.{step-Standing, begin-Stood, not_begun-entry, standing-framing_last, standing-ended}
+use Rattle.flow_model.specs.Machine.Lists.{is_empty}
+use Rattle.flow_model.specs.Machine.State.{Core, LiveCall, call, call_of, call_or, live, executes, is_framing, entries, wants}
+use Rattle.flow_model.specs.Machine.Words.{has_room, is_idle}
+use Rattle.flow_model.specs.Machine.Changes.{stops, stops_call, new_entry}
+use Rattle.flow_model.specs.Machine.Steps.{allowed, apply, begin, new_call}
+use Rattle.flow_model.specs.Kept.Lawful.{IsLawful, IsEnded, HasDone, FramingComesLast, EndedIsPrefix, ended_before}
+use Rattle.flow_model.proofs.General.Truths.{same_number, equal_test, not_true, is_not_true, true_or_false}
+use Rattle.flow_model.proofs.OneStep.WhoMayStep.{and_right, executes-live, wants-live, at_front-executes}
+use Rattle.flow_model.proofs.OneList.StatesAndPlaces.{with_state-at, at-has}
+use Rattle.flow_model.proofs.OneStep.SameLengths.{step-parts}
+use Rattle.flow_model.proofs.OneList.CallsAndCells.{call_of-append, last_call, last_call-other}
+use Rattle.flow_model.proofs.OneList.OneEntryACall.{placed-unique, placed-length, placed-at_other, placed-at, with_state-unique, with_state-length, collected-unique, collected-length, collected-at, collected-done}
+use Rattle.flow_model.proofs.OneStep.ChangesOfOneList.{ListStep, stays, marks, frames, raises, finishes, collects, step-list}
+use Rattle.flow_model.proofs.OneStep.WhoLivesAndFrames.{PhaseStep, stays as phases_stay, starts, ends, step-phases, phase-is_framing, phase-ended}
+use Rattle.flow_model.proofs.OrderStays.AfterEachStep.{step-Standing, begin-Stood, not_begun-entry, standing-framing_last, standing-ended}
 
 -- ---- one entry a call
 
-pub list-unique : (graph : Graph) (s : Core) (n : ℕ) → IsUnique (entries s n) → (es : List Entry) → ListStep graph s n es → IsUnique es
+list-unique : (graph : Graph) (s : Core) (n : ℕ) → IsUnique (entries s n) → (es : List Entry) → ListStep graph s n es → IsUnique es
 list-unique graph s n q es (stays e) = subst IsUnique (sym e) q
 list-unique graph s n q es (marks t x h r e) = subst IsUnique (sym e) (placed-unique (stops_call s t) (new_entry s t Mark) (entries s n) h q)
-list-unique graph s n q es (frames_new t w h r e) = subst IsUnique (sym e) (placed-unique (stops_call s t) (new_entry s t Frame) (entries s n) h q)
+list-unique graph s n q es (frames t w h r e) = subst IsUnique (sym e) (placed-unique (stops_call s t) (new_entry s t Frame) (entries s n) h q)
 list-unique graph s n q es (raises t w m e) = subst IsUnique (sym e) (with_state-unique t Frame (entries s n) q)
 list-unique graph s n q es (finishes t v c ps f e) = subst IsUnique (sym e) (with_state-unique t (Done v c ps) (entries s n) q)
 list-unique graph s n q es (collects e) = subst IsUnique (sym e) (collected-unique (λ v. not (live s v)) (entries s n) q)
@@ -40,16 +40,13 @@ step-one_entry graph s step h a n = list-unique graph s n (h.one_entry n) (entri
 
 -- ---- room
 
-room-more : (a b : ℕ) → (a < b) → suc a ≤ b
-room-more a b h = omega arith
-
 pub list-room : (graph : Graph) (s : Core) (n : ℕ) → length (entries s n) ≤ s.callers + 9 → (es : List Entry) → ListStep graph s n es → length es ≤ s.callers + 9
 list-room graph s n q es (stays e) = subst (λ (xs : List Entry). length xs ≤ s.callers + 9) (sym e) q
 list-room graph s n q es (marks t x h r e) = let l = placed-length (stops_call s t) (new_entry s t Mark) (entries s n) in subst (λ (xs : List Entry). length xs ≤ s.callers + 9) (sym e) (subst (λ (k : ℕ). k ≤ s.callers + 9) (sym l) (below r))
   where
     below : has_room s n ≡ true → suc (length (entries s n)) ≤ s.callers + 9
     below r = grind (arith, r)
-list-room graph s n q es (frames_new t w h r e) = let l = placed-length (stops_call s t) (new_entry s t Frame) (entries s n) in subst (λ (xs : List Entry). length xs ≤ s.callers + 9) (sym e) (subst (λ (k : ℕ). k ≤ s.callers + 9) (sym l) (below r))
+list-room graph s n q es (frames t w h r e) = let l = placed-length (stops_call s t) (new_entry s t Frame) (entries s n) in subst (λ (xs : List Entry). length xs ≤ s.callers + 9) (sym e) (subst (λ (k : ℕ). k ≤ s.callers + 9) (sym l) (below r))
   where
     below : has_room s n ≡ true → suc (length (entries s n)) ≤ s.callers + 9
     below r = grind (arith, r)
@@ -64,7 +61,7 @@ other-list : (graph : Graph) (s : Core) (n u : ℕ) (test : State → Bool) → 
     → ((t : ℕ) → executes s t ≡ true → t ≢ u) → ((t : ℕ) → wants s t n ≡ true → (t ≢ u) ⊎ (test Frame ≡ false)) → (es : List Entry) → ListStep graph s n es → at test es u ≡ false
 other-list graph s n u test q none ex wa es (stays e) = subst (λ (xs : List Entry). at test xs u ≡ false) (sym e) none
 other-list graph s n u test q none ex wa es (marks t x h r e) = subst (λ (xs : List Entry). at test xs u ≡ false) (sym e) (placed-at_other test (stops_call s t) (new_entry s t Mark) (entries s n) u (λ k. ex t x (sym k)) ∙ none)
-other-list graph s n u test q none ex wa es (frames_new t w h r e) = subst (λ (xs : List Entry). at test xs u ≡ false) (sym e) (go (true_or_false (u == t)) (wa t w))
+other-list graph s n u test q none ex wa es (frames t w h r e) = subst (λ (xs : List Entry). at test xs u ≡ false) (sym e) (go (true_or_false (u == t)) (wa t w))
   where
     go : ((u == t) ≡ true) ⊎ ((u == t) ≡ false) → (t ≢ u) ⊎ (test Frame ≡ false) → at test (placed (stops s t) (new_entry s t Frame) (entries s n)) u ≡ false
     go (inl k) (inl ne) = absurd (ne (sym (same_number u t k)))
@@ -87,7 +84,7 @@ other-list graph s n u test q none ex wa es (collects e) = subst (λ (xs : List 
 
 -- ---- framing calls
 
-framing-other : (s : Core) (u : ℕ) → frames s u ≡ true → (t : ℕ) → executes s t ≡ true → t ≢ u
+framing-other : (s : Core) (u : ℕ) → is_framing s u ≡ true → (t : ℕ) → executes s t ≡ true → t ≢ u
 framing-other s u f t x e = let y = subst (λ (v : ℕ). executes s v ≡ true) e x in let g = and_right _ _ f in both (executes s u) y g
   where
     both : (b : Bool) → b ≡ true → not b ≡ true → ⊥
@@ -99,13 +96,13 @@ step-FramingComesLast graph s step h a =
     let p = step-phases graph s step a in
     record {
       before = standing-framing_last (apply graph s step) (ended_before (apply graph s step).log) (step-Standing graph s step h a);
-      no_mark = λ u n f. let g = phase-frames s (apply graph s step) p u f in other-list graph s n u is_mark (h.one_entry n) (h.framing_comes_last.no_mark u n g) (framing-other s u g) (λ t w. inr refl) _ (step-list graph s step h a n);
-      no_done = λ u n f. let g = phase-frames s (apply graph s step) p u f in other-list graph s n u is_done (h.one_entry n) (h.framing_comes_last.no_done u n g) (framing-other s u g) (λ t w. inr refl) _ (step-list graph s step h a n);
+      no_mark = λ u n f. let g = phase-is_framing s (apply graph s step) p u f in other-list graph s n u is_mark (h.one_entry n) (h.framing_comes_last.no_mark u n g) (framing-other s u g) (λ t w. inr refl) _ (step-list graph s step h a n);
+      no_done = λ u n f. let g = phase-is_framing s (apply graph s step) p u f in other-list graph s n u is_done (h.one_entry n) (h.framing_comes_last.no_done u n g) (framing-other s u g) (λ t w. inr refl) _ (step-list graph s step h a n);
     }
 
 -- ---- ended calls
 
-pub live-other : (s : Core) (u : ℕ) → live s u ≡ false → (t : ℕ) → live s t ≡ true → t ≢ u
+live-other : (s : Core) (u : ℕ) → live s u ≡ false → (t : ℕ) → live s t ≡ true → t ≢ u
 live-other s u e t l k = is_not_true _ e (subst (λ (v : ℕ). live s v ≡ true) k l)
 
 -- An idle call has no open node, and so no Frame.
@@ -136,7 +133,7 @@ step-no_frame graph s step h a n u e = go (true_or_false (live s u)) (step-phase
 ended-done : (graph : Graph) (s : Core) (n u : ℕ) → live s u ≡ false → at is_done (entries s n) u ≡ true → (es : List Entry) → ListStep graph s n es → (v : ℕ) × (live s v ≡ false) × (at is_done es v ≡ true)
 ended-done graph s n u e d es (stays q) = (u, e, subst (λ (xs : List Entry). at is_done xs u ≡ true) (sym q) d)
 ended-done graph s n u e d es (marks t x h r q) = (u, e, subst (λ (xs : List Entry). at is_done xs u ≡ true) (sym q) (placed-at_other is_done (stops_call s t) (new_entry s t Mark) (entries s n) u (λ k. live-other s u e t (executes-live s t x) (sym k)) ∙ d))
-ended-done graph s n u e d es (frames_new t w h r q) = (u, e, subst (λ (xs : List Entry). at is_done xs u ≡ true) (sym q) (placed-at_other is_done (stops_call s t) (new_entry s t Frame) (entries s n) u (λ k. live-other s u e t (wants-live s t n w) (sym k)) ∙ d))
+ended-done graph s n u e d es (frames t w h r q) = (u, e, subst (λ (xs : List Entry). at is_done xs u ≡ true) (sym q) (placed-at_other is_done (stops_call s t) (new_entry s t Frame) (entries s n) u (λ k. live-other s u e t (wants-live s t n w) (sym k)) ∙ d))
 ended-done graph s n u e d es (raises t w m q) = (u, e, subst (λ (xs : List Entry). at is_done xs u ≡ true) (sym q) (let k = other_test u t (live-other s u e t (wants-live s t n w)) in let r = with_state-at is_done t Frame (entries s n) u in grind (arith, k, r, d)))
   where
     other_test : (u t : ℕ) → t ≢ u → (u == t) ≡ false
@@ -172,24 +169,24 @@ step-EndedIsPrefix graph s step h a =
 
 -- ---- a call begins
 
-begin-frames : (graph : Graph) (s : Core) (caller : ℕ) (c : Call) (u : ℕ) → frames (begin graph s caller c) u ≡ true → (u == suc s.begun) ≡ false → frames s u ≡ true
-begin-frames graph s caller c u f ne =
+begin-is_framing : (graph : Graph) (s : Core) (caller : ℕ) (c : Call) (u : ℕ) → is_framing (begin graph s caller c) u ≡ true → (u == suc s.begun) ≡ false → is_framing s u ≡ true
+begin-is_framing graph s caller c u f ne =
     let e = call_of-append s.calls (new_call graph s caller c) u in
     let k : (suc s.begun == u) ≡ false = grind (arith, eqb_tells, ne) in
-    subst (λ (o : Option LiveCall). (some_call o && not (call_or o).executing) ≡ true) (e ∙ last_call-other (call_of s.calls u) (new_call graph s caller c) u k) f
+    subst (λ (o : Option LiveCall). (is_some o && not (call_or o).executing) ≡ true) (e ∙ last_call-other (call_of s.calls u) (new_call graph s caller c) u k) f
 
 begin-live : (graph : Graph) (s : Core) (caller : ℕ) (c : Call) (u : ℕ) → live (begin graph s caller c) u ≡ false → live s u ≡ false
-begin-live graph s caller c u e = let r = call_of-append s.calls (new_call graph s caller c) u in go (call_of s.calls u) refl (sym (ap (λ (o : Option LiveCall). some_call o) r) ∙ e)
+begin-live graph s caller c u e = let r = call_of-append s.calls (new_call graph s caller c) u in go (call_of s.calls u) refl (sym (ap (λ (o : Option LiveCall). is_some o) r) ∙ e)
   where
-    go : (o : Option LiveCall) → call_of s.calls u ≡ o → some_call (last_call o (new_call graph s caller c) u) ≡ false → some_call (call_of s.calls u) ≡ false
-    go None k f = ap some_call k
+    go : (o : Option LiveCall) → call_of s.calls u ≡ o → is_some (last_call o (new_call graph s caller c) u) ≡ false → is_some (call_of s.calls u) ≡ false
+    go None k f = ap is_some k
     go (Some x) k f = absurd (true≢false f)
 
 pub begin-FramingComesLast : (graph : Graph) (s : Core) (caller : ℕ) (c : Call) → IsLawful graph s → FramingComesLast (begin graph s caller c)
 begin-FramingComesLast graph s caller c h = record {
   before = standing-framing_last (begin graph s caller c) (ended_before s.log) (begin-Stood graph s caller c h);
-  no_mark = λ u n f. none is_mark u n (λ k. h.framing_comes_last.no_mark u n (begin-frames graph s caller c u f k));
-  no_done = λ u n f. none is_done u n (λ k. h.framing_comes_last.no_done u n (begin-frames graph s caller c u f k));
+  no_mark = λ u n f. none is_mark u n (λ k. h.framing_comes_last.no_mark u n (begin-is_framing graph s caller c u f k));
+  no_done = λ u n f. none is_done u n (λ k. h.framing_comes_last.no_done u n (begin-is_framing graph s caller c u f k));
 }
   where
     none : (test : State → Bool) (u n : ℕ) → ((u == suc s.begun) ≡ false → at test (entries s n) u ≡ false) → at test (entries s n) u ≡ false
@@ -216,4 +213,4 @@ begin-EndedIsPrefix graph s caller c h =
         still (inl k) = absurd (is_not_true _ (not_begun-entry graph s h n) (subst (λ (v : ℕ). has (entries s n) v ≡ true) (same_number d.0 (suc s.begun) k) (at-has is_done (entries s n) d.0 d.2)))
         still (inr k) =
             let j : (suc s.begun == d.0) ≡ false = grind (arith, eqb_tells, k) in
-            ap (λ (o : Option LiveCall). some_call o) (call_of-append s.calls (new_call graph s caller c) d.0 ∙ last_call-other (call_of s.calls d.0) (new_call graph s caller c) d.0 j) ∙ d.1
+            ap (λ (o : Option LiveCall). is_some o) (call_of-append s.calls (new_call graph s caller c) d.0 ∙ last_call-other (call_of s.calls d.0) (new_call graph s caller c) d.0 j) ∙ d.1

@@ -1,33 +1,27 @@
--- A call that begins names what it has to, within the limits.
+-- A call that begins names what it has to, within the limits, and finds a free slot.
 use Rattle.std.proofs.Common.{◌≡◌, ℕ, zero, suc, ◌+◌, ◌<◌, ◌≤◌, Bool, true, false, ◌||◌, ◌==◌, ◌⊎◌, inl, inr, refl, sym, ap, arith, List, [], ◌∷◌, length, map, true≢false, ◌∙◌, subst, Option, Some, None}
+use Rattle.std.specs.Prelude.{is_some}
 use Rattle.std.specs.Prelude.{is_none, nat_le}
 use Rattle.script_tree.specs.declared.limits.TheConstants.{SETS, LOOKS}
 use Rattle.signal_graph.specs.declared.call.Call.{Call}
 use Rattle.script_tree.specs.declared.value.Value.{Value}
-use Rattle.signal_graph.specs.Graph.{Graph, number_of}
+use Rattle.signal_graph.specs.Graph.{Graph, number_of, is_in}
 use Rattle.signal_graph.specs.Machine.{misnamed, sets_of, looks_of}
-use Rattle.flow_model.specs.State.{Core, LiveCall, call, call_of, call_or, some_call, live}
+use Rattle.flow_model.specs.Machine.State.{Core, LiveCall, call, call_of, call_or, live}
 use Rattle.std.specs.List.{list_any}
-use Rattle.signal_graph.specs.Graph.{is_in}
 use Rattle.call_log.specs.Made.{versions_in}
-use Rattle.flow_model.specs.Steps.{can_begin, begin, new_call, has_call, uses_slot, free_slot}
-use Rattle.flow_model.specs.Lawful.{IsLawful, IsCallRight, RoomIsKept, VersionsAreFresh, AreDistinct, times}
-use Rattle.flow_model.proofs.Truths.{or_left, or_right, same_number, equal_test, is_not_true, true_or_false}
-use Rattle.flow_model.proofs.Allowed.{and_left, and_right, not_is}
-use Rattle.flow_model.proofs.Readers.{call_of-append, last_call-other, last_call-it}
-use Rattle.flow_model.proofs.Versions.{not_begun-live, times-append, times-in, in-times}
-use Rattle.flow_model.proofs.Pigeons.{total-missing, total-all, total-ones, total-length, field-distinct, Holder, holder, any-field, IsFreeSlot, find-slot}
+use Rattle.flow_model.specs.Machine.Steps.{can_begin, begin, new_call, has_call, uses_slot, free_slot}
+use Rattle.flow_model.specs.Kept.Lawful.{IsLawful, IsCallRight, RoomIsKept, VersionsAreFresh, AreDistinct, times}
+use Rattle.flow_model.proofs.General.Truths.{or_left, or_right, same_number, equal_test, is_not_true, true_or_false}
+use Rattle.flow_model.proofs.OneStep.WhoMayStep.{and_left, and_right, not_is}
+use Rattle.flow_model.proofs.OneList.CallsAndCells.{call_of-append, last_call-other, last_call-it}
+use Rattle.flow_model.proofs.OneStep.VersionsStayFresh.{not_begun-live, times-append, times-in, in-times}
+use Rattle.flow_model.proofs.General.Pigeons.{total-missing, total-all, total-ones, total-length, field-distinct, Holder, holder, any-field, IsFreeSlot, find-slot}
+use Rattle.flow_model.proofs.General.AnyAndAll.{length-map, at_most}
 
 none-is : (o : Option ℕ) → is_none o ≡ true → o ≡ None
 none-is None h = refl
 none-is (Some x) h = absurd (true≢false (sym h))
-
-pub length-map : {A B : Type 0} (f : A → B) (xs : List A) → length (map f xs) ≡ length xs
-length-map f [] = refl
-length-map f (x ∷ xs) = ap suc (length-map f xs)
-
-at_most : (a b : ℕ) → nat_le a b ≡ true → a ≤ b
-at_most a b h = grind arith
 
 pub begin-well_named : (graph : Graph) (s : Core) (caller : ℕ) (c : Call) → can_begin graph s caller c ≡ true → misnamed graph c ≡ None
 begin-well_named graph s caller c h = none-is (misnamed graph c) (and_right _ _ (and_left _ _ h))
@@ -47,7 +41,7 @@ begin-call graph s h caller c u = go (true_or_false (suc s.begun == u))
   where
     gone : (o : Option LiveCall) → call_of s.calls (suc s.begun) ≡ o → call_of s.calls (suc s.begun) ≡ None
     gone None e = e
-    gone (Some x) e = absurd (is_not_true _ (not_begun-live s h.versions_are_fresh) (ap some_call e))
+    gone (Some x) e = absurd (is_not_true _ (not_begun-live s h.versions_are_fresh) (ap is_some e))
 
     go : ((suc s.begun == u) ≡ true) ⊎ ((suc s.begun == u) ≡ false) → ((call_of (begin graph s caller c).calls u ≡ call_of s.calls u) × ((suc s.begun == u) ≡ false)) ⊎ ((u ≡ suc s.begun) × (call_of (begin graph s caller c).calls u ≡ Some (new_call graph s caller c)))
     go (inr k) = inl (call_of-append s.calls (new_call graph s caller c) u ∙ last_call-other (call_of s.calls u) (new_call graph s caller c) u k, k)
@@ -61,16 +55,16 @@ pub begin-calls_right : (graph : Graph) (s : Core) (caller : ℕ) (c : Call) →
 begin-calls_right graph s caller c h a u l = go (begin-call graph s h caller c u)
   where
     go : ((call_of (begin graph s caller c).calls u ≡ call_of s.calls u) × ((suc s.begun == u) ≡ false)) ⊎ ((u ≡ suc s.begun) × (call_of (begin graph s caller c).calls u ≡ Some (new_call graph s caller c))) → IsCallRight graph (call (begin graph s caller c) u)
-    go (inl e) = subst (λ (o : Option LiveCall). IsCallRight graph (call_or o)) (sym e.0) (h.calls_are_right u (ap some_call (sym e.0) ∙ l))
+    go (inl e) = subst (λ (o : Option LiveCall). IsCallRight graph (call_or o)) (sym e.0) (h.calls_are_right u (ap is_some (sym e.0) ∙ l))
     go (inr e) = subst (λ (o : Option LiveCall). IsCallRight graph (call_or o)) (sym e.1) (new-right graph s caller c a)
 
 -- ---- a caller without a live call finds a free slot
 
-reads-in : (test : LiveCall → Bool) (cs : List LiveCall) (v : ℕ) → some_call (call_of cs v) ≡ true → test (call_or (call_of cs v)) ≡ true → list_any test cs ≡ true
+pub reads-in : (test : LiveCall → Bool) (cs : List LiveCall) (v : ℕ) → is_some (call_of cs v) ≡ true → test (call_or (call_of cs v)) ≡ true → list_any test cs ≡ true
 reads-in test [] v h k = absurd (true≢false (sym h))
 reads-in test (c ∷ cs) v h k = go (true_or_false (c.version == v)) (reads-in test cs v)
   where
-    go : ((c.version == v) ≡ true) ⊎ ((c.version == v) ≡ false) → (some_call (call_of cs v) ≡ true → test (call_or (call_of cs v)) ≡ true → list_any test cs ≡ true) → (test c || list_any test cs) ≡ true
+    go : ((c.version == v) ≡ true) ⊎ ((c.version == v) ≡ false) → (is_some (call_of cs v) ≡ true → test (call_or (call_of cs v)) ≡ true → list_any test cs ≡ true) → (test c || list_any test cs) ≡ true
     go (inl e) f = or_left _ _ (rw (e, call_of) at k)
     go (inr e) f = or_right _ _ (f (rw (e, call_of) at h) (rw (e, call_of) at k))
 
@@ -78,7 +72,7 @@ pub calls-distinct : (s : Core) → VersionsAreFresh s → AreDistinct (map (λ 
 calls-distinct s h x = let r = h.distinct x in let e = times-append x (map (λ (c : LiveCall). c.version) s.calls) (versions_in s.log) in omega (arith, r, e)
 
 -- There are fewer live calls than callers.
-pub few-calls : (graph : Graph) (s : Core) → IsLawful graph s → (caller : ℕ) → 1 ≤ caller → caller ≤ s.callers → has_call caller s.calls ≡ false → length s.calls < s.callers
+few-calls : (graph : Graph) (s : Core) → IsLawful graph s → (caller : ℕ) → 1 ≤ caller → caller ≤ s.callers → has_call caller s.calls ≡ false → length s.calls < s.callers
 few-calls graph s h caller a b none =
     let cs = map (λ (c : LiveCall). c.caller) s.calls in
     let d = field-distinct (λ c. c.caller) s.calls (calls-distinct s h.versions_are_fresh) (λ u v k l e. h.room_is_kept.callers_apart u v k l e) in
@@ -98,7 +92,7 @@ few-calls graph s h caller a b none =
     inside : (x : ℕ) → Holder (λ c. c.caller) s.calls x → (1 ≤ x) × (x < 1 + s.callers)
     inside x p = let f = h.room_is_kept.callers_fit p.version p.known in subst (λ (k : ℕ). (1 ≤ k) × (k < 1 + s.callers)) p.value (f.0, (let g = f.1 in omega (arith, g)))
 
-pub slot-free : (graph : Graph) (s : Core) → IsLawful graph s → length s.calls < s.callers → IsFreeSlot s.callers 0 s.calls
+slot-free : (graph : Graph) (s : Core) → IsLawful graph s → length s.calls < s.callers → IsFreeSlot s.callers 0 s.calls
 slot-free graph s h few = go (find-slot s.callers 0 s.calls)
   where
     go : IsFreeSlot s.callers 0 s.calls ⊎ ((x : ℕ) → 0 ≤ x → x < 0 + s.callers → uses_slot x s.calls ≡ true) → IsFreeSlot s.callers 0 s.calls
@@ -110,13 +104,13 @@ slot-free graph s h few = go (find-slot s.callers 0 s.calls)
         let l = length-map (λ (c : LiveCall). c.slot) s.calls in
         absurd (omega (arith, o, t, l, few))
 
-begin-first : (graph : Graph) (s : Core) (caller : ℕ) (c : Call) → can_begin graph s caller c ≡ true → nat_le 1 caller ≡ true
+pub begin-first : (graph : Graph) (s : Core) (caller : ℕ) (c : Call) → can_begin graph s caller c ≡ true → nat_le 1 caller ≡ true
 begin-first graph s caller c a = and_left _ _ (and_left _ _ (and_left _ _ (and_left _ _ (and_left _ _ (and_left _ _ a)))))
 
-begin-last : (graph : Graph) (s : Core) (caller : ℕ) (c : Call) → can_begin graph s caller c ≡ true → nat_le caller s.callers ≡ true
+pub begin-last : (graph : Graph) (s : Core) (caller : ℕ) (c : Call) → can_begin graph s caller c ≡ true → nat_le caller s.callers ≡ true
 begin-last graph s caller c a = and_right _ _ (and_left _ _ (and_left _ _ (and_left _ _ (and_left _ _ (and_left _ _ a)))))
 
-begin-none : (graph : Graph) (s : Core) (caller : ℕ) (c : Call) → can_begin graph s caller c ≡ true → has_call caller s.calls ≡ false
+pub begin-none : (graph : Graph) (s : Core) (caller : ℕ) (c : Call) → can_begin graph s caller c ≡ true → has_call caller s.calls ≡ false
 begin-none graph s caller c a = not_is _ (and_right _ _ (and_left _ _ (and_left _ _ (and_left _ _ (and_left _ _ a)))))
 
 pub begin-RoomIsKept : (graph : Graph) (s : Core) (caller : ℕ) (c : Call) → IsLawful graph s → can_begin graph s caller c ≡ true → RoomIsKept (begin graph s caller c)
@@ -147,7 +141,7 @@ begin-RoomIsKept graph s caller c h a = record {
     slot = slot-free graph s h (few-calls graph s h caller (at_most 1 caller first) (at_most caller s.callers last) none)
 
     old : (u : ℕ) → live q u ≡ true → call_of q.calls u ≡ call_of s.calls u → live s u ≡ true
-    old u l e = ap some_call (sym e) ∙ l
+    old u l e = ap is_some (sym e) ∙ l
 
     read : (f : LiveCall → ℕ) (u : ℕ) → call_of q.calls u ≡ call_of s.calls u → f (call q u) ≡ f (call s u)
     read f u e = ap (λ (o : Option LiveCall). f (call_or o)) e

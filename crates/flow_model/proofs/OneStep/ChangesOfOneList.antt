@@ -1,4 +1,4 @@
--- What a step does to one node's list.
+-- A step leaves a node's list, places a Mark or a Frame there, raises a Mark, finishes at a first Frame, or collects.
 use Rattle.std.proofs.Common.{◌≡◌, ℕ, Bool, true, false, ◌||◌, ◌⊎◌, inl, inr, refl, sym, ap, arith, List, ◌∙◌, subst, Option}
 use Rattle.script_tree.specs.declared.value.Value.{Value}
 use Rattle.signal_graph.specs.Graph.{Graph}
@@ -7,14 +7,14 @@ use Rattle.node_versions.specs.declared.entry.Entry.{Entry}
 use Rattle.node_versions.specs.Entries.{has, at, is_mark, placed, with_state, collected}
 use Rattle.flow_model.specs.declared.step.Step.{Step}
 use Rattle.flow_model.specs.declared.step.Step.TheVariants as steps
-use Rattle.flow_model.specs.State.{Core, Cell, ended, executes, wants, entries, with_cell}
-use Rattle.flow_model.specs.Words.{at_front, has_room, value_now, found_picks}
-use Rattle.flow_model.specs.Changes.{stops, new_entry, place_entry, set_state, enter, raise, ensure_mark, finish, add_edge, drop_edge}
-use Rattle.flow_model.specs.Steps.{allowed, apply, open_node, frame, has_room_for, is_change, collect}
-use Rattle.flow_model.specs.Lawful.{IsLawful}
-use Rattle.flow_model.proofs.Allowed.{and_left, and_right, frame-wants, skip-turn, resolve-turn, turn-at_front, at_front-executes, due-turn, discover-due, drop-due, mark-executes, mark-no_entry}
-use Rattle.flow_model.proofs.Enter.{with_cell-entries}
-use Rattle.flow_model.proofs.OrderOfSteps.{wanted-fresh}
+use Rattle.flow_model.specs.Machine.State.{Core, Cell, ended, executes, wants, entries, with_cell}
+use Rattle.flow_model.specs.Machine.Words.{at_front, has_room, value_now, found_picks}
+use Rattle.flow_model.specs.Machine.Changes.{stops, new_entry, place_entry, set_state, enter, raise, ensure_mark, finish, add_edge, drop_edge}
+use Rattle.flow_model.specs.Machine.Steps.{allowed, apply, open_node, frame, has_room_for, is_change, collect}
+use Rattle.flow_model.specs.Kept.Lawful.{IsLawful}
+use Rattle.flow_model.proofs.OneStep.WhoMayStep.{and_left, and_right, frame-wants, skip-can_work, resolve-can_work, can_work-at_front, at_front-executes, due-can_work, discover-due, drop-due, mark-executes, mark-no_entry}
+use Rattle.flow_model.proofs.OneList.Entering.{with_cell-entries}
+use Rattle.flow_model.proofs.OrderStays.AfterEachStep.{wanted-fresh}
 
 -- the list of node n after a step
 pub data ListStep (graph : Graph) (s : Core) (n : ℕ) : List Entry → Type 0 where
@@ -75,13 +75,13 @@ frame-list graph s t n m h a = go (at is_mark (entries s n) t) refl
 pub step-list : (graph : Graph) (s : Core) (step : Step) → IsLawful graph s → allowed graph s step ≡ true → (m : ℕ) → ListStep graph s m (entries (apply graph s step) m)
 step-list graph s (steps.Frame t n) h a m = frame-list graph s t n m h a
 step-list graph s (steps.Start t) h a m = stays refl
-step-list graph s (steps.Skip t n) h a m = finished graph s t n m _ _ _ (turn-at_front graph s t n (skip-turn graph s t n a))
+step-list graph s (steps.Skip t n) h a m = finished graph s t n m _ _ _ (can_work-at_front graph s t n (skip-can_work graph s t n a))
 step-list graph s (steps.Gather t n i) h a m = after_same graph s s n _ (λ c. refl) m (stays refl)
 step-list graph s (steps.Evaluate t n) h a m = after_same graph s s n _ (λ c. refl) m (stays refl)
 step-list graph s (steps.Body t n) h a m = after_same graph s s n _ (λ c. refl) m (stays refl)
-step-list graph s (steps.Resolve t n) h a m = after_same graph s (finish s t n (value_now graph s t n) (is_change graph s t n) (found_picks s n)) n _ (λ c. refl) m (finished graph s t n m _ _ _ (turn-at_front graph s t n (resolve-turn graph s t n a)))
-step-list graph s (steps.Discover t n c) h a m = after_same graph s (ensure_mark s t c) c (add_edge n t) (λ c. refl) m (ensured graph s t c m (at_front-executes graph s t n (turn-at_front graph s t n (due-turn graph s t n (discover-due graph s t n c a)))) (and_right _ _ a))
-step-list graph s (steps.Drop t n o) h a m = after_same graph s (ensure_mark s t o) o (drop_edge n) (λ c. refl) m (ensured graph s t o m (at_front-executes graph s t n (turn-at_front graph s t n (due-turn graph s t n (drop-due graph s t n o a)))) (and_right _ _ a))
+step-list graph s (steps.Resolve t n) h a m = after_same graph s (finish s t n (value_now graph s t n) (is_change graph s t n) (found_picks s n)) n _ (λ c. refl) m (finished graph s t n m _ _ _ (can_work-at_front graph s t n (resolve-can_work graph s t n a)))
+step-list graph s (steps.Discover t n c) h a m = after_same graph s (ensure_mark s t c) c (add_edge n t) (λ c. refl) m (ensured graph s t c m (at_front-executes graph s t n (can_work-at_front graph s t n (due-can_work graph s t n (discover-due graph s t n c a)))) (and_right _ _ a))
+step-list graph s (steps.Drop t n o) h a m = after_same graph s (ensure_mark s t o) o (drop_edge n) (λ c. refl) m (ensured graph s t o m (at_front-executes graph s t n (can_work-at_front graph s t n (due-can_work graph s t n (drop-due graph s t n o a)))) (and_right _ _ a))
 step-list graph s (steps.Mark t n) h a m = one_list graph s n m (place_entry s t Mark) (placed (stops s t) (new_entry s t Mark)) (λ c. refl) (λ es q. marks t (mark-executes graph s t n a) (mark-no_entry graph s t n a) (and_right _ _ (and_left _ _ a)) q)
 step-list graph s (steps.Look t) h a m = stays refl
 step-list graph s (steps.End t) h a m = stays refl

@@ -1,5 +1,6 @@
 -- The open nodes of a call are those with its Frame, after each step.
 use Rattle.std.proofs.Common.{◌≡◌, ℕ, zero, suc, Bool, true, false, ◌&&◌, ◌||◌, not, ◌==◌, ◌⊎◌, inl, inr, refl, sym, ap, arith, List, [], ◌∷◌, true≢false, ◌∙◌, subst, Option, Some, None, length, ◌<◌, slice_index_or}
+use Rattle.std.specs.Prelude.{is_some}
 use Rattle.signal_graph.specs.declared.call.Call.{Call}
 use Rattle.signal_graph.specs.Graph.{Graph, is_in}
 use Rattle.script_tree.specs.declared.value.Value.{Value}
@@ -9,30 +10,31 @@ use Rattle.node_versions.specs.declared.entry.Entry.{Entry}
 use Rattle.node_versions.specs.Entries.{has, at, is_mark, is_frame, collected}
 use Rattle.flow_model.specs.declared.step.Step.{Step}
 use Rattle.flow_model.specs.declared.step.Step.TheVariants as steps
-use Rattle.flow_model.specs.State.{Core, LiveCall, Cell, call, call_of, call_or, some_call, cell, no_cell, live, ended, entries, opens, wants, change_cell, with_cell, with_call}
-use Rattle.flow_model.specs.Words.{is_idle, at_front, found_now, value_now, found_picks}
-use Rattle.flow_model.specs.Changes.{stops_call, new_entry, place_entry, set_state, enter, raise, ensure_mark, opened, closed, finish, tell_call, add_edge, drop_edge, cleared}
-use Rattle.flow_model.specs.Steps.{allowed, apply, begin, new_call, open_node, frame, started, counted, keep_found, is_change, collect}
-use Rattle.flow_model.specs.Lawful.{IsLawful, FramesAreOpen}
-use Rattle.flow_model.proofs.Truths.{same_number, equal_test, other_number, not_true, is_not_true, true_or_false}
-use Rattle.flow_model.proofs.Allowed.{executes-live, wants-live, frame-wants, skip-turn, resolve-turn, turn-at_front, at_front-executes, at_front-heads, mark-no_entry, end-idle}
-use Rattle.flow_model.proofs.Sets.{in-put, in-take_out}
-use Rattle.flow_model.proofs.States.{with_state-at, at-has, first_open-frame}
-use Rattle.flow_model.proofs.ListFacts.{placed-at_other, placed-at, collected-at, collected-at_live}
-use Rattle.flow_model.proofs.Readers.{with_call-field, with_call-keeps, map_call-keeps, call_of-append, last_call-other, last_call-it, without_call-other, without_call-same}
-use Rattle.flow_model.proofs.Enter.{with_cell-cell}
-use Rattle.flow_model.proofs.FramesLast.{list-last, head-first}
-use Rattle.flow_model.proofs.ListSteps.{step-list}
-use Rattle.flow_model.proofs.OrderOfSteps.{wanted-fresh, not_begun-entry}
-use Rattle.flow_model.proofs.Versions.{not_begun-live}
-use Rattle.flow_model.proofs.ListsOfSteps.{idle-no_frame}
+use Rattle.flow_model.specs.Machine.Lists.{change_at}
+use Rattle.flow_model.specs.Machine.State.{Core, LiveCall, Cell, call, call_of, call_or, cell, no_cell, live, ended, entries, opens, wants, with_cell, with_call}
+use Rattle.flow_model.specs.Machine.Words.{is_idle, at_front, found_now, value_now, found_picks}
+use Rattle.flow_model.specs.Machine.Changes.{stops_call, new_entry, place_entry, set_state, enter, raise, ensure_mark, opened, closed, finish, tell_call, add_edge, drop_edge, cleared}
+use Rattle.flow_model.specs.Machine.Steps.{allowed, apply, begin, new_call, open_node, frame, started, counted, keep_found, is_change, collect}
+use Rattle.flow_model.specs.Kept.Lawful.{IsLawful, FramesAreOpen}
+use Rattle.flow_model.proofs.General.Truths.{same_number, equal_test, other_number, not_true, is_not_true, true_or_false}
+use Rattle.flow_model.proofs.OneStep.WhoMayStep.{executes-live, wants-live, frame-wants, skip-can_work, resolve-can_work, can_work-at_front, at_front-executes, at_front-heads, mark-no_entry, end-idle}
+use Rattle.flow_model.proofs.General.Sets.{in-put, in-take_out}
+use Rattle.flow_model.proofs.OneList.StatesAndPlaces.{with_state-at, at-has, first_open-frame}
+use Rattle.flow_model.proofs.OneList.OneEntryACall.{placed-at_other, placed-at, collected-at, collected-at_live}
+use Rattle.flow_model.proofs.OneList.CallsAndCells.{with_call-field, with_call-keeps, map_call-keeps, call_of-append, last_call-other, last_call-it, without_call-other, without_call-same}
+use Rattle.flow_model.proofs.OneList.Entering.{with_cell-cell}
+use Rattle.flow_model.proofs.OrderStays.NoFrameBeforeDones.{list-last, head-first}
+use Rattle.flow_model.proofs.OneStep.ChangesOfOneList.{step-list}
+use Rattle.flow_model.proofs.OrderStays.AfterEachStep.{wanted-fresh, not_begun-entry}
+use Rattle.flow_model.proofs.OneStep.VersionsStayFresh.{not_begun-live}
+use Rattle.flow_model.proofs.OrderStays.EntriesAndRoom.{idle-no_frame}
 
 -- ---- cells that are there
 
 pub cell-there : (s : Core) (n : ℕ) (f : Cell → Cell) → n < length s.cells → cell (with_cell s n f) n ≡ f (cell s n)
 cell-there s n f h = go n s.cells h
   where
-    go : (n : ℕ) (cs : List Cell) → n < length cs → slice_index_or (change_cell n f cs) n no_cell ≡ f (slice_index_or cs n no_cell)
+    go : (n : ℕ) (cs : List Cell) → n < length cs → slice_index_or (change_at n f cs) n no_cell ≡ f (slice_index_or cs n no_cell)
     go n [] h = absurd (omega arith)
     go zero (c ∷ cs) h = refl
     go (suc n) (c ∷ cs) h = go n cs (omega arith)
@@ -212,13 +214,13 @@ ended-opens graph s h t i u m = go (true_or_false (u == t))
 step-opens : (graph : Graph) (s : Core) (step : Step) → IsLawful graph s → allowed graph s step ≡ true → Opens (apply graph s step)
 step-opens graph s (steps.Frame t n) h a = framed-opens graph s h t n a
 step-opens graph s (steps.Start t) h a = opens-kept s (apply graph s (steps.Start t)) h.frames_are_open.opens_frames (same_opens s t started (λ c. refl) (λ c. refl)) (λ u m. refl)
-step-opens graph s (steps.Skip t n) h a = finished-opens graph s h t n _ _ _ (turn-at_front graph s t n (skip-turn graph s t n a))
+step-opens graph s (steps.Skip t n) h a = finished-opens graph s h t n _ _ _ (can_work-at_front graph s t n (skip-can_work graph s t n a))
 step-opens graph s (steps.Gather t n i) h a = opens-kept s (apply graph s (steps.Gather t n i)) h.frames_are_open.opens_frames (λ u m. refl) (same_lists s n _ (λ c. refl))
 step-opens graph s (steps.Evaluate t n) h a = opens-kept s (apply graph s (steps.Evaluate t n)) h.frames_are_open.opens_frames (same_opens (with_cell s n (keep_found (found_now graph s t n))) t counted (λ c. refl) (λ c. refl)) (same_lists s n _ (λ c. refl))
 step-opens graph s (steps.Body t n) h a = opens-kept s (apply graph s (steps.Body t n)) h.frames_are_open.opens_frames (λ u m. refl) (same_lists s n _ (λ c. refl))
 step-opens graph s (steps.Resolve t n) h a =
     let q = finish s t n (value_now graph s t n) (is_change graph s t n) (found_picks s n) in
-    opens-kept q (apply graph s (steps.Resolve t n)) (finished-opens graph s h t n _ _ _ (turn-at_front graph s t n (resolve-turn graph s t n a))) (λ u m. refl) (same_lists q n cleared (λ c. refl))
+    opens-kept q (apply graph s (steps.Resolve t n)) (finished-opens graph s h t n _ _ _ (can_work-at_front graph s t n (resolve-can_work graph s t n a))) (λ u m. refl) (same_lists q n cleared (λ c. refl))
 step-opens graph s (steps.Discover t n c) h a =
     let q = ensure_mark s t c in
     let e = with_cell q c (add_edge n t) in
@@ -247,4 +249,4 @@ begin-FramesAreOpen graph s caller c h = record { behind_dones = h.frames_are_op
       where
         gone : (o : Option LiveCall) → call_of s.calls (suc s.begun) ≡ o → call_of s.calls (suc s.begun) ≡ None
         gone None e = e
-        gone (Some x) e = absurd (is_not_true _ (not_begun-live s h.versions_are_fresh) (ap some_call e))
+        gone (Some x) e = absurd (is_not_true _ (not_begun-live s h.versions_are_fresh) (ap is_some e))
