@@ -1,4 +1,4 @@
--- Which nodes react to a call's change of a node, after lists and out-edges change.
+-- A node that reacts after lists and out-edges change reacted before, where its runs are the same and none covers more.
 use Rattle.std.proofs.Common.{◌≡◌, ℕ, suc, Bool, true, false, ◌&&◌, ◌||◌, not, ◌==◌, ◌⊎◌, inl, inr, refl, sym, ap, arith, List, [], ◌∷◌, ◌++◌, ◌∙◌, subst, Option, Some, None}
 use Rattle.std.specs.Prelude.{slice_get}
 use Rattle.std.specs.List.{list_any}
@@ -8,12 +8,12 @@ use Rattle.node_versions.specs.declared.entry.State.{State}
 use Rattle.node_versions.specs.declared.entry.State.TheVariants.{Mark}
 use Rattle.node_versions.specs.declared.entry.Entry.{Entry}
 use Rattle.node_versions.specs.Entries.{OutEdge, has, is_frame, behind, up_to, first_open, is_active, has_out, has_node, front, rest, placed}
-use Rattle.flow_model.specs.State.{Core, live, entries, outs}
-use Rattle.flow_model.specs.Changes.{stops}
-use Rattle.flow_model.specs.Runs.{Run, Reading, read_state, read_all, nothing_read, last_run, discovered, runs, is_from, is_until, covers, reacts}
-use Rattle.flow_model.proofs.Truths.{or_cases, or_left, or_right, and_both, and_make, same_number, equal_test, is_not_true, true_or_false}
-use Rattle.flow_model.proofs.Lists.{on_calls, front-rest}
-use Rattle.flow_model.proofs.States.{more-has, more-behind, behind-has}
+use Rattle.flow_model.specs.Machine.State.{Core, live, entries, outs}
+use Rattle.flow_model.specs.Machine.Changes.{stops}
+use Rattle.flow_model.specs.Kept.Runs.{Run, Reading, read_state, read_all, nothing_read, last_run, discovered, runs, is_from, is_until, covers, reacts}
+use Rattle.flow_model.proofs.General.Truths.{or_cases, or_left, or_right, and_both, and_make, same_number, equal_test, is_not_true, true_or_false}
+use Rattle.flow_model.proofs.OneList.InOrder.{on_calls, front-rest}
+use Rattle.flow_model.proofs.OneList.StatesAndPlaces.{more-has, more-behind, behind-has}
 
 -- the runs by a list and the out-edges at the candidate
 abbrev pub dropper_in : List Entry → List OutEdge → ℕ → Option ℕ
@@ -22,9 +22,6 @@ dropper_in es os n = elim (has_node os n) [ true ↦ None | false ↦ first_open
 abbrev pub runs_in : List Entry → List OutEdge → ℕ → ℕ → List Run
 runs_in es os n m = let q = read_all m es nothing_read in
     q.closed ++ last_run q.current (dropper_in es os n) ++ discovered (first_open es) n os
-
-pub runs-in : (s : Core) (n m : ℕ) → runs s n m ≡ runs_in (entries s n) (outs s m) n m
-runs-in s n m = refl
 
 -- the same list and out-edges
 pub same-runs : (s q : Core) (n m : ℕ) → entries q n ≡ entries s n → outs q m ≡ outs s m → runs q n m ≡ runs s n m
@@ -110,7 +107,7 @@ pub read_all-append : (m : ℕ) (xs ys : List Entry) (q : Reading) → read_all 
 read_all-append m [] ys q = refl
 read_all-append m (x ∷ xs) ys q = read_all-append m xs ys (read_state m x.version x.state q)
 
-marked-reading : (stops : ℕ → Bool) (m : ℕ) (e : Entry) (es : List Entry) (q : Reading) → e.state ≡ Mark → read_all m (placed (on_calls stops) e es) q ≡ read_all m es q
+pub marked-reading : (stops : ℕ → Bool) (m : ℕ) (e : Entry) (es : List Entry) (q : Reading) → e.state ≡ Mark → read_all m (placed (on_calls stops) e es) q ≡ read_all m es q
 marked-reading stops m e es q h =
     read_all-append m (front (on_calls stops) es) (e ∷ rest (on_calls stops) es) q
     ∙ ap (λ (x : State). read_all m (rest (on_calls stops) es) (read_state m e.version x (read_all m (front (on_calls stops) es) q))) h
@@ -121,7 +118,7 @@ pub more-first_open : (xs ys : List Entry) (e : Entry) → is_frame e.state ≡ 
 more-first_open [] ys e h = rw (h, first_open) refl
 more-first_open (x ∷ xs) ys e h = let r = more-first_open xs ys e h in grind (arith, r)
 
-marked-first_open : (stops : ℕ → Bool) (e : Entry) (es : List Entry) → is_frame e.state ≡ false → first_open (placed (on_calls stops) e es) ≡ first_open es
+pub marked-first_open : (stops : ℕ → Bool) (e : Entry) (es : List Entry) → is_frame e.state ≡ false → first_open (placed (on_calls stops) e es) ≡ first_open es
 marked-first_open stops e es h = more-first_open (front (on_calls stops) es) (rest (on_calls stops) es) e h ∙ ap first_open (front-rest stops es)
 
 pub marked-runs : (stops : ℕ → Bool) (e : Entry) (es : List Entry) (os : List OutEdge) (n m : ℕ) → e.state ≡ Mark → runs_in (placed (on_calls stops) e es) os n m ≡ runs_in es os n m
@@ -129,7 +126,7 @@ marked-runs stops e es os n m h =
     ap (λ (q : Reading). q.closed ++ last_run q.current (dropper_in (placed (on_calls stops) e es) os n) ++ discovered (first_open (placed (on_calls stops) e es)) n os) (marked-reading stops m e es nothing_read h)
     ∙ ap (λ (o : Option ℕ). (read_all m es nothing_read).closed ++ last_run (read_all m es nothing_read).current (elim (has_node os n) as (λ _. Option ℕ) [ true ↦ None | false ↦ o ]) ++ discovered o n os) (marked-first_open stops e es (ap is_frame h))
 
-pub more-up_to : (xs ys : List Entry) (e : Entry) (u b : ℕ) → (e.version == u) ≡ false → (e.version == b) ≡ false → has (up_to (xs ++ e ∷ ys) u) b ≡ has (up_to (xs ++ ys) u) b
+more-up_to : (xs ys : List Entry) (e : Entry) (u b : ℕ) → (e.version == u) ≡ false → (e.version == b) ≡ false → has (up_to (xs ++ e ∷ ys) u) b ≡ has (up_to (xs ++ ys) u) b
 more-up_to [] ys e u b h k = grind (arith, h, k)
 more-up_to (x ∷ xs) ys e u b h k = let r = more-up_to xs ys e u b h k in grind (arith, r)
 

@@ -8,17 +8,17 @@ use Rattle.signal_graph.specs.Values.{nodes_in}
 use Rattle.order_graph.specs.Order.{reaches}
 use Rattle.node_versions.specs.declared.entry.Entry.{Entry}
 use Rattle.node_versions.specs.Entries.{OutEdge, has, at, is_frame, is_done, behind, first_open, is_active, has_out, has_node, active_nodes, picks_at, picks_before}
-use Rattle.flow_model.specs.State.{Core, live, executes, frames, entries, outs, opens, wants, precedes}
-use Rattle.flow_model.specs.Words.{heads}
-use Rattle.flow_model.specs.Runs.{Run, Reading, read_all, nothing_read, last_run, dropper, discovered, runs, is_from, covers, reacts, was_due, settles, by_node}
-use Rattle.flow_model.specs.Lawful.{IsLawful, IsRunEdge, IsNewEdge, IsKeyOf, last_run_of}
-use Rattle.flow_model.proofs.Truths.{or_cases, or_left, or_right, and_make, same_number, equal_test, not_true, not_false, is_not_true, true_or_false}
-use Rattle.flow_model.proofs.Allowed.{opens-live}
-use Rattle.flow_model.proofs.OrderLemmas.{reaches-trans}
-use Rattle.flow_model.proofs.OrderOfSteps.{recorded-live}
-use Rattle.flow_model.proofs.States.{at-has, behind-has, behind-total, first_open-frame}
-use Rattle.flow_model.proofs.FramesLast.{head-first}
-use Rattle.flow_model.proofs.Readings.{BeginsRun, run-begins}
+use Rattle.flow_model.specs.Machine.State.{Core, live, executes, is_framing, entries, outs, opens, wants, precedes}
+use Rattle.flow_model.specs.Machine.Words.{heads}
+use Rattle.flow_model.specs.Kept.Runs.{Run, Reading, read_all, nothing_read, last_run, dropper, discovered, runs, is_from, covers, reacts, was_due, settles, by_node}
+use Rattle.flow_model.specs.Kept.Lawful.{IsLawful, IsRunEdge, IsNewEdge, IsKeyOf, last_run_of}
+use Rattle.flow_model.proofs.General.Truths.{or_cases, or_left, or_right, and_make, same_number, equal_test, not_true, not_false, is_not_true, true_or_false}
+use Rattle.flow_model.proofs.OneStep.WhoMayStep.{opens-live}
+use Rattle.flow_model.proofs.OneList.Chains.{reaches-trans}
+use Rattle.flow_model.proofs.OrderStays.AfterEachStep.{recorded-live}
+use Rattle.flow_model.proofs.OneList.StatesAndPlaces.{at-has, behind-has, behind-total, first_open-frame}
+use Rattle.flow_model.proofs.OrderStays.NoFrameBeforeDones.{head-first}
+use Rattle.flow_model.proofs.Reactions.WhereRunsBegin.{BeginsRun, run-begins}
 
 -- ---- a call that has a node open
 
@@ -57,7 +57,7 @@ chain-one_way graph s h w t r = (not_true _ back, not_true _ (λ e. is_not_true 
         let tr = reaches-trans s.pairs t w t in
         grind (arith, p, l, c, tr, r)
 
-live-chain : (s : Core) (u v : ℕ) → live s u ≡ true → precedes s u v ≡ true → reaches s.pairs u v ≡ true
+pub live-chain : (s : Core) (u v : ℕ) → live s u ≡ true → precedes s u v ≡ true → reaches s.pairs u v ≡ true
 live-chain s u v l p = grind (arith, l, p)
 
 -- A call that is before another one is not after it.
@@ -90,7 +90,7 @@ reaction-chained graph s h t v m n xt p o r = go (or_cases _ _ (h.frames_spread 
     chain = live-chain s v t lv p
 
     runs_it : executes s v ≡ true
-    runs_it = not_false _ (λ e. is_not_true _ (h.framing_comes_last.before v t (let f : frames s v ≡ true = grind (arith, e, lv) in f) xt) p)
+    runs_it = not_false _ (λ e. is_not_true _ (h.framing_comes_last.before v t (let f : is_framing s v ≡ true = grind (arith, e, lv) in f) xt) p)
 
     go : (opens s v n ≡ true) ⊎ (wants s v n ≡ true) → IsChained s t n
     go (inl x) = record { opener = v; opened = x; chain = chain }
@@ -120,7 +120,7 @@ active-edge es (edge ∷ os) t n h = go (is_active es edge.1 t) refl h (λ k. ac
         cases (inl x) = record { since = edge.1; stands = or_left _ _ (and_make _ _ x (equal_test edge.1 edge.1 refl)); active = e }
         cases (inr x) = later (further x)
 
-out-node : (os : List OutEdge) (n since : ℕ) → has_out os n since ≡ true → has_node os n ≡ true
+pub out-node : (os : List OutEdge) (n since : ℕ) → has_out os n since ≡ true → has_node os n ≡ true
 out-node [] n since h = h
 out-node (edge ∷ os) n since h = let r = out-node os n since in grind (arith, h, r)
 
@@ -130,14 +130,14 @@ not_up_to-behind [] t u h k = absurd (true≢false (sym h))
 not_up_to-behind (e ∷ es) t u h k = let r = not_up_to-behind es t u in grind (arith, eqb_tells, h, k, r)
 
 -- A run of the node's candidates that covers the call makes the node react.
-covered-reacts : (graph : Graph) (s : Core) (v m n : ℕ) → list_any (covers s m v) (runs s n m) ≡ true → reacts graph s v m n ≡ true
+pub covered-reacts : (graph : Graph) (s : Core) (v m n : ℕ) → list_any (covers s m v) (runs s n m) ≡ true → reacts graph s v m n ≡ true
 covered-reacts graph s v m n k = or_right _ _ k
 
 run-covers : (s : Core) (v m : ℕ) (begins : Option ℕ) → has (entries s m) v ≡ true → is_from s m begins v ≡ true → covers s m v (record { begins = begins; ends = None }) ≡ true
 run-covers s v m begins h f = and_make _ _ (and_make _ _ h f) refl
 
 -- the last run, where the candidate has an out-edge
-last-covers : (graph : Graph) (s : Core) (v m n : ℕ) (r : Run) → has (entries s m) v ≡ true → last_run_of s n m ≡ Some r → has_node (outs s m) n ≡ true → is_from s m r.begins v ≡ true → reacts graph s v m n ≡ true
+pub last-covers : (graph : Graph) (s : Core) (v m n : ℕ) (r : Run) → has (entries s m) v ≡ true → last_run_of s n m ≡ Some r → has_node (outs s m) n ≡ true → is_from s m r.begins v ≡ true → reacts graph s v m n ≡ true
 last-covers graph s v m n r hv e o f = covered-reacts graph s v m n (list_any-append test (q.closed ++ last_run q.current (dropper s n m)) (discovered (first_open (entries s n)) n (outs s m)) ∙ or_left _ _ (list_any-append test q.closed (last_run q.current (dropper s n m)) ∙ or_right _ _ (one q.current e)))
   where
     test : Run → Bool
@@ -175,7 +175,7 @@ new-covers graph s v m n since hv e o f = covered-reacts graph s v m n (list_any
         here k = cc
 
 -- Where a run begins at a call, no Frame stands before that call's entry at the candidate.
-no_frame-before : (graph : Graph) (s : Core) → IsLawful graph s → (v m n : ℕ) (r : Run) (b : ℕ) → opens s v m ≡ true → last_run_of s n m ≡ Some r → r.begins ≡ Some b → behind (entries s m) v b ≡ true → ⊥
+pub no_frame-before : (graph : Graph) (s : Core) → IsLawful graph s → (v m n : ℕ) (r : Run) (b : ℕ) → opens s v m ≡ true → last_run_of s n m ≡ Some r → r.begins ≡ Some b → behind (entries s m) v b ≡ true → ⊥
 no_frame-before graph s h v m n r b o e k j = go (h.entries_are_kept.new_picks b n lb w.done)
   where
     w : BeginsRun m (entries s n) b

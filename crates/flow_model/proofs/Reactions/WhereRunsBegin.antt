@@ -1,4 +1,4 @@
--- Where the run begins in which a list ends: at a Done that picks the candidate, after one that doesn't.
+-- The run in which a list ends begins at a Done that picks the candidate, where the last Done before that doesn't.
 use Rattle.std.proofs.Common.{true≢false, ◌≡◌, ℕ, Bool, true, false, ◌==◌, ◌⊎◌, inl, inr, refl, sym, ap, List, [], ◌∷◌, ◌∙◌, subst, Option, Some, None}
 use Rattle.std.specs.Prelude.{is_some}
 use Rattle.std.specs.Option.{option_or}
@@ -9,11 +9,11 @@ use Rattle.node_versions.specs.declared.entry.State.{State}
 use Rattle.node_versions.specs.declared.entry.State.TheVariants.{Mark, Frame, Done}
 use Rattle.node_versions.specs.declared.entry.Entry.{Entry}
 use Rattle.node_versions.specs.Entries.{IsUnique, has, at, is_done, before, up_to, last_done, only_done, state_of, picks_of, picks_at, picks_before, is_frame, behind}
-use Rattle.flow_model.specs.Runs.{Run, Reading, begin_at, go_on, read_done, read_state, read_all, nothing_read}
-use Rattle.flow_model.proofs.Truths.{true_or_false, same_number, equal_test, not_true, is_not_true}
-use Rattle.flow_model.proofs.States.{at-has, behind-has}
-use Rattle.flow_model.proofs.Lists.{last_done-has}
-use Rattle.flow_model.proofs.ListFacts.{last_done-at, last_done-done}
+use Rattle.flow_model.specs.Kept.Runs.{Run, Reading, begin_at, go_on, read_done, read_state, read_all, nothing_read}
+use Rattle.flow_model.proofs.General.Truths.{true_or_false, same_number, equal_test, not_true, is_not_true}
+use Rattle.flow_model.proofs.OneList.StatesAndPlaces.{at-has, behind-has}
+use Rattle.flow_model.proofs.OneList.InOrder.{last_done-has}
+use Rattle.flow_model.proofs.OneList.OneEntryACall.{last_done-at, last_done-done}
 
 -- The picks of a Done, where there is one, have the candidate.
 abbrev pub picked_in : ℕ → Option Entry → Bool
@@ -63,7 +63,7 @@ seen-all m es = seen-from m es nothing_read None refl ∙ ap (picked_in m) (or-n
 
 -- ---- the last Done before the first Frame
 
-no_done-none : (es : List Entry) → IsUnique es → ((v : ℕ) → has es v ≡ true → at is_done es v ≡ false) → last_done es ≡ None
+pub no_done-none : (es : List Entry) → IsUnique es → ((v : ℕ) → has es v ≡ true → at is_done es v ≡ false) → last_done es ≡ None
 no_done-none es u h = go (last_done es) refl
   where
     go : (o : Option Entry) → last_done es ≡ o → last_done es ≡ None

@@ -1,4 +1,4 @@
--- What a node rests on are earlier nodes.
+-- A node rests on earlier nodes alone.
 use Rattle.std.proofs.Common.{◌≡◌, ℕ, ◌<◌, Bool, true, false, ◌||◌, ◌==◌, ◌⊎◌, inl, inr, refl, sym, ap, arith, List, [], ◌∷◌, length, true≢false, ◌∙◌, subst, Option, Some, None, if◌then◌else◌}
 use Rattle.std.specs.List.{AllByRecursion, AllZip}
 use Rattle.std.specs.Option.{option_or}
@@ -10,13 +10,13 @@ use Rattle.signal_graph.specs.Graph.{Graph, IsGraph, IsNode, IsSelector, node_at
 use Rattle.signal_graph.specs.Values.{nodes_in}
 use Rattle.node_versions.specs.declared.entry.Entry.{Entry}
 use Rattle.node_versions.specs.Entries.{IsUnique, is_done, has, at, before, up_to, last_done, only_done, state_of, picks_of, picks_at}
-use Rattle.flow_model.specs.State.{Core, entries}
-use Rattle.flow_model.specs.Words.{deps, prior_picks, is_prior}
-use Rattle.flow_model.specs.Lawful.{IsLawful, IsPickOf, lists_candidate}
-use Rattle.flow_model.proofs.Truths.{or_cases, or_left, or_right, same_number, equal_test, not_true, is_not_true, true_or_false}
-use Rattle.flow_model.proofs.Openings.{in-below, nodes-at, candidate-earlier, picked-listed}
-use Rattle.flow_model.proofs.Lists.{last_done-has}
-use Rattle.flow_model.proofs.ListFacts.{only_done-is, last_done-done, last_done-at}
+use Rattle.flow_model.specs.Machine.State.{Core, entries}
+use Rattle.flow_model.specs.Machine.Words.{deps, prior_picks, is_prior}
+use Rattle.flow_model.specs.Kept.Lawful.{IsLawful, IsPickOf, lists_candidate}
+use Rattle.flow_model.proofs.General.Truths.{or_cases, or_left, or_right, same_number, equal_test, not_true, is_not_true, true_or_false}
+use Rattle.flow_model.proofs.Opening.OpeningLists.{in-below, nodes-at, candidate-earlier, picked-listed}
+use Rattle.flow_model.proofs.OneList.InOrder.{last_done-has}
+use Rattle.flow_model.proofs.OneList.OneEntryACall.{only_done-is, last_done-done, last_done-at}
 
 in-different : (m : ℕ) (seen ns : List ℕ) → is_in m (different_from seen ns) ≡ true → is_in m ns ≡ true
 in-different m seen [] h = h
@@ -53,7 +53,7 @@ before-has : (es : List Entry) (t u : ℕ) → has (before es t) u ≡ true → 
 before-has [] t u h = h
 before-has (e ∷ es) t u h = let r = before-has es t u in grind (arith, r, h)
 
-before-unique : (es : List Entry) (t : ℕ) → IsUnique es → IsUnique (before es t)
+pub before-unique : (es : List Entry) (t : ℕ) → IsUnique es → IsUnique (before es t)
 before-unique [] t q = tt
 before-unique (e ∷ es) t q = go (e.version == t) (before-unique es t q.1)
   where
@@ -61,12 +61,12 @@ before-unique (e ∷ es) t q = go (e.version == t) (before-unique es t q.1)
     go true r = tt
     go false r = (not_true _ (λ k. is_not_true _ q.0 (before-has es t e.version k)), r)
 
-before-at : (test : _ → Bool) (es : List Entry) (t u : ℕ) → IsUnique es → has (before es t) u ≡ true → at test (before es t) u ≡ at test es u
+pub before-at : (test : _ → Bool) (es : List Entry) (t u : ℕ) → IsUnique es → has (before es t) u ≡ true → at test (before es t) u ≡ at test es u
 before-at test [] t u q h = refl
 before-at test (e ∷ es) t u q h = let r = before-at test es t u q.1 in grind (arith, r, h)
 
 -- the last Done up to the last Done's own entry is that one
-own-done : (es : List Entry) (x : Entry) → IsUnique es → last_done es ≡ Some x → last_done (up_to es x.version) ≡ Some x
+pub own-done : (es : List Entry) (x : Entry) → IsUnique es → last_done es ≡ Some x → last_done (up_to es x.version) ≡ Some x
 own-done [] x q h = cc
 own-done (e ∷ es) x q h = go (last_done es) refl h (own-done es x q.1)
   where
@@ -81,7 +81,7 @@ own-done (e ∷ es) x q h = go (last_done es) refl h (own-done es x q.1)
         rw (ne, up_to) (ap (λ (o : Option Entry). option_or o (only_done e)) (further (k ∙ j)))
 
 -- of a list that begins another, the last Done up to its own entry is the same in both
-before-up_to : (es : List Entry) (t u : ℕ) → has (before es t) u ≡ true → up_to (before es t) u ≡ up_to es u
+pub before-up_to : (es : List Entry) (t u : ℕ) → has (before es t) u ≡ true → up_to (before es t) u ≡ up_to es u
 before-up_to [] t u h = refl
 before-up_to (e ∷ es) t u h = go (true_or_false (e.version == t)) (before-up_to es t u)
   where
@@ -97,7 +97,7 @@ before-up_to (e ∷ es) t u h = go (true_or_false (e.version == t)) (before-up_t
             rw (v, up_to) (ap (λ (xs : List Entry). e ∷ xs) (further k2))
 
 -- Prior picks are candidates.
-prior-listed : (graph : Graph) (s : Core) → IsLawful graph s → (t n m : ℕ) → is_prior s t n m ≡ true → lists_candidate m (selectors_of (node_at graph n)) ≡ true
+pub prior-listed : (graph : Graph) (s : Core) → IsLawful graph s → (t n m : ℕ) → is_prior s t n m ≡ true → lists_candidate m (selectors_of (node_at graph n)) ≡ true
 prior-listed graph s h t n m p = go (last_done (before (entries s n) t)) refl p
   where
     go : (o : Option Entry) → last_done (before (entries s n) t) ≡ o → is_in m (nodes_in (picks_of (state_of o))) ≡ true → lists_candidate m (selectors_of (node_at graph n)) ≡ true

@@ -1,4 +1,4 @@
--- Runs that Dones have ended, and a reading after a Frame has become a Done.
+-- A run that has ended ends at a Done that leaves the candidate, and a Frame that becomes a Done is read last.
 use Rattle.std.proofs.Common.{◌≡◌, ℕ, Bool, true, false, ◌||◌, ◌==◌, ◌⊎◌, inl, inr, refl, sym, ap, arith, List, [], ◌∷◌, ◌++◌, true≢false, ◌∙◌, subst, Option, Some, None}
 use Rattle.std.specs.Prelude.{is_some}
 use Rattle.std.specs.List.{list_any}
@@ -11,10 +11,10 @@ use Rattle.node_versions.specs.declared.entry.State.{State}
 use Rattle.node_versions.specs.declared.entry.State.TheVariants.{Mark, Frame, Done}
 use Rattle.node_versions.specs.declared.entry.Entry.{Entry}
 use Rattle.node_versions.specs.Entries.{IsUnique, has, at, is_frame, is_done, behind, before, up_to, last_done, only_done, picks_of, picks_at, picks_before, with_state}
-use Rattle.flow_model.specs.Runs.{Run, Reading, close, read_done, read_state, read_all, nothing_read}
-use Rattle.flow_model.proofs.Truths.{or_cases, same_number, equal_test, not_true, is_not_true, true_or_false}
-use Rattle.flow_model.proofs.States.{at-has, behind-has}
-use Rattle.flow_model.proofs.Readings.{picked_in, Seen, or-or, or-none, state_seen}
+use Rattle.flow_model.specs.Kept.Runs.{Run, Reading, close, read_done, read_state, read_all, nothing_read}
+use Rattle.flow_model.proofs.General.Truths.{or_cases, same_number, equal_test, not_true, is_not_true, true_or_false}
+use Rattle.flow_model.proofs.OneList.StatesAndPlaces.{at-has, behind-has}
+use Rattle.flow_model.proofs.Reactions.WhereRunsBegin.{picked_in, Seen, or-or, or-none, state_seen}
 
 -- ---- a run that has ended
 
@@ -130,7 +130,7 @@ not_both (e ∷ es) t h = let r = not_both es t in let s = one e.state in grind 
     one Frame h = refl
     one (Done v c ps) h = absurd (true≢false (sym h))
 
-pub no_done-read : (m : ℕ) (e : Entry) (q : Reading) → is_done e.state ≡ false → read_state m e.version e.state q ≡ q
+no_done-read : (m : ℕ) (e : Entry) (q : Reading) → is_done e.state ≡ false → read_state m e.version e.state q ≡ q
 no_done-read m e q h = go e.state h
   where
     go : (x : State) → is_done x ≡ false → read_state m e.version x q ≡ q

@@ -1,4 +1,4 @@
--- Frame: what is known of a call's Frame, where it is new, and where its Mark was raised.
+-- Where a call has a Frame, all that reacts is open for it or wanted by it, after Frame.
 use Rattle.std.proofs.Common.{◌≡◌, ℕ, ◌<◌, Bool, true, false, ◌&&◌, ◌||◌, not, ◌==◌, ◌⊎◌, inl, inr, refl, sym, ap, arith, List, [], ◌∷◌, ◌++◌, length, true≢false, ◌∙◌, subst, Some}
 use Rattle.std.specs.Prelude.{slice_get}
 use Rattle.std.specs.List.{list_any}
@@ -9,26 +9,26 @@ use Rattle.node_versions.specs.declared.entry.State.TheVariants.{Mark, Frame, Do
 use Rattle.node_versions.specs.declared.entry.Entry.{Entry}
 use Rattle.node_versions.specs.Entries.{OutEdge, IsUnique, has, at, is_mark, is_frame, behind, first_open, active_nodes, with_state, front, rest, placed}
 use Rattle.flow_model.specs.declared.step.Step.TheVariants as steps
-use Rattle.flow_model.specs.State.{Core, Cell, live, executes, frames, entries, outs, opens, wants, precedes}
-use Rattle.flow_model.specs.Words.{heads, active_outs}
-use Rattle.flow_model.specs.Changes.{stops, stops_call, new_entry, place_entry, set_state, enter, raise, opened}
-use Rattle.flow_model.specs.Steps.{allowed, apply, open_node}
-use Rattle.flow_model.specs.Runs.{Run, Reading, read_state, read_all, nothing_read, runs, covers, reacts}
-use Rattle.flow_model.specs.Lawful.{IsLawful, FramesSpread, FramesAreOpen, ended_before}
-use Rattle.flow_model.proofs.Truths.{or_cases, or_left, or_right, same_number, equal_test, other_number, not_true, not_false, is_not_true, true_or_false}
-use Rattle.flow_model.proofs.Allowed.{frame-wants, wants-live, opens-live, frames-live}
-use Rattle.flow_model.proofs.Lists.{has-append, front-rest, front-has, rest-has, with_state-has}
-use Rattle.flow_model.proofs.OrderOfSteps.{lawful-Standing, wanted-fresh}
-use Rattle.flow_model.proofs.States.{at-has, behind-has, behind-total, behind-trans, with_state-at, with_state-behind, first_open-frame, first_open-none, more-behind_it}
-use Rattle.flow_model.proofs.ListFacts.{placed-unique, placed-has, placed-at_other, with_state-unique}
-use Rattle.flow_model.proofs.OpenNodes.{cell-there, cell-other, opened-opens, step-FramesAreOpen}
-use Rattle.flow_model.proofs.FramesLast.{NotBefore, head-first, framing-part, executing-part}
-use Rattle.flow_model.proofs.FramedWith.{opens-frame, heads-opens, before-not_after}
-use Rattle.flow_model.proofs.Covering.{same-runs, read_all-append, same_lists-covers}
-use Rattle.flow_model.proofs.SpreadOfSteps.{same_outs, entered-covers, call-reacts}
-use Rattle.flow_model.proofs.FinishSpreads.{stated-covers}
-use Rattle.flow_model.proofs.WantsOfSteps.{opened-wants}
-use Rattle.flow_model.proofs.FrameSpreads.{IsFramed, framed-back, framed-active}
+use Rattle.flow_model.specs.Machine.State.{Core, Cell, live, executes, is_framing, entries, outs, opens, wants, precedes}
+use Rattle.flow_model.specs.Machine.Words.{heads, active_outs}
+use Rattle.flow_model.specs.Machine.Changes.{stops, stops_call, new_entry, place_entry, set_state, enter, raise, opened}
+use Rattle.flow_model.specs.Machine.Steps.{allowed, apply, open_node}
+use Rattle.flow_model.specs.Kept.Runs.{Run, Reading, read_state, read_all, nothing_read, runs, covers, reacts}
+use Rattle.flow_model.specs.Kept.Lawful.{IsLawful, FramesSpread, FramesAreOpen, ended_before}
+use Rattle.flow_model.proofs.General.Truths.{or_cases, or_left, or_right, same_number, equal_test, other_number, not_true, not_false, is_not_true, true_or_false}
+use Rattle.flow_model.proofs.OneStep.WhoMayStep.{frame-wants, wants-live, opens-live, is_framing-live}
+use Rattle.flow_model.proofs.OneList.InOrder.{has-append, front-rest, front-has, rest-has, with_state-has}
+use Rattle.flow_model.proofs.OrderStays.AfterEachStep.{lawful-Standing, wanted-fresh}
+use Rattle.flow_model.proofs.OneList.StatesAndPlaces.{at-has, behind-has, behind-total, behind-trans, with_state-at, with_state-behind, first_open-frame, first_open-none, more-behind_it}
+use Rattle.flow_model.proofs.OneList.OneEntryACall.{placed-unique, placed-has, placed-at_other, with_state-unique}
+use Rattle.flow_model.proofs.OrderStays.OpenNodesHaveFrames.{cell-there, cell-other, opened-opens, step-FramesAreOpen}
+use Rattle.flow_model.proofs.OrderStays.NoFrameBeforeDones.{NotBefore, head-first, framing-part, executing-part}
+use Rattle.flow_model.proofs.Wants.FramedWith.{opens-frame, heads-opens, before-not_after}
+use Rattle.flow_model.proofs.Reactions.WhoReacts.{same-runs, read_all-append, same_lists-covers}
+use Rattle.flow_model.proofs.FramesSpread.AfterOtherSteps.{same_outs, entered-covers, call-reacts}
+use Rattle.flow_model.proofs.FramesSpread.AfterDones.{stated-covers}
+use Rattle.flow_model.proofs.Wants.WantsAreFree.{opened-wants}
+use Rattle.flow_model.proofs.FramesSpread.NewFrames.{IsFramed, framed-back, framed-active}
 
 -- ---- lists
 
@@ -91,7 +91,7 @@ order-behind graph s h n u v hu hv lu ne p = go (or_cases _ _ (behind-total (ent
 
 -- ---- a Mark that is raised
 
-raised-framed : (graph : Graph) (s : Core) → IsLawful graph s → (t m0 : ℕ) → wants s t m0 ≡ true → at is_mark (entries s m0) t ≡ true → m0 < length s.cells → IsFramed graph s (raise s t m0) t m0
+pub raised-framed : (graph : Graph) (s : Core) → IsLawful graph s → (t m0 : ℕ) → wants s t m0 ≡ true → at is_mark (entries s m0) t ≡ true → m0 < length s.cells → IsFramed graph s (raise s t m0) t m0
 raised-framed graph s h t m0 w mark there = record {
   other = λ n ne. ap (λ (c : Cell). c.entries) (cell-other s m0 n (set_state t Frame) ne);
   edges = same_outs s m0 (set_state t Frame) (λ c. refl);
@@ -116,7 +116,7 @@ raised-framed graph s h t m0 w mark there = record {
     lt = wants-live s t m0 w
 
     xt : executes s t ≡ true
-    xt = not_false _ (λ e. is_not_true _ (h.framing_comes_last.no_mark t m0 (let f : frames s t ≡ true = grind (arith, e, lt) in f)) mark)
+    xt = not_false _ (λ e. is_not_true _ (h.framing_comes_last.no_mark t m0 (let f : is_framing s t ≡ true = grind (arith, e, lt) in f)) mark)
 
     v : ℕ
     v = (h.wants_are_covered t m0 xt w).by.0
@@ -174,7 +174,7 @@ entered-part graph s h t m0 w z xz k none = go (true_or_false (executes s t))
         order (inr a) = let r = h.order_is_kept.lists m0 z v a (opens-live s v m0 o) in let c = p.no_chain in let l = p.live_it in let b2 : ⊥ = grind (arith, r, c, l) in b2
 
     go : (executes s t ≡ true) ⊎ (executes s t ≡ false) → ⊥
-    go (inr x) = let f = framing-part s (ended_before s.log) (lawful-Standing graph s h) t m0 lt (let g : frames s t ≡ true = grind (arith, x, lt) in g) z k in let b : ⊥ = grind (arith, f, xz) in b
+    go (inr x) = let f = framing-part s (ended_before s.log) (lawful-Standing graph s h) t m0 lt (let g : is_framing s t ≡ true = grind (arith, x, lt) in g) z k in let b : ⊥ = grind (arith, f, xz) in b
     go (inl x) = let c = h.wants_are_covered t m0 x w in covered c.by.0 x c.by.1 c.by.2
 
 -- All behind the place live.
@@ -185,10 +185,10 @@ entered-live graph s h t m0 w z k = go (true_or_false (executes s t))
     lt = wants-live s t m0 w
 
     go : (executes s t ≡ true) ⊎ (executes s t ≡ false) → live s z ≡ true
-    go (inr x) = frames-live s z (framing-part s (ended_before s.log) (lawful-Standing graph s h) t m0 lt (let g : frames s t ≡ true = grind (arith, x, lt) in g) z k)
+    go (inr x) = is_framing-live s z (framing-part s (ended_before s.log) (lawful-Standing graph s h) t m0 lt (let g : is_framing s t ≡ true = grind (arith, x, lt) in g) z k)
     go (inl x) = let c = h.wants_are_covered t m0 x w in (executing-part s (ended_before s.log) (lawful-Standing graph s h) t m0 c.by.0 lt (opens-live s c.by.0 m0 c.by.2) x c.by.1 z k).live_it
 
-entered-framed : (graph : Graph) (s : Core) → IsLawful graph s → (t m0 : ℕ) → wants s t m0 ≡ true → has (entries s m0) t ≡ false → m0 < length s.cells → IsFramed graph s (enter s t m0 Frame) t m0
+pub entered-framed : (graph : Graph) (s : Core) → IsLawful graph s → (t m0 : ℕ) → wants s t m0 ≡ true → has (entries s m0) t ≡ false → m0 < length s.cells → IsFramed graph s (enter s t m0 Frame) t m0
 entered-framed graph s h t m0 w fresh there = record {
   other = λ n ne. ap (λ (c : Cell). c.entries) (cell-other s m0 n (place_entry s t Frame) ne);
   edges = same_outs s m0 (place_entry s t Frame) (λ c. refl);

@@ -1,0 +1,3 @@
+-- Changes stay spread.
+pub mod AfterOtherSteps
+pub mod AfterEachStep

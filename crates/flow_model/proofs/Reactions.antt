@@ -1,0 +1,5 @@
+-- Runs, and which nodes react.
+pub mod WhereRunsBegin
+pub mod RunsThatHaveEnded
+pub mod WhoReacts
+pub mod WhoReactsAfterSteps
