@@ -1,0 +1,6 @@
+-- All together.
+pub mod LawfulStays
+pub mod Points
+pub mod WorkIsAllowed
+pub mod NextIsAllowed
+pub mod NeverStuck
