@@ -1,0 +1,5 @@
+-- Callers and their calls.
+pub mod OnlyBeginningsAdd
+pub mod CallersHaveTheirCalls
+pub mod StepsComeInTime
+pub mod FinishedRunsMerge
