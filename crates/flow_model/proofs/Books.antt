@@ -1,0 +1,6 @@
+-- The book and the listings.
+pub mod StepsChangeBooks
+pub mod StepsChangeOneListing
+pub mod BooksAllow
+pub mod StatesAreBooks
+pub mod BooksTellNext

@@ -1,0 +1,4 @@
+-- Slots for versions.
+pub mod PairsBySlot
+pub mod TestsBySlot
+pub mod LeastIsFirst
