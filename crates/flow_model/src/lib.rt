@@ -6,3 +6,4 @@ pub use step::{Cause, Step, Turn};
 
 pub mod laws;
 mod step;
+pub mod stored_laws;

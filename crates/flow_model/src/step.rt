@@ -1,7 +1,7 @@
 // The steps of live calls, and what comes next for one.
 
 ghost use Rattle.std.specs.Prelude.{◌≡◌};
-ghost use Rattle.flow_model.specs.Keys.{version_of_step, is_own_step, list_of_step};
+ghost use Rattle.flow_model.specs.Machine.Keys.{version_of_step, is_own_step, list_of_step};
 
 /// A step of a live call, which is named by its version, or of a node's list. A call's beginning is no such step, since
 /// it brings the call with it.

@@ -1,4 +1,4 @@
-use Rattle.flow_model.proofs.RowsOfExamples.{retrofit-one_look}
+use Rattle.flow_model.proofs.Schedules.ExamplesPlayOut.{retrofit-one_look}
 use Rattle.flow_model.proofs.laws.example_is_exact.Goals as goal
 
 pub returns : goal.returns

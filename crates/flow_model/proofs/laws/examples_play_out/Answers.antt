@@ -1,4 +1,4 @@
-use Rattle.flow_model.proofs.RowsOfExamples.{retrofit-plays_out, other_order-plays_out, one_edge-plays_out, two_levels-plays_out, reader_in_the_past-plays_out, unconnected-plays_out, two_selectors-plays_out}
+use Rattle.flow_model.proofs.Schedules.ExamplesPlayOut.{retrofit-plays_out, other_order-plays_out, one_edge-plays_out, two_levels-plays_out, reader_in_the_past-plays_out, unconnected-plays_out, two_selectors-plays_out}
 use Rattle.flow_model.proofs.laws.examples_play_out.Goals as goal
 
 pub returns-clause-retrofit : goal.returns-clause-retrofit

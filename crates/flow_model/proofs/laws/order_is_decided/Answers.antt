@@ -1,4 +1,4 @@
-use Rattle.flow_model.proofs.OrderDecides.{precedes-decides}
+use Rattle.flow_model.proofs.OneList.OrderIsDecided.{precedes-decides}
 use Rattle.flow_model.proofs.laws.order_is_decided.Goals as goal
 
 pub returns : goal.returns
