@@ -37,7 +37,7 @@ pub nothing_left : {A : Type 0} (xs : List A) → length xs ≡ 0 → xs ≡ []
 nothing_left [] h = refl
 nothing_left (x ∷ xs) h = absurd (omega arith)
 
-named_cond : (b : Bool) (call : Call) (calls : List Call) (n : ℕ) → length calls ≤ n → length (cond b (call ∷ calls) calls) ≤ n + 1
+named_cond : (b : Bool) (call : Call) (calls : List Call) (n : ℕ) → length calls ≤ n → length (cond b (call ∷ calls) calls) ≤ suc n
 named_cond true call calls n h = omega arith
 named_cond false call calls n h = omega arith
 
