@@ -1,4 +1,4 @@
--- A node of a graph has at most 64 inputs.
+-- A node has at most 64 inputs, also where the number is none of the graph.
 use Rattle.std.proofs.Common.{ℕ, zero, suc, ◌<◌, ◌≤◌, arith, List, [], ◌∷◌, length, slice_index_or}
 use Rattle.script_tree.specs.declared.limits.TheConstants.{INPUTS}
 use Rattle.script_tree.specs.declared.value.Value.TheVariants.{Fault as Faulty}

@@ -1,6 +1,6 @@
 -- In a lawful state a live call with no live call before it goes on, and where any call lives there is such a one.
 use Rattle.std.proofs.Common.{◌≡◌, ℕ, ◌<◌, Bool, true, false, not, ◌==◌, ◌⊎◌, inl, inr, refl, sym, ap, arith, List, [], ◌∷◌, length, true≢false, ◌∙◌, subst, Option, Some, None}
-use Rattle.std.specs.Prelude.{find, is_none, is_some}
+use Rattle.std.specs.Prelude.{find, is_none}
 use Rattle.std.specs.List.{list_any}
 use Rattle.signal_graph.specs.Graph.{Graph, IsGraph, node_at, is_in, is_source, inputs_of}
 use Rattle.order_graph.specs.Order.{reaches, is_recorded}
@@ -12,6 +12,7 @@ use Rattle.flow_model.specs.declared.step.Turn.TheVariants as turns
 use Rattle.flow_model.specs.declared.step.Cause.TheVariants.{OpenBefore, InputOpen}
 use Rattle.flow_model.specs.Machine.Lists.{is_empty}
 use Rattle.flow_model.specs.Machine.Sets.{least}
+use Rattle.std.specs.Prelude.{is_some}
 use Rattle.flow_model.specs.Machine.State.{Core, LiveCall, call, call_of, live, executes, opens, changes, entries, outs, precedes}
 use Rattle.flow_model.specs.Machine.Words.{deps, prior_picks, is_gathered, is_found, found_candidates, heads, presses, next_look}
 use Rattle.flow_model.specs.Machine.Steps.{allowed, is_framing_before, has_body_value, any_before}
@@ -126,10 +127,10 @@ points-on graph s h t l first n o closed =
     let still = not (list_any (changes s t) (deps graph s t n)) in
     let skip : List (Option Turn) = Next.when still (turns.Step (steps.Skip t n)) ∷ input in
     let source : List (Option Turn) = Next.when (is_source (node_at graph n)) (turns.Step (steps.Resolve t n)) ∷ skip in
-    let is_framing : ℕ → Turn = λ u. Next.framing graph s (entries s) (outs s) t u n in
-    let helps : List (Option Turn) = Next.for_some (Next.least_version (presses s t n) s.calls) is_framing ∷ source in
+    let frames : ℕ → Turn = λ u. Next.framing graph s (entries s) (outs s) t u n in
+    let helps : List (Option Turn) = Next.for_some (Next.least_version (presses s t n) s.calls) frames ∷ source in
     some-holds P (Next.other_than t (first_open (entries s n))) (λ v. turns.NotYet (OpenBefore n v)) (Next.for_some None (λ m. turns.NotYet (InputOpen m)) ∷ helps) (λ v e. none-some _ v (other-none graph s h t l first n o) e) (λ _.
-    some-holds P (Next.least_version (presses s t n) s.calls) is_framing source (λ u e. unless-on graph s t (at is_mark (entries s n) u) n (steps.Frame u n)) (λ _.
+    some-holds P (Next.least_version (presses s t n) s.calls) frames source (λ u e. unless-on graph s t (at is_mark (entries s n) u) n (steps.Frame u n)) (λ _.
     when-holds P (is_source (node_at graph n)) (turns.Step (steps.Resolve t n)) skip (λ _. tt) (λ _.
     when-holds P still (turns.Step (steps.Skip t n)) input (λ _. tt) (λ _.
     some-holds P (find waits (inputs_of (node_at graph n))) reads evaluate (λ m e. reading-on graph s h t l first m (steps.Gather t n m)) (λ _.

@@ -1,6 +1,6 @@
 -- A step that comes next is allowed.
 use Rattle.std.proofs.Common.{◌≡◌, ℕ, ◌<◌, ◌≤◌, Bool, true, false, not, ◌==◌, ◌⊎◌, inl, inr, refl, sym, ap, arith, List, [], ◌∷◌, length, map, true≢false, ◌∙◌, subst, Option, Some, None}
-use Rattle.std.specs.Prelude.{find, nat_lt, is_some}
+use Rattle.std.specs.Prelude.{find, nat_lt}
 use Rattle.std.specs.List.{list_any, AllByRecursion}
 use Rattle.signal_graph.specs.Graph.{Graph, IsGraph, is_in}
 use Rattle.node_versions.specs.declared.entry.Entry.{Entry}
@@ -11,6 +11,7 @@ use Rattle.flow_model.specs.declared.step.Turn.{Turn}
 use Rattle.flow_model.specs.declared.step.Turn.TheVariants as turns
 use Rattle.flow_model.specs.Machine.Lists.{is_empty}
 use Rattle.flow_model.specs.Machine.Sets.{least, IsSet}
+use Rattle.std.specs.Prelude.{is_some}
 use Rattle.flow_model.specs.Machine.State.{Core, LiveCall, call, call_of, call_or, live, executes, wants, opens, entries, outs}
 use Rattle.flow_model.specs.Machine.Words.{deps, heads, presses, next_look, is_some_of, is_idle}
 use Rattle.flow_model.specs.Machine.Steps.{allowed, is_framing_before, served_look}

@@ -1,4 +1,4 @@
--- What holds of the first point that applies.
+-- What holds of each point where it applies holds of the first that applies.
 use Rattle.std.proofs.Common.{◌≡◌, ℕ, Bool, true, false, refl, List, ◌∷◌, Option, Some, None}
 use Rattle.flow_model.specs.declared.step.Turn.{Turn}
 use Rattle.flow_model.specs.Machine.Next.{first_of, when, for_some}

@@ -142,7 +142,7 @@ module _ (graph : Graph) (s : Core) (list : ℕ → List Entry) (edges : ℕ →
   abbrev pub to_frame : Option Turn
   to_frame = for_some (least (call s t).wanted) (framing t)
 
-  -- a call that is_framing starts, but after its direct predecessors
+  -- a call that frames starts, but after its direct predecessors
   abbrev pub to_start : Option Turn
   to_start = when (not (executes s t)) (first_of (
       for_some (least_version (is_framing_before s t) s.calls) (λ v. turn.NotYet (FramingBefore v))

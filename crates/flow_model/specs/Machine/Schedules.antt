@@ -1,4 +1,5 @@
--- What a schedule of turns makes of the calls of threads.
+-- What a schedule makes of the calls of threads: it says whose turn it is, and in a turn a thread begins its next call, or its live
+-- call makes its next step, or ends. Rounds of one turn each follow, until all is done.
 use Rattle.std.specs.Prelude.{ℕ, zero, suc, ◌+◌, ◌*◌, Bool, true, false, ◌&&◌, ◌==◌, nat_lt, List, [], ◌∷◌, ◌++◌, length, map, sum_by, Option, Some, None, slice_index_or}
 use Rattle.std.specs.List.{list_all}
 use Rattle.signal_graph.specs.declared.call.Call.{Call}
@@ -28,23 +29,21 @@ pub record Play : Type 0 where
   pub core : Core
   pub threads : List Thread
 
--- a thread with nothing to do, for numbers of none
 abbrev pub no_thread : Thread
 no_thread = record { left = []; number = 1; refused = [] }
 
--- the thread with a number, counted from 0
 abbrev pub thread : Play → ℕ → Thread
 thread play i = slice_index_or play.threads i no_thread
 
--- the play after one more move
+-- one move more
 abbrev pub made : Graph → Play → Move → Play
 made graph play move = record play { moves = play.moves ++ move ∷ []; core = after_move graph play.core move }
 
--- the thread without the call that it has begun
+-- the next call of a thread has begun
 abbrev pub goes_on : List Call → Thread → Thread
 goes_on left x = record x { left = left; number = suc x.number }
 
--- the thread without the call that was refused
+-- it is refused
 abbrev pub refuses : ℕ → Why → List Call → Thread → Thread
 refuses caller why left x = record {
   left = left;
@@ -52,7 +51,7 @@ refuses caller why left x = record {
   refused = x.refused ++ record { caller = caller; number = x.number; why = why } ∷ [];
 }
 
--- why the next call of a thread is refused, if it is
+-- why it is refused, where it is: the place of a name that is unknown or not of a source, or all versions are used up
 abbrev pub refused_for : ℕ → ℕ → Option ℕ → Option Why
 refused_for begun limit (Some place) = Some (UnknownName place)
 refused_for begun limit None = elim (nat_lt begun limit) [ true ↦ None | false ↦ Some (VersionsUsedUp limit) ]
@@ -66,32 +65,33 @@ abbrev pub begin_or_refuse : Graph → Play → ℕ → Call → List Call → O
 begin_or_refuse graph play i call left None = gone_on i left (made graph play (Begin (suc i) call))
 begin_or_refuse graph play i call left (Some why) = record play { threads = change_at i (refuses (suc i) why left) play.threads }
 
--- a thread without a live call begins its next one, or that is refused
+-- Threads are counted from 0 here, and callers from 1.
+-- A thread without a live call begins its next one, or that is refused; where none is left the turn does nothing.
 abbrev pub begin_next : Graph → Play → ℕ → List Call → Play
 begin_next graph play i [] = play
-begin_next graph play i (call ∷ left) = begin_or_refuse graph play i call left
-    (refused_for play.core.begun play.core.limit (misnamed graph call))
+begin_next graph play i (call ∷ left) =
+    begin_or_refuse graph play i call left (refused_for play.core.begun play.core.limit (misnamed graph call))
 
--- a live call makes its next step; where it has none left it ends, if it can
+-- a live call makes its next step, and where it has none left it ends if it can; where it can't go on the turn does nothing
 abbrev pub make_turn : Graph → Play → ℕ → Turn → Play
 make_turn graph play t (turn.Step step) = made graph play (Make step)
 make_turn graph play t (turn.NotYet cause) = play
 make_turn graph play t turn.Ready = elim (allowed graph play.core (End t)) [ true ↦ made graph play (Make (End t)) | false ↦ play ]
 
--- the play after a turn of a thread that has no live call, or has one
+-- the turn of a thread, by the version of its live call
 abbrev pub turn_of : Graph → Play → ℕ → Option ℕ → Play
 turn_of graph play i None = begin_next graph play i (thread play i).left
 turn_of graph play i (Some t) = make_turn graph play t (next graph play.core t)
 
--- the version of a caller's live call
+-- the version of a caller's live call; it has one at most
 abbrev pub version_of : ℕ → List LiveCall → Option ℕ
 version_of caller calls = least_version (λ c. c.caller == caller) calls
 
--- a turn of the thread with a number, counted from 0
+-- a turn of a thread
 abbrev pub take_turn : Graph → Play → ℕ → Play
 take_turn graph play i = turn_of graph play i (version_of (suc i) play.core.calls)
 
--- a schedule counts threads from 1
+-- the turns of a schedule, which counts threads from 1; the number 0 is of no thread
 abbrev pub take_turns : Graph → Play → List ℕ → Play
 take_turns graph play [] = play
 take_turns graph play (zero ∷ schedule) = take_turns graph play schedule
@@ -103,12 +103,12 @@ take_turns graph play (suc i ∷ schedule) = take_turns graph (take_turn graph p
 abbrev pub is_over : Play → Bool
 is_over play = is_empty play.core.calls && list_all (λ x. is_empty x.left) play.threads
 
--- one turn of each thread from one on
+-- one turn of each thread, from thread i on
 abbrev pub round_from : Graph → ℕ → List Thread → Play → Play
 round_from graph i [] play = play
 round_from graph i (x ∷ xs) play = round_from graph (suc i) xs (take_turn graph play i)
 
--- so many rounds, while the play is not over
+-- rounds until all is over, at most so many
 abbrev pub rounds : ℕ → Graph → Play → Play
 rounds zero graph play = play
 rounds (suc more) graph play = elim (is_over play) [ true ↦ play | false ↦ rounds more graph (round_from graph 0 play.threads play) ]
@@ -117,7 +117,7 @@ rounds (suc more) graph play = elim (is_over play) [ true ↦ play | false ↦ r
 abbrev pub most_rounds : Graph → List (List Call) → ℕ
 most_rounds graph scripts = sum_by length scripts * (140 * length graph.nodes + 200)
 
--- the play before its first turn
+-- no move is made, and each thread has all its calls left
 abbrev pub at_start : Graph → List (List Call) → ℕ → Play
 at_start graph scripts limit = record {
   moves = [];
@@ -127,9 +127,10 @@ at_start graph scripts limit = record {
 
 -- the turns of a schedule, and then rounds
 abbrev pub replayed : Graph → List (List Call) → ℕ → List ℕ → Play
-replayed graph scripts limit schedule = rounds (most_rounds graph scripts) graph (take_turns graph (at_start graph scripts limit) schedule)
+replayed graph scripts limit schedule =
+    rounds (most_rounds graph scripts) graph (take_turns graph (at_start graph scripts limit) schedule)
 
--- the refused calls of all threads
+-- the refused calls of all threads, by thread
 abbrev pub all_refused : List Thread → List Refused
 all_refused [] = []
 all_refused (x ∷ xs) = x.refused ++ all_refused xs
