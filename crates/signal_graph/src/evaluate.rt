@@ -48,24 +48,40 @@ pub fn value_at(values: &[Value], node: u32) -> Value
 }
 
 // The values of inputs in their order, in the front of an array.
-fn gather(inputs: &[u32], values: &[Value]) -> [Value; INPUTS]
-    requires { length inputs.now ≤ INPUTS }
+fn gather<const N: usize>(inputs: &[u32], values: &[Value]) -> [Value; N]
+    requires { length inputs.now ≤ N }
     ensures { take (length inputs.now) result ≡ map (at values.now) inputs.now }
 {
-    let mut gathered = [Value::Fault(Fault::NoChoice); INPUTS];
+    let mut gathered = [Value::Fault(Fault::NoChoice); N];
     for (place, input) in inputs.iter().enumerate() {
         gathered[place] = value_at(values, *input);
     }
     gathered
 }
 
+// Most scripts have no more inputs. An array of so many values is made faster than one for as many as there may be.
+const FEW: usize = 4;
+
 /// The value of a script over the values of its inputs, which stand in the order of its names, and of `acc`.
 pub fn run(script: &Script, inputs: &[u32], values: &[Value], acc: Value) -> Value
     requires { CanRun script.now inputs.now }
     ensures { result ≡ run script.now inputs.now values.now acc }
 {
+    let count = inputs.len();
+    if count > FEW {
+        return run_long(script, inputs, values, acc);
+    }
+    let gathered = gather::<FEW>(inputs, values);
+    script.eval(&gathered[..count], acc)
+}
+
+// The same for a script with as many inputs as there may be.
+fn run_long(script: &Script, inputs: &[u32], values: &[Value], acc: Value) -> Value
+    requires { CanRun script.now inputs.now }
+    ensures { result ≡ run script.now inputs.now values.now acc }
+{
     let count = script.inputs().len();
-    let gathered = gather(inputs, values);
+    let gathered = gather::<INPUTS>(inputs, values);
     script.eval(&gathered[..count], acc)
 }
 

@@ -1,7 +1,6 @@
 use Rattle.std.proofs.Common.{◌≡◌, map, take, length}
-use Rattle.script_tree.specs.declared.limits.TheConstants.{INPUTS}
 use Rattle.signal_graph.specs.Values.{at}
 use Rattle.signal_graph.proofs.evaluate.gather.Given as goal
 
 abbrev pub invariant-loop-place : goal.invariant-loop-place
-invariant-loop-place l = (take l.place l.gathered ≡ map (at l.values) (take l.place l.inputs)) × (length l.gathered ≡ INPUTS)
+invariant-loop-place o l = (take l.place l.gathered ≡ map (at l.values) (take l.place l.inputs)) × (length l.gathered ≡ o.row.N)
