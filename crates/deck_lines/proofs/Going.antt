@@ -8,6 +8,7 @@ use Rattle.deck_lines.specs.Forms.{Words}
 use Rattle.deck_lines.specs.Cuts.{has, before, behind}
 use Rattle.deck_lines.specs.Reading.{cut, each}
 use Rattle.deck_lines.proofs.Cutting.{two_sides, cut_sign, cut_none}
+use Rattle.deck_lines.proofs.Scanning.{pieces_lie}
 
 -- words are what is done, and then what the rest is
 pub record Going {B : Type 0} (sign : List ℕ) (f : Words → Option B) (words : Words) (done : List B) (rest : Words) : Type 0 where
@@ -64,4 +65,4 @@ no_pieces text pieces e = ap (words_among text) e
 pub some_pieces : (text : List ℕ) (pieces : List Piece) (first : Piece) (rest : List Piece) → pieces ≡ first ∷ rest → words_among text pieces ≡ bytes_of text first ∷ words_among text rest
 some_pieces text pieces first rest e = ap (words_among text) e
 
-pub ruleset piece_laws = (no_pieces, some_pieces)
+pub ruleset piece_laws = (no_pieces, some_pieces, pieces_lie)

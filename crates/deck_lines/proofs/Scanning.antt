@@ -2,15 +2,20 @@
 use Rattle.std.proofs.Common.{◌≡◌, ℕ, suc, ◌+◌, ◌<◌, ◌≤◌, true, false, List, [], ◌∷◌, ◌++◌, length, take, drop, get_or, refl, sym, ap, ◌∙◌, arith, drop-cons, add-one, append_assoc, append-nil}
 use Rattle.std.proofs.Math.ListN.{drop_of_length-le}
 use Rattle.std.specs.Prelude.{if◌then◌else◌, ◌||◌}
-use Rattle.std.specs.List.{onto_first}
+use Rattle.std.specs.List.{All, onto_first}
 use Rattle.std.specs.Str.{bytes_eq}
 use Rattle.std.proofs.lemmas.Grind.{common_steps}
 use Rattle.expr_script.specs.declared.pieces.Piece.{Piece}
 use Rattle.expr_script.specs.Pieces.{words_among, bytes_of}
-use Rattle.deck_lines.specs.Cuts.{has, before, behind}
+use Rattle.expr_script.proofs.CutBounds.{all_within}
+use Rattle.deck_lines.specs.Cuts.{has, before, behind, ArePiecesOf}
 use Rattle.deck_lines.specs.Reading.{cut}
 use Rattle.deck_lines.specs.Forms.{Words}
 use Rattle.deck_lines.proofs.Cutting.{cut_some}
+
+-- pieces of a text lie in it
+pub pieces_lie : (text : List ℕ) (pieces : List Piece) → ArePiecesOf text pieces → All (λ piece. piece.from + piece.len ≤ length text) pieces
+pieces_lie text pieces all = all_within text pieces all
 
 -- no piece before a place is the word
 pub record NotYet (word text : List ℕ) (pieces : List Piece) (at : ℕ) : Type 0 where
@@ -75,7 +80,7 @@ here_has word text pieces at d p h e f n =
 pub never : (word text : List ℕ) (pieces : List Piece) (at : ℕ) → length pieces ≤ at → NotYet word text pieces at → has word (words_among text pieces) ≡ false
 never word text pieces at h n = n.has_it ∙ ap (λ ps. has word (words_among text ps)) (drop_of_length-le pieces h)
 
-pub ruleset scan_laws = (not_yet, not_here, here_before, here_behind, here_has, never)
+pub ruleset scan_laws = (not_yet, not_here, here_before, here_behind, here_has, never, pieces_lie)
 
 -- how many lists the pieces before a place were counted into, the one that goes on there with them
 pub record Counted (word text : List ℕ) (pieces : List Piece) (at count : ℕ) : Type 0 where
@@ -118,4 +123,4 @@ count_ends word text pieces at count h n =
     let so_far = n.so_far in
     omega (arith, so_far, last)
 
-pub ruleset count_laws = (count_starts, counts_here, counts_none, count_ends)
+pub ruleset count_laws = (count_starts, counts_here, counts_none, count_ends, pieces_lie)

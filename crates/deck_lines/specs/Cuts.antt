@@ -1,8 +1,9 @@
 -- Words, cut at one of them.
-use Rattle.std.specs.Prelude.{ℕ, ◌+◌, ◌≤◌, Bool, if◌then◌else◌, List, [], ◌∷◌, ◌++◌, length}
+use Rattle.std.specs.Prelude.{ℕ, Bool, if◌then◌else◌, List, [], ◌∷◌, ◌++◌}
 use Rattle.std.specs.List.{All, list_any}
 use Rattle.std.specs.Str.{bytes_eq}
 use Rattle.expr_script.specs.declared.pieces.Piece.{Piece}
+use Rattle.expr_script.specs.Pieces.{IsPieceOf}
 
 -- whether a word stands among others
 abbrev pub has : List ℕ → List (List ℕ) → Bool
@@ -28,6 +29,6 @@ abbrev pub separated : List ℕ → List (List (List ℕ)) → List (List ℕ)
 separated sign [] = []
 separated sign (part ∷ parts) = part ++ each_behind sign parts
 
--- pieces lie in their text
-abbrev pub Within : List ℕ → List Piece → Type 0
-Within text found = All (λ piece. piece.from + piece.len ≤ length text) found
+-- pieces of a text, which it is cut into
+abbrev pub ArePiecesOf : List ℕ → List Piece → Type 0
+ArePiecesOf text found = All (IsPieceOf text) found

@@ -4,7 +4,7 @@ ghost use Rattle.std.specs.Prelude.{◌≡◌, ◌≤◌, List, length, Some, No
 ghost use Rattle.std.specs.List.{AllZip};
 ghost use Rattle.expr_script.specs.Pieces.{words_among};
 ghost use Rattle.deck_lines.specs.Answers.{Reads};
-ghost use Rattle.deck_lines.specs.Cuts.{Within};
+ghost use Rattle.deck_lines.specs.Cuts.{ArePiecesOf};
 ghost use Rattle.deck_lines.specs.Forms as form;
 ghost use Rattle.deck_lines.specs.Forms.{SetForm};
 ghost use Rattle.deck_lines.specs.Kept.{IsKept, SetsWell};
@@ -27,7 +27,7 @@ use std::alloc::Global;
 // A name, `=` and a value.
 #[tactic(auto, using(crate::proofs::Calling::call_laws))]
 fn set(text: &[u8], pieces: &[Piece]) -> Option<(Name, Value)>
-    requires { Within text.now pieces.now }
+    requires { ArePiecesOf text.now pieces.now }
     ensures some { IfSome result (λ s. set_said (words_among text.now pieces.now) ≡ Some s) }
     ensures well { IfSome result SetsWell }
     ensures none { IfNone result (set_said (words_among text.now pieces.now) ≡ None) }
@@ -40,7 +40,7 @@ fn set(text: &[u8], pieces: &[Piece]) -> Option<(Name, Value)>
 // Such pairs, with commas between them. Room for them is made once.
 #[tactic(auto, using(crate::proofs::Going::going_laws))]
 fn sets(alloc: Global, text: &[u8], pieces: &[Piece]) -> Result<SetList, LineFault>
-    requires { Within text.now pieces.now }
+    requires { ArePiecesOf text.now pieces.now }
     ensures read { Reads (sets_said (words_among text.now pieces.now)) result }
     ensures some { IfOk result (λ sets. 1 ≤ length sets) }
     ensures well { IfOk result (λ sets. All SetsWell sets) }
@@ -81,7 +81,7 @@ fn fire_with(sets: SetList, looks: NameList) -> Result<Line, LineFault>
 /// A fire, from what stands behind its first word.
 #[tactic(auto, using(crate::proofs::Calling::call_laws))]
 pub fn fire(alloc: Global, text: &[u8], pieces: &[Piece]) -> Result<Line, LineFault>
-    requires { Within text.now pieces.now }
+    requires { ArePiecesOf text.now pieces.now }
     ensures read { IsRead (fire_of (words_among text.now pieces.now)) result }
     ensures kept { IfOk result IsKept }
 {
@@ -116,7 +116,7 @@ fn read_with(looks: NameList) -> Result<Line, LineFault>
 /// A read, from what stands behind its first word.
 #[tactic(auto, using(crate::proofs::Calling::call_laws))]
 pub fn read(alloc: Global, text: &[u8], pieces: &[Piece]) -> Result<Line, LineFault>
-    requires { Within text.now pieces.now }
+    requires { ArePiecesOf text.now pieces.now }
     ensures read { IsRead (read_of (words_among text.now pieces.now)) result }
     ensures kept { IfOk result IsKept }
 {

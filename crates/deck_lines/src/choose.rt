@@ -5,7 +5,7 @@ ghost use Rattle.std.specs.Prelude.{◌≡◌, ◌≤◌, [], ◌∷◌, min, Li
 ghost use Rattle.std.specs.Option.{option_map};
 ghost use Rattle.expr_script.specs.Pieces.{words_among};
 ghost use Rattle.signal_graph.specs.Graph.{BodyFits};
-ghost use Rattle.deck_lines.specs.Cuts.{Within};
+ghost use Rattle.deck_lines.specs.Cuts.{ArePiecesOf};
 ghost use Rattle.deck_lines.specs.Forms as form;
 ghost use Rattle.deck_lines.specs.Forms.{Words, PartForm};
 ghost use Rattle.deck_lines.specs.Kept.{IsKept};
@@ -72,7 +72,7 @@ fn only(
     pieces: &[Piece],
 ) -> Result<Line, LineFault>
     requires short { length text.now ≤ LINE_BYTES }
-    requires within { Within text.now pieces.now }
+    requires whole { ArePiecesOf text.now pieces.now }
     requires none { Gathers [] selectors }
     ensures read { (words : Words) → choose_by (name, words) ≡ option_map (λ part. form.Choose name (part ∷ []) None) (part_of (words_among text.now pieces.now)) → IsRead (choose_by (name, words)) result }
     ensures kept { IfOk result IsKept }
@@ -93,7 +93,7 @@ fn over(
     pieces: &[Piece],
 ) -> Result<Line, LineFault>
     requires short { length text.now ≤ LINE_BYTES }
-    requires within { Within text.now pieces.now }
+    requires whole { ArePiecesOf text.now pieces.now }
     requires some { 1 ≤ selectors.count }
     ensures read { (done : List PartForm) → Gathers done selectors → IsReadAs (form.Choose name done (Some (words_among text.now pieces.now))) result }
     ensures kept { (done : List PartForm) → Gathers done selectors → IfOk result IsKept }
@@ -114,7 +114,7 @@ fn last(
     pieces: &[Piece],
 ) -> Result<Line, LineFault>
     requires short { length text.now ≤ LINE_BYTES }
-    requires within { Within text.now pieces.now }
+    requires whole { ArePiecesOf text.now pieces.now }
     requires gathered { HasGathered selectors }
     ensures read { (words : Words) (done : List PartForm) → Gathers done selectors → parts_of (split (codes ":") words) ≡ option_map (prepended done) (last_of (words_among text.now pieces.now)) → IsRead (choose_by (name, words)) result }
     ensures kept { IfOk result IsKept }
@@ -135,7 +135,7 @@ fn last(
 /// A choose with this name, from what stands behind its `=`.
 pub fn choose(alloc: Global, text: &[u8], name: Name, pieces: &[Piece]) -> Result<Line, LineFault>
     requires short { length text.now ≤ LINE_BYTES }
-    requires within { Within text.now pieces.now }
+    requires whole { ArePiecesOf text.now pieces.now }
     ensures read { IsRead (choose_by (name, words_among text.now pieces.now)) result }
     ensures kept { IfOk result IsKept }
 {

@@ -3,7 +3,7 @@
 ghost use Rattle.std.specs.Prelude.{◌≡◌, ◌+◌, ◌≤◌, [], ◌∷◌, true, false, length, IfNone, IfSome};
 ghost use Rattle.std.specs.Str.{bytes_eq};
 ghost use Rattle.expr_script.specs.Pieces.{words_among, bytes_of};
-ghost use Rattle.deck_lines.specs.Cuts.{has, before, behind, Within};
+ghost use Rattle.deck_lines.specs.Cuts.{has, before, behind, ArePiecesOf};
 ghost use Rattle.deck_lines.specs.Reading.{cut as split};
 
 use expr_script::pieces::Piece;
@@ -19,11 +19,11 @@ pub fn is_word(text: &[u8], piece: Piece, word: &[u8]) -> bool
 /// The pieces before the first that is this word and those behind it, or none where no piece is.
 #[tactic(auto, using(crate::proofs::Scanning::scan_laws))]
 pub fn cut<'a>(text: &[u8], pieces: &'a [Piece], word: &[u8]) -> Option<(&'a [Piece], &'a [Piece])>
-    requires { Within text.now pieces.now }
+    requires { ArePiecesOf text.now pieces.now }
     ensures some { IfSome result (λ _. has word.now (words_among text.now pieces.now) ≡ true) }
     ensures before { IfSome result (λ p. words_among text.now p.0.now ≡ before word.now (words_among text.now pieces.now)) }
     ensures behind { IfSome result (λ p. words_among text.now p.1.now ≡ behind word.now (words_among text.now pieces.now)) }
-    ensures within { IfSome result (λ p. Within text.now p.0.now × Within text.now p.1.now) }
+    ensures whole { IfSome result (λ p. ArePiecesOf text.now p.0.now × ArePiecesOf text.now p.1.now) }
     ensures shorter { IfSome result (λ p. length p.0.now + length p.1.now + 1 ≡ length pieces.now) }
     ensures none { IfNone result (has word.now (words_among text.now pieces.now) ≡ false) }
 {
@@ -40,7 +40,7 @@ pub fn cut<'a>(text: &[u8], pieces: &'a [Piece], word: &[u8]) -> Option<(&'a [Pi
 /// How many lists of pieces the ones that are this word separate.
 #[tactic(auto, using(crate::proofs::Scanning::count_laws))]
 pub fn parts(text: &[u8], pieces: &[Piece], word: &[u8]) -> usize
-    requires { Within text.now pieces.now }
+    requires { ArePiecesOf text.now pieces.now }
     ensures { result ≡ length (split word.now (words_among text.now pieces.now)) }
 {
     let mut count = 1;
@@ -55,10 +55,10 @@ pub fn parts(text: &[u8], pieces: &[Piece], word: &[u8]) -> usize
 /// The first piece and those behind it.
 #[tactic(auto, using(crate::proofs::Going::piece_laws))]
 pub fn first<'a>(text: &[u8], pieces: &'a [Piece]) -> Option<(Piece, &'a [Piece])>
-    requires { Within text.now pieces.now }
+    requires { ArePiecesOf text.now pieces.now }
     ensures words { IfSome result (λ p. words_among text.now pieces.now ≡ bytes_of text.now p.0 ∷ words_among text.now p.1.now) }
     ensures lies { IfSome result (λ p. p.0.from + p.0.len ≤ length text.now) }
-    ensures within { IfSome result (λ p. Within text.now p.1.now) }
+    ensures whole { IfSome result (λ p. ArePiecesOf text.now p.1.now) }
     ensures none { IfNone result (words_among text.now pieces.now ≡ []) }
 {
     match pieces.split_first() {

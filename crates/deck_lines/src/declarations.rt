@@ -2,7 +2,7 @@
 
 ghost use Rattle.std.specs.Prelude.{◌≡◌, ◌≤◌, length, Some, IfOk, IsTrue};
 ghost use Rattle.expr_script.specs.Pieces.{words_among};
-ghost use Rattle.deck_lines.specs.Cuts.{Within};
+ghost use Rattle.deck_lines.specs.Cuts.{ArePiecesOf};
 ghost use Rattle.deck_lines.specs.Kept.{IsKept};
 ghost use Rattle.deck_lines.specs.Lines.{IsRead, IsReadAs};
 ghost use Rattle.deck_lines.specs.Forms as form;
@@ -25,7 +25,7 @@ use std::alloc::Global;
 
 /// A source with this name, from what stands behind its `=`.
 pub fn source(text: &[u8], name: Name, pieces: &[Piece]) -> Result<Line, LineFault>
-    requires { Within text.now pieces.now }
+    requires { ArePiecesOf text.now pieces.now }
     ensures read { IsRead (source_by (name, words_among text.now pieces.now)) result }
     ensures kept { IfOk result IsKept }
 {
@@ -38,7 +38,7 @@ pub fn source(text: &[u8], name: Name, pieces: &[Piece]) -> Result<Line, LineFau
 /// A signal with this name, from what stands behind its `=`.
 pub fn signal(alloc: Global, text: &[u8], name: Name, pieces: &[Piece]) -> Result<Line, LineFault>
     requires short { length text.now ≤ LINE_BYTES }
-    requires within { Within text.now pieces.now }
+    requires whole { ArePiecesOf text.now pieces.now }
     ensures read { IsReadAs (form.Signal name (words_among text.now pieces.now)) result }
     ensures kept { IfOk result IsKept }
 {
@@ -57,7 +57,7 @@ fn fold_from(
     pieces: &[Piece],
 ) -> Result<Line, LineFault>
     requires short { length text.now ≤ LINE_BYTES }
-    requires within { Within text.now pieces.now }
+    requires whole { ArePiecesOf text.now pieces.now }
     requires start { IsTrue (is_start start) }
     ensures read { (words : Words) → value_of words ≡ Some start → IsReadAs (form.Fold name words (words_among text.now pieces.now)) result }
     ensures kept { IfOk result IsKept }
@@ -71,7 +71,7 @@ fn fold_from(
 /// A fold with this name, from what stands behind its `=`.
 pub fn fold(alloc: Global, text: &[u8], name: Name, pieces: &[Piece]) -> Result<Line, LineFault>
     requires short { length text.now ≤ LINE_BYTES }
-    requires within { Within text.now pieces.now }
+    requires whole { ArePiecesOf text.now pieces.now }
     ensures read { IsRead (fold_by (name, words_among text.now pieces.now)) result }
     ensures kept { IfOk result IsKept }
 {

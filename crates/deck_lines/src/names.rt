@@ -2,7 +2,7 @@
 
 ghost use Rattle.std.specs.Prelude.{◌≡◌, ◌≤◌, length, Some, None, IfOk, IfNone, IfSome};
 ghost use Rattle.expr_script.specs.Pieces.{words_among};
-ghost use Rattle.deck_lines.specs.Cuts.{Within};
+ghost use Rattle.deck_lines.specs.Cuts.{ArePiecesOf};
 ghost use Rattle.deck_lines.specs.Answers.{Reads};
 ghost use Rattle.deck_lines.specs.Reading.{name_of, names_of, head_of};
 
@@ -16,7 +16,7 @@ use std::alloc::Global;
 /// The name that pieces are.
 #[tactic(auto, using(crate::proofs::Going::piece_laws))]
 pub fn name(text: &[u8], pieces: &[Piece]) -> Option<Name>
-    requires { Within text.now pieces.now }
+    requires { ArePiecesOf text.now pieces.now }
     ensures some { IfSome result (λ name. name_of (words_among text.now pieces.now) ≡ Some name) }
     ensures none { IfNone result (name_of (words_among text.now pieces.now) ≡ None) }
 {
@@ -30,7 +30,7 @@ pub fn name(text: &[u8], pieces: &[Piece]) -> Option<Name>
 /// The names that pieces are, with commas between them. Room for them is made once.
 #[tactic(auto, using(crate::proofs::Going::going_laws))]
 pub fn names(alloc: Global, text: &[u8], pieces: &[Piece]) -> Result<NameList, LineFault>
-    requires { Within text.now pieces.now }
+    requires { ArePiecesOf text.now pieces.now }
     ensures read { Reads (names_of (words_among text.now pieces.now)) result }
     ensures some { IfOk result (λ names. 1 ≤ length names) }
 {
@@ -53,9 +53,9 @@ pub fn names(alloc: Global, text: &[u8], pieces: &[Piece]) -> Result<NameList, L
 /// A name, `=` and the pieces behind it.
 #[tactic(auto, using(crate::proofs::Going::piece_laws))]
 pub fn head<'a>(text: &[u8], pieces: &'a [Piece]) -> Option<(Name, &'a [Piece])>
-    requires { Within text.now pieces.now }
+    requires { ArePiecesOf text.now pieces.now }
     ensures some { IfSome result (λ p. head_of (words_among text.now pieces.now) ≡ Some (p.0, words_among text.now p.1.now)) }
-    ensures within { IfSome result (λ p. Within text.now p.1.now) }
+    ensures whole { IfSome result (λ p. ArePiecesOf text.now p.1.now) }
     ensures none { IfNone result (head_of (words_among text.now pieces.now) ≡ None) }
 {
     let (word, behind) = first(text, pieces)?;

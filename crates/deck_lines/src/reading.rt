@@ -3,7 +3,7 @@
 ghost use Rattle.std.specs.Prelude.{◌≡◌, ◌≤◌, length, IfOk, IfErr};
 ghost use Rattle.std.specs.Option.{option_and_then};
 ghost use Rattle.expr_script.specs.Pieces.{words_among};
-ghost use Rattle.deck_lines.specs.Cuts.{Within};
+ghost use Rattle.deck_lines.specs.Cuts.{ArePiecesOf};
 ghost use Rattle.deck_lines.specs.Kept.{IsKept};
 ghost use Rattle.deck_lines.specs.Lines.{IsRead, IsLine, IsLineFault};
 ghost use Rattle.deck_lines.specs.Reading.{head_of, declared_by, thread_of, form_by, form_of};
@@ -32,7 +32,7 @@ fn declares(
     pieces: &[Piece],
 ) -> Result<Line, LineFault>
     requires short { length text.now ≤ LINE_BYTES }
-    requires within { Within text.now pieces.now }
+    requires whole { ArePiecesOf text.now pieces.now }
     ensures read { IsRead (declared_by keyword (name, words_among text.now pieces.now)) result }
     ensures kept { IfOk result IsKept }
 {
@@ -53,7 +53,7 @@ fn declared(
     pieces: &[Piece],
 ) -> Result<Line, LineFault>
     requires short { length text.now ≤ LINE_BYTES }
-    requires within { Within text.now pieces.now }
+    requires whole { ArePiecesOf text.now pieces.now }
     ensures read { IsRead (option_and_then (declared_by keyword) (head_of (words_among text.now pieces.now))) result }
     ensures kept { IfOk result IsKept }
 {
@@ -65,7 +65,7 @@ fn declared(
 
 // The beginning of a thread, behind which nothing stands.
 fn thread(text: &[u8], pieces: &[Piece]) -> Result<Line, LineFault>
-    requires { Within text.now pieces.now }
+    requires { ArePiecesOf text.now pieces.now }
     ensures read { IsRead (thread_of (words_among text.now pieces.now)) result }
     ensures kept { IfOk result IsKept }
 {
@@ -78,7 +78,7 @@ fn thread(text: &[u8], pieces: &[Piece]) -> Result<Line, LineFault>
 // A line, from what stands behind its first word.
 fn behind(alloc: Global, text: &[u8], keyword: Keyword, pieces: &[Piece]) -> Result<Line, LineFault>
     requires short { length text.now ≤ LINE_BYTES }
-    requires within { Within text.now pieces.now }
+    requires whole { ArePiecesOf text.now pieces.now }
     ensures read { IsRead (form_by keyword (words_among text.now pieces.now)) result }
     ensures kept { IfOk result IsKept }
 {
@@ -97,7 +97,7 @@ fn behind(alloc: Global, text: &[u8], keyword: Keyword, pieces: &[Piece]) -> Res
 #[tactic(auto, using(crate::proofs::Finding::read_laws))]
 fn read_pieces(alloc: Global, text: &[u8], pieces: &[Piece]) -> Result<Line, LineFault>
     requires short { length text.now ≤ LINE_BYTES }
-    requires within { Within text.now pieces.now }
+    requires whole { ArePiecesOf text.now pieces.now }
     ensures read { IsRead (form_of (words_among text.now pieces.now)) result }
     ensures kept { IfOk result IsKept }
 {

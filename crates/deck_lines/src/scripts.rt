@@ -3,7 +3,7 @@
 ghost use Rattle.std.specs.Prelude.{◌≡◌, ◌≤◌, false, length, IfOk};
 ghost use Rattle.script_tree.specs.Scripts.{HasNoPicks, HasNoAcc, IsBody};
 ghost use Rattle.expr_script.specs.Pieces.{words_among};
-ghost use Rattle.deck_lines.specs.Cuts.{Within};
+ghost use Rattle.deck_lines.specs.Cuts.{ArePiecesOf};
 ghost use Rattle.deck_lines.specs.Scripts.{IsScriptRead, IsBodyRead, line_fault};
 
 use crate::fault::{Limit, LineFault};
@@ -28,7 +28,7 @@ fn fault_of(fault: ScriptFault) -> LineFault
 #[tactic(auto, using(crate::proofs::Scripting::script_laws))]
 pub fn script(alloc: Global, text: &[u8], pieces: &[Piece], acc: bool) -> Result<Script, LineFault>
     requires short { length text.now ≤ LINE_BYTES }
-    requires within { Within text.now pieces.now }
+    requires whole { ArePiecesOf text.now pieces.now }
     ensures read { IsScriptRead acc (words_among text.now pieces.now) result }
     ensures picks { IfOk result HasNoPicks }
     ensures acc { acc ≡ false → IfOk result HasNoAcc }
@@ -43,7 +43,7 @@ pub fn script(alloc: Global, text: &[u8], pieces: &[Piece], acc: bool) -> Result
 #[tactic(auto, using(crate::proofs::Scripting::script_laws))]
 pub fn body(alloc: Global, text: &[u8], pieces: &[Piece], picks: u32) -> Result<Script, LineFault>
     requires short { length text.now ≤ LINE_BYTES }
-    requires within { Within text.now pieces.now }
+    requires whole { ArePiecesOf text.now pieces.now }
     requires some { 1 ≤ picks }
     requires few { picks ≤ SELECTORS }
     ensures read { IsBodyRead picks (words_among text.now pieces.now) result }

@@ -7,7 +7,7 @@ ghost use Rattle.expr_script.specs.declared.atoms.Atoms.TheVariants as atoms;
 ghost use Rattle.deck_lines.specs.Scripts.{IsScriptRead};
 ghost use Rattle.deck_lines.specs.declared.fault.LineFault.TheVariants.{TooMany};
 ghost use Rattle.script_tree.specs.Scripts.{HasNoPicks, HasNoAcc};
-ghost use Rattle.deck_lines.specs.Cuts.{Within};
+ghost use Rattle.deck_lines.specs.Cuts.{ArePiecesOf};
 ghost use Rattle.deck_lines.specs.Forms.{PartForm};
 ghost use Rattle.deck_lines.specs.Limits.{selector_script, IsTooDeep};
 ghost use Rattle.deck_lines.specs.Selectors.{Gathers, Adds};
@@ -136,7 +136,7 @@ impl Selectors {
     /// Adds the selector that pieces are: a script, `among` and its candidates.
     pub fn add(&mut self, alloc: Global, text: &[u8], pieces: &[Piece]) -> Result<(), LineFault>
         requires short { length text.now ≤ LINE_BYTES }
-        requires within { Within text.now pieces.now }
+        requires whole { ArePiecesOf text.now pieces.now }
         ensures { Adds (part_of (words_among text.now pieces.now)) self.old self.new result }
     {
         let Some((before, behind)) = cut(text, pieces, b"among") else {

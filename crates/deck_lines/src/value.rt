@@ -5,7 +5,7 @@ ghost use Rattle.std.specs.Char.{is_ascii_digit};
 ghost use Rattle.std.specs.List.{list_all};
 ghost use Rattle.expr_script.specs.Words.{value};
 ghost use Rattle.expr_script.specs.Pieces.{words_among};
-ghost use Rattle.deck_lines.specs.Cuts.{Within};
+ghost use Rattle.deck_lines.specs.Cuts.{ArePiecesOf};
 ghost use Rattle.deck_lines.specs.Values as values;
 
 use crate::cut::{first, is_word};
@@ -93,7 +93,7 @@ fn one_word(word: &[u8]) -> Option<Value>
 /// The value that pieces spell: `true`, `false`, or a number of `i64` with or without one minus before it.
 #[tactic(auto, using(crate::proofs::Going::piece_laws))]
 pub fn value(text: &[u8], pieces: &[Piece]) -> Option<Value>
-    requires { Within text.now pieces.now }
+    requires { ArePiecesOf text.now pieces.now }
     ensures { result ≡ values.value_of (words_among text.now pieces.now) }
 {
     let (word, rest) = first(text, pieces)?;

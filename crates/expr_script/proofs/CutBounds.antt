@@ -1,14 +1,14 @@
 -- Each piece of a text has bytes and lies in the text.
-use Rattle.std.proofs.Common.{◌≡◌, ℕ, zero, suc, ◌+◌, ◌-◌, ◌<◌, ◌≤◌, Bool, true, false, List, [], ◌∷◌, length, refl, sym, ap, ◌∙◌, arith, ◌++◌, drop, append-nil}
+use Rattle.std.proofs.Common.{◌≡◌, ℕ, zero, suc, ◌+◌, ◌-◌, ◌<◌, ◌≤◌, Bool, true, false, List, [], ◌∷◌, length, refl, sym, ap, ◌∙◌, arith, ◌++◌, drop, append-nil, get_or}
 use Rattle.std.proofs.Math.ListN.{drop_of_length-le}
 use Rattle.std.specs.Prelude.{if◌then◌else◌, take_while}
 use Rattle.std.specs.List.{All, AllByRecursion}
-use Rattle.std.proofs.lemmas.List.Elements.{All-from_recursion}
+use Rattle.std.proofs.lemmas.List.Elements.{All-from_recursion, All-contains, All-contains_itself}
 use Rattle.std.proofs.lemmas.List.Sums.{take_while-cons}
 use Rattle.std.proofs.lemmas.Grind.{common_steps}
 use Rattle.script_tree.specs.Names.{is_word}
 use Rattle.expr_script.specs.declared.pieces.Piece.{Piece}
-use Rattle.expr_script.specs.Pieces.{is_blank, is_pair, sign_len, piece_len, pieces_from, pieces}
+use Rattle.expr_script.specs.Pieces.{is_blank, is_pair, sign_len, piece_len, pieces_from, pieces, IsPieceOf}
 
 -- a piece that has bytes and ends at a bound or before it
 pub record Lies (bound : ℕ) (piece : Piece) : Type 0 where
@@ -54,6 +54,22 @@ all_lie zero at (b ∷ bs) bound e =
 
 pub pieces_lie : (text : List ℕ) → All (Lies (length text)) (pieces text)
 pieces_lie text = All-from_recursion (Lies (length text)) (pieces text) (all_lie 0 0 text (length text) (omega arith))
+
+-- what a text is cut into are its pieces
+pub pieces_of_it : (text : List ℕ) → All (IsPieceOf text) (pieces text)
+unfolding IsPieceOf
+pieces_of_it text = All-contains_itself (pieces text)
+
+-- what all pieces are that a text is cut into, each of its pieces is
+pub one_of_all : (P : Piece → Type 0) (text : List ℕ) (piece : Piece) → All P (pieces text) → IsPieceOf text piece → P piece
+unfolding IsPieceOf
+one_of_all P text piece all one = All-contains P (pieces text) piece all one
+
+pub piece_of_lies : (text : List ℕ) (piece : Piece) → IsPieceOf text piece → Lies (length text) piece
+piece_of_lies text piece one = one_of_all (Lies (length text)) text piece (pieces_lie text) one
+
+pub all_within : (text : List ℕ) (found : List Piece) → All (IsPieceOf text) found → All (λ piece. piece.from + piece.len ≤ length text) found
+all_within text found all k d h = (piece_of_lies text (get_or found k d) (all k d h)).within
 
 -- at the end of a text nothing is left to be cut
 pub all_found : (found total : List Piece) (text : List ℕ) (skip at : ℕ) → length text ≤ at → found ++ pieces_from skip at (drop at text) ≡ total → found ≡ total

@@ -1,5 +1,5 @@
 -- The words and signs of a text: a word is the longest run of its bytes, and a sign the longest one.
-use Rattle.std.specs.Prelude.{ℕ, zero, suc, ◌+◌, ◌-◌, Bool, ◌&&◌, ◌||◌, ◌==◌, if◌then◌else◌, List, [], ◌∷◌, length, take, drop, take_while, map, slice_get, unwrap_or}
+use Rattle.std.specs.Prelude.{ℕ, zero, suc, ◌+◌, ◌-◌, Bool, ◌&&◌, ◌||◌, ◌==◌, if◌then◌else◌, List, [], ◌∷◌, length, take, drop, take_while, map, slice_get, unwrap_or, Contains}
 use Rattle.std.specs.Option.{option_map}
 use Rattle.script_tree.specs.Names.{is_word}
 use Rattle.expr_script.specs.declared.pieces.Piece.{Piece}
@@ -35,6 +35,10 @@ pieces_from zero at (b ∷ bs) =
 -- the words and signs of a text, in their order
 abbrev pub pieces : List ℕ → List Piece
 pieces text = pieces_from 0 0 text
+
+-- a piece of a text is one of those that the text is cut into
+unfoldable pub IsPieceOf : List ℕ → Piece → Type 0
+IsPieceOf text piece = Contains (pieces text) piece
 
 -- the bytes of a piece
 abbrev pub bytes_of : List ℕ → Piece → List ℕ

@@ -1,21 +1,25 @@
 //! Laws of scripts as text.
 
-ghost use Rattle.std.specs.Prelude.{◌≡◌, ◌≢◌, ◌≤◌, ◌<◌, ◌++◌, ℕ, Bool, List, [], Result, Ok, Err, length, All};
+ghost use Rattle.std.specs.Prelude.{◌≡◌, ◌≢◌, ◌≤◌, ◌<◌, ◌+◌, ◌++◌, ℕ, Bool, List, [], Result, Ok, Err, length, All};
 ghost use Rattle.script_tree.specs.Scripts.{Scripted};
 ghost use Rattle.script_tree.specs.declared.limits.TheConstants.{SELECTORS};
 ghost use Rattle.expr_script.specs.declared.faults.ScriptFault.{ScriptFault};
 ghost use Rattle.expr_script.specs.declared.faults.ScriptFault.TheVariants.{Memory};
 ghost use Rattle.expr_script.specs.declared.pieces.Piece.{Piece};
-ghost use Rattle.expr_script.specs.Cut.{IsCut};
+ghost use Rattle.expr_script.specs.Cut.{IsPiece, IsCut};
 ghost use Rattle.expr_script.specs.Joined.{behind, joined, StandApart};
-ghost use Rattle.expr_script.specs.Pieces.{pieces, words};
+ghost use Rattle.expr_script.specs.Pieces.{pieces, words, IsPieceOf};
 ghost use Rattle.expr_script.specs.Printed.{printed, printed_words};
 ghost use Rattle.expr_script.specs.Spelled.{FormedScript, FormedBody, IsShallow, SpellsScript, SpellsBody, IsScriptAnswer, IsBodyAnswer};
 
-/// A text has one cut into words and signs, and its pieces are it.
+/// A text has one cut into words and signs, and its pieces are it. Each of its pieces is a whole word or sign, has bytes
+/// and lies in the text.
 pub fn one_cut()
     ensures cut { (text : List ℕ) → IsCut text (pieces text) }
     ensures one { (text : List ℕ) (found other : List Piece) → IsCut text found → IsCut text other → found ≡ other }
+    ensures whole { (text : List ℕ) (piece : Piece) → IsPieceOf text piece → IsPiece text piece }
+    ensures some { (text : List ℕ) (piece : Piece) → IsPieceOf text piece → 0 < piece.len }
+    ensures within { (text : List ℕ) (piece : Piece) → IsPieceOf text piece → piece.from + piece.len ≤ length text }
 {}
 
 /// Words have one answer, want of memory aside. So each answer comes exactly where what it says holds: a script where the

@@ -3,7 +3,7 @@
 ghost use Rattle.std.specs.Prelude.{◌≡◌, ◌+◌, ◌<◌, ◌≤◌, ◌++◌, drop, length, take_while, All, IfOk};
 ghost use Rattle.script_tree.specs.Names.{is_word};
 ghost use Rattle.expr_script.specs.Cut.{begins_word, IsCut};
-ghost use Rattle.expr_script.specs.Pieces.{is_blank, is_pair, piece_len, pieces_from, pieces, bytes_of};
+ghost use Rattle.expr_script.specs.Pieces.{is_blank, is_pair, piece_len, pieces_from, pieces, bytes_of, IsPieceOf};
 
 use script_tree::bytes::is_word;
 use script_tree::memory::OutOfMemory;
@@ -104,6 +104,7 @@ fn one_byte(
 pub fn pieces(alloc: Global, text: &[u8]) -> Result<Vec<Piece>, OutOfMemory>
     ensures cut { IfOk result (λ found. IsCut text.now found.items) }
     ensures found { IfOk result (λ found. found.items ≡ pieces text.now) }
+    ensures whole { IfOk result (λ found. All (IsPieceOf text.now) found.items) }
     ensures within { IfOk result (λ found. All (λ piece. piece.from + piece.len ≤ length text.now) found.items) }
     ensures some { IfOk result (λ found. All (λ piece. 0 < piece.len) found.items) }
 {

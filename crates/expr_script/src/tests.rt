@@ -387,11 +387,12 @@ fn pieces_of_a_line(rt: HostRuntime) {
 #[test]
 fn a_part_of_a_line(rt: HostRuntime) -> Result<(), Fail> {
     let line = b"f = 0 : acc + a , pick1";
-    let script = [
-        Piece { from: 8, len: 3 },
-        Piece { from: 12, len: 1 },
-        Piece { from: 14, len: 1 },
-    ];
+    let cut = pieces(rt.alloc(), line)?;
+    let acc = cut.get(4).expect(&rt, "nine pieces");
+    let plus = cut.get(5).expect(&rt, "nine pieces");
+    let a = cut.get(6).expect(&rt, "nine pieces");
+    let pick = cut.get(8).expect(&rt, "nine pieces");
+    let script = [*acc, *plus, *a];
     let read = parse_script_pieces(rt.alloc(), line, &script, true)?;
     assert_eq!(rt; read.inputs().len(), 1);
     assert!(rt;
@@ -400,15 +401,14 @@ fn a_part_of_a_line(rt: HostRuntime) -> Result<(), Fail> {
             Err(ScriptFault::Syntax(8))
         )
     );
-    let begun = [Piece { from: 14, len: 1 }, Piece { from: 12, len: 1 }];
+    let begun = [*a, *plus];
     assert!(rt;
         matches!(
             parse_script_pieces(rt.alloc(), line, &begun, false),
             Err(ScriptFault::Syntax(23))
         )
     );
-    let body = [Piece { from: 18, len: 5 }];
-    let read = parse_body_pieces(rt.alloc(), line, &body, 1)?;
+    let read = parse_body_pieces(rt.alloc(), line, &[*pick], 1)?;
     assert_eq!(rt; read.eval_body(&[Value::Int(4)]), Value::Int(4));
     Ok(())
 }

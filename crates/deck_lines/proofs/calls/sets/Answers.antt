@@ -16,7 +16,7 @@ returns-in_default-set-clause-read c =
 pub loop-before-preserved : goal.loop-before-preserved
 loop-before-preserved c = record {
   well = subst (All SetsWell) (sym c.in_ok-push.ensures.items) (All-push SetsWell c.loop-before.sets.items c.in-Some-set.one c.loop-before.invariant.well c.in-Some-set.ensures.well);
-  within = c.in-Some.ensures.within.1;
+  whole = c.in-Some.ensures.whole.1;
   going = subst (λ (done : List (List ℕ × Value)). Going (codes ",") set_said (words_among c.args.text.now c.args.pieces.now) done (words_among c.args.text.now c.in-Some.after.now)) (sym c.in_ok-push.ensures.items)
       (goes_on (codes ",") set_said (words_among c.args.text.now c.args.pieces.now) c.loop-before.sets.items (words_among c.args.text.now c.loop-before.rest.now) (words_among c.args.text.now c.in-Some.before.now) (words_among c.args.text.now c.in-Some.after.now) c.in-Some-set.one
       c.loop-before.invariant.going c.in-Some.ensures.some c.in-Some.ensures.before c.in-Some.ensures.behind c.in-Some-set.ensures.some);

@@ -12,7 +12,7 @@ pub loop-before-preserved : goal.loop-before-preserved
 loop-before-preserved c =
     let text = c.args.text.now in
     record {
-      within = c.in-Some.ensures.within.1;
+      whole = c.in-Some.ensures.whole.1;
       gathered = gathered_more (words_among text c.args.pieces.now) c.loop-before.selectors c.add.new.self (words_among text c.loop-before.rest.now) (words_among text c.in-Some.before.now) (words_among text c.in-Some.after.now)
           c.loop-before.invariant.gathered c.in-Some.ensures.some c.in-Some.ensures.before c.in-Some.ensures.behind c.in_default-add.ensures;
     }
