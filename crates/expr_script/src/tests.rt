@@ -1,5 +1,8 @@
 // What texts are read as.
 
+ghost use Rattle.std.specs.Prelude.{◌≤◌, length, IfOk};
+ghost use Rattle.script_tree.specs.Scripts.{IsBody};
+
 use crate::limits::LINE_BYTES;
 use crate::pieces::{Piece, pieces};
 use crate::{
@@ -384,31 +387,53 @@ fn pieces_of_a_line(rt: HostRuntime) {
     assert!(rt; is_cut(rt.alloc(), b"???", &signs));
 }
 
+// The pieces of a text from one number up to another, read as a script.
+fn script_part(
+    alloc: Global,
+    text: &[u8],
+    from: usize,
+    to: usize,
+    acc: bool,
+) -> Result<Script, ScriptFault>
+    requires { length text.now ≤ LINE_BYTES }
+{
+    let cut = pieces(alloc, text)?;
+    let found = cut.as_slice();
+    let (until, _) = found.split_at(to.min(found.len()));
+    let (_, part) = until.split_at(from.min(until.len()));
+    parse_script_pieces(alloc, text, part, acc)
+}
+
+// The same, read as a body over one pick.
+fn body_part(alloc: Global, text: &[u8], from: usize, to: usize) -> Result<Script, ScriptFault>
+    requires { length text.now ≤ LINE_BYTES }
+    ensures { IfOk result (IsBody 1) }
+{
+    let cut = pieces(alloc, text)?;
+    let found = cut.as_slice();
+    let (until, _) = found.split_at(to.min(found.len()));
+    let (_, part) = until.split_at(from.min(until.len()));
+    parse_body_pieces(alloc, text, part, 1)
+}
+
 #[test]
 fn a_part_of_a_line(rt: HostRuntime) -> Result<(), Fail> {
     let line = b"f = 0 : acc + a , pick1";
-    let cut = pieces(rt.alloc(), line)?;
-    let acc = cut.get(4).expect(&rt, "nine pieces");
-    let plus = cut.get(5).expect(&rt, "nine pieces");
-    let a = cut.get(6).expect(&rt, "nine pieces");
-    let pick = cut.get(8).expect(&rt, "nine pieces");
-    let script = [*acc, *plus, *a];
-    let read = parse_script_pieces(rt.alloc(), line, &script, true)?;
+    let read = script_part(rt.alloc(), line, 4, 7, true)?;
     assert_eq!(rt; read.inputs().len(), 1);
     assert!(rt;
         matches!(
-            parse_script_pieces(rt.alloc(), line, &script, false),
+            script_part(rt.alloc(), line, 4, 7, false),
             Err(ScriptFault::Syntax(8))
         )
     );
-    let begun = [*a, *plus];
     assert!(rt;
         matches!(
-            parse_script_pieces(rt.alloc(), line, &begun, false),
+            script_part(rt.alloc(), line, 4, 6, true),
             Err(ScriptFault::Syntax(23))
         )
     );
-    let read = parse_body_pieces(rt.alloc(), line, &[*pick], 1)?;
+    let read = body_part(rt.alloc(), line, 8, 9)?;
     assert_eq!(rt; read.eval_body(&[Value::Int(4)]), Value::Int(4));
     Ok(())
 }
