@@ -8,6 +8,3 @@ mod words;
 
 pub use crate::command::{Command, WordsFault};
 pub use crate::words::read_words;
-
-#[cfg(test)]
-mod tests;

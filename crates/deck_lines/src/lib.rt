@@ -16,8 +16,6 @@ mod reading;
 mod said;
 mod scripts;
 mod selectors;
-#[cfg(test)]
-mod tests;
 mod value;
 
 pub use crate::fault::{Limit, LineFault};

@@ -8,8 +8,6 @@ mod lines;
 mod printer;
 mod reader;
 mod reason;
-#[cfg(test)]
-mod tests;
 
 pub use crate::deck::Deck;
 pub use crate::fault::{DeckFault, What};

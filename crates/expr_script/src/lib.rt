@@ -26,6 +26,3 @@ pub use script_tree::name::{Name, NameList};
 pub use script_tree::picks::Picks;
 pub use script_tree::script::Script;
 pub use script_tree::value::{Fault, Value};
-
-#[cfg(test)]
-mod tests;

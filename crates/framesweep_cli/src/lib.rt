@@ -7,8 +7,6 @@ pub mod laws;
 mod lines;
 mod output;
 mod stop;
-#[cfg(test)]
-mod tests;
 mod top;
 
 pub use command_words::{Command, WordsFault, read_words};

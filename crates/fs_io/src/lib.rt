@@ -10,6 +10,4 @@ pub mod sink;
 pub mod source;
 pub mod sure_sink;
 pub mod sure_source;
-#[cfg(test)]
-mod tests;
 pub mod whole;

@@ -9,8 +9,6 @@ mod laws;
 mod lines;
 mod pieces;
 mod reading;
-#[cfg(test)]
-mod tests;
 mod whole;
 
 pub use json_report::report_json;

@@ -8,7 +8,5 @@ mod next;
 pub mod reader;
 mod stack;
 mod step;
-#[cfg(test)]
-mod tests;
 pub mod token;
 pub mod writer;

@@ -12,5 +12,3 @@ pub mod node;
 mod outs;
 mod resolve;
 mod starts;
-#[cfg(test)]
-mod tests;

@@ -5,13 +5,13 @@ ghost use Rattle.script_tree.specs.Names.{is_name};
 ghost use Rattle.script_tree.specs.Tree.{Input};
 ghost use Rattle.script_tree.specs.Scripts.{HasNoAcc, HasNoPicks};
 
-use crate::builder::{DeclKind, GraphBuilder};
 use script_tree::expr::Expr;
 use script_tree::items::Items;
 use script_tree::memory::OutOfMemory;
 use script_tree::name::Name;
 use script_tree::script::Script;
 use script_tree::value::Value;
+use signal_graph::builder::{DeclKind, GraphBuilder};
 use std::alloc::Global;
 use std::test::Fail;
 

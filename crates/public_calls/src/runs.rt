@@ -2,7 +2,7 @@
 
 ghost use Rattle.std.specs.Prelude.{◌≤◌};
 
-use crate::framesweep;
+use framesweep_cli::framesweep;
 use fs_io::mem_sink::MemSink;
 use fs_io::mem_source::MemSource;
 use fs_io::sure_sink::SureSink;
@@ -53,7 +53,7 @@ const PRINTED: &str =
     "source  a = 007\nsignal c = ((a + 1)) * 2  # twice\nfold n = -1 : acc - (a - 1)\nthread\nfire a = - 5 look c, n";
 
 // Words, a deck and its report.
-const REPORTS: [(&str, &str, &str); 11] = [
+const REPORTS: [(&str, &str, &str); 12] = [
     (
         "run",
         "source a = 1\nthread\n",
@@ -103,6 +103,11 @@ const REPORTS: [(&str, &str, &str); 11] = [
         "run --versions=0",
         "source a = 0\r\nthread\r\nfire a=1\r\nread a",
         "refused thread 1 call 1 versions used up 0\nrefused thread 1 call 2 versions used up 0\nfinal a=0\ndone 0 accepted 2 refused\n",
+    ),
+    (
+        "serial --versions 2",
+        "source a = 0\nthread\nfire a=1\nfire a=2\nthread\nfire a=3\n",
+        "call 1 thread 1 fire changed 1 evaluated 0\ncall 2 thread 1 fire changed 1 evaluated 0\nrefused thread 2 call 1 versions used up 2\nfinal a=2\ndone 2 accepted 1 refused\n",
     ),
     (
         "serial",

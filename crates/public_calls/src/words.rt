@@ -1,6 +1,6 @@
 // Which words are command lines, and what they ask for.
 
-use crate::{Command, WordsFault, read_words};
+use command_words::{Command, WordsFault, read_words};
 use script_tree::items::Text;
 use script_tree::memory::OutOfMemory;
 use std::alloc::Global;

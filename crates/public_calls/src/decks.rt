@@ -1,8 +1,6 @@
 // Decks by hand with the answer that each gets, and the canonical text of a few.
 
-use crate::fault::DeckFault;
-use crate::printer::print_deck;
-use crate::reader::read_deck;
+use deck_text::{DeckFault, print_deck, read_deck};
 use std::alloc::Global;
 use std::test::Fail;
 

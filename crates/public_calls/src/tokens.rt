@@ -1,8 +1,8 @@
 // Worked examples: what the levels mean, and how long a script may be.
 
-use crate::reader::read_script;
-use crate::token::{Token, Word};
-use crate::writer::write_script;
+use script_grammar::reader::read_script;
+use script_grammar::token::{Token, Word};
+use script_grammar::writer::write_script;
 use script_tree::expr::Binary;
 use script_tree::value::Value;
 use std::test::Fail;

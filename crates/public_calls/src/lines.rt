@@ -1,8 +1,6 @@
 // Lines by hand with what each says, or why it says nothing.
 
-use crate::fault::LineFault;
-use crate::line::Line;
-use crate::reading::read_line;
+use deck_lines::{Line, LineFault, read_line};
 use script_tree::limits::LINE_BYTES;
 use signal_graph::builder::DeclKind;
 use signal_graph::call::Call;

@@ -3,11 +3,9 @@
 ghost use Rattle.std.specs.Prelude.{◌≡◌, ◌<◌, ◌+◌, ◌-◌, ◌^◌, ◌++◌, ◌∷◌, [], length, IfOk, OnOk};
 ghost use Rattle.report_text.specs.Report.{Answers, AreAnswered};
 
-use crate::data::{CallLine, Report};
-use crate::json_report::report_json;
-use crate::reading::{ReportFault, read_report};
-use crate::whole::report;
 use call_log::{Finished, Log, Logged, Refused, Why};
+use report_text::data::{CallLine, Report};
+use report_text::{ReportFault, read_report, report, report_json};
 use script_tree::items::Items;
 use script_tree::name::{Name, NameList};
 use script_tree::value::{Fault, Value};

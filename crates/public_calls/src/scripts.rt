@@ -3,9 +3,9 @@
 ghost use Rattle.std.specs.Prelude.{◌≤◌, length, IfOk};
 ghost use Rattle.script_tree.specs.Scripts.{IsBody};
 
-use crate::limits::LINE_BYTES;
-use crate::pieces::{Piece, pieces};
-use crate::{
+use expr_script::limits::LINE_BYTES;
+use expr_script::pieces::{Piece, pieces};
+use expr_script::{
     Fault, Script, ScriptFault, Text, Value, parse_body, parse_body_pieces, parse_script,
     parse_script_bytes, parse_script_pieces, print_script, print_script_to,
 };

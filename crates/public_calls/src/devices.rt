@@ -2,13 +2,13 @@
 
 ghost use Rattle.std.specs.Prelude.{◌≤◌, IfOk};
 
-use crate::adapters::{ReadSource, WriteSink};
-use crate::fault::ReadFault;
-use crate::mem_sink::MemSink;
-use crate::mem_source::MemSource;
-use crate::sink::{Flushed, Given, Sink};
-use crate::source::{Source, Taken};
-use crate::whole::{read_all, write_all};
+use fs_io::adapters::{ReadSource, WriteSink};
+use fs_io::fault::ReadFault;
+use fs_io::mem_sink::MemSink;
+use fs_io::mem_source::MemSource;
+use fs_io::sink::{Flushed, Given, Sink};
+use fs_io::source::{Source, Taken};
+use fs_io::whole::{read_all, write_all};
 use std::io;
 use std::io::{Read, Write};
 use std::test::Fail;
