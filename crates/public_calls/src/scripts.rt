@@ -9,7 +9,7 @@ use expr_script::{
     Fault, Script, ScriptFault, Text, Value, parse_body, parse_body_pieces, parse_script,
     parse_script_bytes, parse_script_pieces, print_script, print_script_to,
 };
-use std::alloc::{AllocError, Global};
+use std::alloc::Global;
 use std::test::Fail;
 
 // Texts and their canonical form, with `acc` allowed.
@@ -160,16 +160,6 @@ fn body_value(alloc: Global, text: &str, pick: Value) -> Option<Value> {
     }
 }
 
-// So many times a text, and another behind it.
-fn repeated(alloc: Global, text: &[u8], times: usize, last: &[u8]) -> Result<Vec<u8>, AllocError> {
-    let mut bytes = Vec::new(alloc);
-    for _ in 0..times {
-        bytes.extend_from_slice(text)?;
-    }
-    bytes.extend_from_slice(last)?;
-    Ok(bytes)
-}
-
 // The fault of the bytes, if they are no script.
 fn fault_of(alloc: Global, bytes: &[u8]) -> Option<ScriptFault> {
     if bytes.len() > LINE_BYTES {
@@ -246,112 +236,12 @@ fn bodies(rt: HostRuntime) {
 }
 
 #[test]
-fn deep_and_long(rt: HostRuntime) -> Result<(), Fail> {
-    let alloc = rt.alloc();
-    let closed = repeated(alloc, b")", 64, b"")?;
-    let open = repeated(alloc, b"(", 64, b"1")?;
-    let nested = repeated(alloc, &open, 1, &closed)?;
-    assert_eq!(rt; fault_of(alloc, &nested), None);
+fn bytes_that_are_no_text(rt: HostRuntime) {
+    assert_eq!(rt; fault_of(rt.alloc(), b"a+b"), None);
     assert_eq!(rt;
-        fault_of(alloc, &repeated(alloc, b"(", 65, b"1")?),
-        Some(ScriptFault::TooDeep(65))
+        fault_of(rt.alloc(), b"a+\xff"),
+        Some(ScriptFault::Syntax(2))
     );
-    assert_eq!(rt; fault_of(alloc, &repeated(alloc, b"!", 64, b"true")?), None);
-    assert_eq!(rt;
-        fault_of(alloc, &repeated(alloc, b"!", 65, b"true")?),
-        Some(ScriptFault::TooDeep(65))
-    );
-    assert_eq!(rt; fault_of(alloc, b"a+\xff"), Some(ScriptFault::Syntax(2)));
-    Ok(())
-}
-
-// A long text, and what became of it: its value, and the bytes of its canonical text.
-#[derive(Drop)]
-struct Long {
-    alloc: Global,
-    text: Vec<u8>,
-    value: Option<Value>,
-    printed: usize,
-}
-
-fn long_of(alloc: Global, text: Vec<u8>) -> Long {
-    Long {
-        alloc,
-        text,
-        value: None,
-        printed: 0,
-    }
-}
-
-// Reads a long text, evaluates it, prints it and drops it.
-fn take_through(long: &mut Long) {
-    if long.text.len() > LINE_BYTES {
-        return;
-    }
-    let Ok(script) = parse_script_bytes(long.alloc, &long.text, false) else {
-        return;
-    };
-    if script.inputs().len() > 0 {
-        return;
-    }
-    let Ok(printed) = print_script(long.alloc, &script) else {
-        return;
-    };
-    long.value = Some(script.eval(&[], Value::Int(0)));
-    long.printed = printed.len();
-}
-
-// So many times one text, another, and so many times a third.
-fn nested(alloc: Global, open: &[u8], middle: &[u8], close: &[u8]) -> Result<Vec<u8>, AllocError> {
-    let mut bytes = repeated(alloc, open, 64, middle)?;
-    bytes.extend_from_slice(&repeated(alloc, close, 64, b"")?)?;
-    Ok(bytes)
-}
-
-#[test]
-fn the_longest_scripts(rt: HostRuntime) -> Result<(), Fail> {
-    let alloc = rt.alloc();
-    let mut sum = long_of(alloc, repeated(alloc, b"1+", 2047, b"1")?);
-    take_through(&mut sum);
-    assert_eq!(rt; (sum.value, sum.printed), (Some(Value::Int(2048)), 4095));
-    let mut bangs = long_of(alloc, repeated(alloc, b"!", 64, b"true")?);
-    take_through(&mut bangs);
-    assert_eq!(rt; (bangs.value, bangs.printed), (Some(Value::Bool(true)), 68));
-    let mut round = long_of(alloc, nested(alloc, b"(", b"1", b")")?);
-    take_through(&mut round);
-    assert_eq!(rt; (round.value, round.printed), (Some(Value::Int(1)), 1));
-    let mut last = long_of(alloc, repeated(alloc, b"if false then 1 else ", 64, b"2")?);
-    take_through(&mut last);
-    assert_eq!(rt; (last.value, last.printed), (Some(Value::Int(2)), 1345));
-    Ok(())
-}
-
-// A sum of so many different names.
-fn sum_of_names(alloc: Global, names: usize) -> Result<Vec<u8>, AllocError> {
-    let mut bytes = Vec::new(alloc);
-    for name in 0..names {
-        bytes.extend_from_slice(format!(in alloc; "n{name}+")?.as_bytes())?;
-    }
-    bytes.extend_from_slice(b"n0")?;
-    Ok(bytes)
-}
-
-#[test]
-fn many_names(rt: HostRuntime) -> Result<(), Fail> {
-    let alloc = rt.alloc();
-    assert_eq!(rt; fault_of(alloc, &sum_of_names(alloc, 64)?), None);
-    assert_eq!(rt;
-        fault_of(alloc, &sum_of_names(alloc, 65)?),
-        Some(ScriptFault::TooManyInputs)
-    );
-    assert_eq!(rt;
-        fault_of(
-            alloc,
-            &repeated(alloc, &sum_of_names(alloc, 65)?, 1, b" )")?
-        ),
-        Some(ScriptFault::Syntax(253))
-    );
-    Ok(())
 }
 
 #[test]
