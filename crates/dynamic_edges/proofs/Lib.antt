@@ -1,0 +1,6 @@
+pub mod Cells
+pub mod Marked
+pub mod Removed
+pub mod Counts
+pub mod EdgeRoom
+pub mod Discovers

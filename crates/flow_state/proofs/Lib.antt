@@ -1,0 +1,13 @@
+pub mod Walks
+pub mod Gathered
+pub mod SeatLemmas
+pub mod PairLemmas
+pub mod Leaving
+pub mod Openings
+pub mod Naming
+pub mod Beginning
+pub mod JobLemmas
+pub mod BookLemmas
+pub mod Fits
+pub mod Fronts
+pub mod Resolved

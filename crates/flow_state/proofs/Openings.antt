@@ -1,0 +1,80 @@
+-- The seats and shelves at opening.
+use Rattle.std.proofs.Common.{◌≡◌, ℕ, ◌+◌, ◌<◌, ◌≤◌, inl, inr, List, [], ◌∷◌, ◌++◌, length, map, refl, sym, ap, ◌∙◌, subst, arith}
+use Rattle.std.specs.List.{range_with_len}
+use Rattle.std.proofs.lemmas.Bool.{cases_lt, false≢true}
+use Rattle.std.proofs.lemmas.List.{get_or_past}
+use Rattle.std.proofs.lemmas.List.FromFn.{get_or-map-range_with_len, length-map-range_with_len, map-range_with_len_more}
+use Rattle.call_log.specs.Record.{Record}
+use Rattle.signal_graph.specs.declared.log.Logged.{Logged}
+use Rattle.signal_graph.specs.declared.node.Node.{Node}
+use Rattle.signal_graph.specs.Graph.{Graph, numbers, numbers_from}
+use Rattle.order_graph.specs.Order.{Order, without_pairs}
+use Rattle.flow_model.specs.Machine.State.{start_cell}
+use Rattle.flow_state.specs.Flow.{Work, Booked, no_work, work_of, room_at, opened_book}
+use Rattle.flow_state.specs.Seats.{Seated, Shelved, LiveCalls, no_seat, free_seat, no_calls, seat_at, AreSeats}
+use Rattle.flow_state.specs.Kept.{booked, IsKept}
+use Rattle.flow_state.specs.declared.seating.Tenant.{Tenant}
+
+pub one_more : {X : Type 0} (f : ℕ → X) (n : ℕ) (xs ys : List X) (x : X) → ys ≡ xs ++ x ∷ [] → xs ≡ map f (range_with_len 0 n) → x ≡ f n → ys ≡ map f (range_with_len 0 (n + 1))
+one_more f n xs ys x longer so is = longer ∙ ap (λ zs. zs ++ x ∷ []) so ∙ ap (λ y. map f (range_with_len 0 n) ++ y ∷ []) is ∙ sym (map-range_with_len_more f 0 n n (omega arith))
+
+free_at : (P : ℕ → Seated → Type 0) (callers nodes : ℕ) (seats : List Seated) → seats ≡ map (free_seat nodes) (range_with_len 0 callers) → ((j : ℕ) → P j (free_seat nodes j)) → (j : ℕ) → j < callers → P j (seat_at seats j)
+free_at P callers nodes seats e h j below = subst (P j) (sym (ap (λ (ss : List Seated). seat_at ss j) e ∙ get_or-map-range_with_len (free_seat nodes) 0 callers j j no_seat below (omega arith))) (h j)
+
+length-free : (callers nodes : ℕ) (seats : List Seated) → seats ≡ map (free_seat nodes) (range_with_len 0 callers) → length seats ≡ callers
+length-free callers nodes seats e = ap length e ∙ length-map-range_with_len (free_seat nodes) 0 callers
+
+pub free_kept : (callers nodes capacity : ℕ) (seats : List Seated) (live : List Tenant) (order : Order) → 0 < callers → callers ≤ 256 → nodes ≤ 16384 → seats ≡ map (free_seat nodes) (range_with_len 0 callers) → live ≡ [] → order ≡ without_pairs callers → capacity ≡ callers → AreSeats callers nodes capacity seats live order
+free_kept callers nodes capacity seats live order some few few_nodes e none new cap = subst (λ (xs : List Tenant). AreSeats callers nodes capacity seats xs order) (sym none) (subst (λ (o : Order). AreSeats callers nodes capacity seats [] o) (sym new) (record {
+  some = some;
+  few = few;
+  few_nodes = few_nodes;
+  count = length-free callers nodes seats e;
+  tenants = tt;
+  free = λ k h. elim (cases_lt k callers) [
+    | inl below ↦ free_at (λ (j : ℕ) (s : Seated). s.call.version ≡ 0) callers nodes seats e (λ _. refl) k below
+    | inr past ↦ ap (λ (s : Seated). s.call.version) (get_or_past seats k no_seat (let n = length-free callers nodes seats e in omega (arith, n, past)))
+  ];
+  slots = free_at (λ (j : ℕ) (s : Seated). s.call.slot ≡ j) callers nodes seats e (λ _. refl);
+  sizes = free_at (λ (j : ℕ) (s : Seated). s.size ≡ nodes) callers nodes seats e (λ _. refl);
+  order_callers = refl;
+  linked = tt;
+  room = omega (arith, cap);
+}))
+
+-- ---- shelves
+
+abbrev pub empty_shelf : Graph → ℕ → Shelved
+empty_shelf graph n = record { work = no_work; room = room_at graph n }
+
+numbers-range : (n : ℕ) (nodes : List Node) → numbers_from n nodes ≡ range_with_len n (length nodes)
+numbers-range n [] = refl
+numbers-range n (x ∷ xs) = ap (λ ys. n ∷ ys) (numbers-range (n + 1) xs)
+
+works-empty : (graph : Graph) (ns : List ℕ) → map (λ (s : Shelved). s.work) (map (empty_shelf graph) ns) ≡ map work_of (map (start_cell graph) ns)
+works-empty graph [] = refl
+works-empty graph (n ∷ ns) = ap (λ (ws : List Work). no_work ∷ ws) (works-empty graph ns)
+
+rooms-empty : (graph : Graph) (ns : List ℕ) → map (λ (s : Shelved). s.room) (map (empty_shelf graph) ns) ≡ map (room_at graph) ns
+rooms-empty graph [] = refl
+rooms-empty graph (n ∷ ns) = ap (λ (rs : List ℕ). room_at graph n ∷ rs) (rooms-empty graph ns)
+
+pub opening_seen : (graph : Graph) (callers limit : ℕ) (live : LiveCalls) (shelves : List Shelved) (log : Record) → live ≡ no_calls callers (length graph.nodes) → shelves ≡ map (empty_shelf graph) (range_with_len 0 (length graph.nodes)) → log.entries ≡ [] → booked limit 0 0 live shelves log ≡ opened_book graph callers limit
+opening_seen graph callers limit live shelves log none empty new =
+    let B : List Work → List ℕ → List Logged → LiveCalls → Booked = λ ws rs es l. record { flow = record { callers = l.callers; limit = limit; begun = 0; calls = l.calls; works = ws; pairs = l.pairs; log = es }; rooms = 0; room_for = rs } in
+    let all : shelves ≡ map (empty_shelf graph) (numbers graph) = empty ∙ ap (map (empty_shelf graph)) (sym (numbers-range 0 graph.nodes)) in
+    ap (λ (l : LiveCalls). B (map (λ (s : Shelved). s.work) shelves) (map (λ (s : Shelved). s.room) shelves) log.entries l) none
+    ∙ ap (λ (es : List Logged). B (map (λ (s : Shelved). s.work) shelves) (map (λ (s : Shelved). s.room) shelves) es (no_calls callers (length graph.nodes))) new
+    ∙ ap (λ (ss : List Shelved). B (map (λ (s : Shelved). s.work) ss) (map (λ (s : Shelved). s.room) ss) [] (no_calls callers (length graph.nodes))) all
+    ∙ ap (λ (ws : List Work). B ws (map (λ (s : Shelved). s.room) (map (empty_shelf graph) (numbers graph))) [] (no_calls callers (length graph.nodes))) (works-empty graph (numbers graph))
+    ∙ ap (λ (rs : List ℕ). B (map work_of (map (start_cell graph) (numbers graph))) rs [] (no_calls callers (length graph.nodes))) (rooms-empty graph (numbers graph))
+
+pub opening_kept : (graph : Graph) (callers limit : ℕ) (live : LiveCalls) (shelves : List Shelved) (log : Record) → limit ≤ 4000000 → live ≡ no_calls callers (length graph.nodes) → shelves ≡ map (empty_shelf graph) (range_with_len 0 (length graph.nodes)) → log.entries ≡ [] → IsKept limit 0 0 0 live shelves log
+opening_kept graph callers limit live shelves log few none empty new = subst (λ (l : LiveCalls). IsKept limit 0 0 0 l shelves log) (sym none) (record {
+  nodes = ap length empty ∙ length-map-range_with_len (empty_shelf graph) 0 (length graph.nodes);
+  counted = let e = ap length new in omega (arith, e);
+  within = omega arith;
+  few = few;
+  known = λ t h. absurd (false≢true h);
+  rows = omega arith;
+})

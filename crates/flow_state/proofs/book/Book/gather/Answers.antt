@@ -1,0 +1,12 @@
+use Rattle.flow_state.specs.Flow.{gather_work}
+use Rattle.flow_state.proofs.BookLemmas.{shelf_inside, kept_shelf, seen_shelf}
+use Rattle.flow_state.proofs.book.Book.gather.Goals as goal
+
+pub invariant_of-self : goal.invariant_of-self
+invariant_of-self c = let b = c.self.inside in kept_shelf b.limit b.begun b.rooms b.spare b.calls b.shelves.items b.log c.args.node c.gather.new.self c.self.invariant
+
+pub returns : goal.returns
+returns c =
+    let b = c.self.inside in
+    let h = shelf_inside b.limit b.begun b.rooms b.spare b.calls b.shelves.items b.log c.args.node c.args.self.now c.self.view_is c.requires.node in
+    seen_shelf b.limit b.begun b.rooms b.calls b.shelves.items b.log c.args.node c.index_mut.result.now c.gather.new.self (gather_work c.args.input c.args.value) c.args.self.now c.self.view_is h c.index_mut.ensures.value c.gather.ensures

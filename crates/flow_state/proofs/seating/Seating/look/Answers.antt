@@ -1,0 +1,31 @@
+use Rattle.std.proofs.Common.{length, refl, ap, arith}
+use Rattle.std.specs.Vec.{vec_capacity}
+use Rattle.flow_model.specs.Machine.State.{LiveCall}
+use Rattle.flow_model.specs.Machine.Steps.{with_look}
+use Rattle.flow_state.proofs.SeatLemmas.{slot_read, read_call, read_room, changed_kept, changed_seen}
+use Rattle.flow_state.proofs.seating.Seating.look.Goals as goal
+
+pub index_mut-requires : goal.index_mut-requires
+index_mut-requires c =
+    let at = slot_read c.self.inside.callers c.self.inside.nodes (vec_capacity c.self.inside.live) c.self.inside.seats.items c.self.inside.live.items c.as_slice.result.now c.self.inside.order c.args.version c.slot_in-slot.result c.args.self.now c.self.invariant c.self.view_is c.requires.live c.as_slice.ensures.value c.slot_in-slot.ensures in
+    let inside = at.inside in
+    omega (arith, inside)
+
+pub look-requires : goal.look-requires
+look-requires c =
+    let at = slot_read c.self.inside.callers c.self.inside.nodes (vec_capacity c.self.inside.live) c.self.inside.seats.items c.self.inside.live.items c.as_slice.result.now c.self.inside.order c.args.version c.slot_in-slot.result c.args.self.now c.self.invariant c.self.view_is c.requires.live c.as_slice.ensures.value c.slot_in-slot.ensures in
+    let call = read_call c.self.inside.callers c.self.inside.nodes c.self.inside.seats.items c.self.inside.live.items c.self.inside.order c.args.version c.slot_in-slot.result c.index_mut.result.now c.args.self.now c.self.view_is at c.index_mut.ensures.value in
+    let room = read_room c.self.inside.seats.items c.self.inside.live.items c.args.version c.slot_in-slot.result c.index_mut.result.now at c.index_mut.ensures.value in
+    let looked = ap (λ (x : LiveCall). length x.looked) call in
+    let looks = ap (λ (x : LiveCall). length x.looks) call in
+    let left = c.requires.left in
+    omega (arith, room, looked, looks, left)
+
+pub invariant_of-self : goal.invariant_of-self
+invariant_of-self c =
+    let at = slot_read c.self.inside.callers c.self.inside.nodes (vec_capacity c.self.inside.live) c.self.inside.seats.items c.self.inside.live.items c.as_slice.result.now c.self.inside.order c.args.version c.slot_in-slot.result c.args.self.now c.self.invariant c.self.view_is c.requires.live c.as_slice.ensures.value c.slot_in-slot.ensures in
+    changed_kept c.self.inside.callers c.self.inside.nodes (vec_capacity c.self.inside.live) c.self.inside.seats.items c.self.inside.live.items c.self.inside.order c.args.version c.slot_in-slot.result c.index_mut.result.now c.look.new.self (with_look c.args.value) (record { version = λ _. refl; slot = λ _. refl; looks = λ _. refl }) c.self.invariant at c.index_mut.ensures.value c.look.ensures
+
+pub returns : goal.returns
+returns c =
+    changed_seen c.self.inside.callers c.self.inside.nodes (vec_capacity c.self.inside.live) c.self.inside.seats.items c.self.inside.live.items c.as_slice.result.now c.self.inside.order c.args.version c.slot_in-slot.result c.index_mut.result.now c.look.new.self (with_look c.args.value) c.args.self.now (record { version = λ _. refl; slot = λ _. refl; looks = λ _. refl }) c.self.invariant c.self.view_is c.requires.live c.as_slice.ensures.value c.slot_in-slot.ensures c.index_mut.ensures.value c.look.ensures

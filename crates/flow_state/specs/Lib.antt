@@ -1,0 +1,9 @@
+pub mod Flow
+pub mod Found
+pub mod Answers
+pub mod Fitting
+pub mod Joining
+pub mod Rooms
+pub mod Seats
+pub mod Kept
+pub mod Jobs

@@ -1,0 +1,79 @@
+// What a call asks for, by node.
+
+ghost use Rattle.std.specs.Prelude.{◌≡◌, ◌<◌, ◌≤◌, length, map, vec_capacity};
+ghost use Rattle.std.specs.List.{AllByRecursion};
+ghost use Rattle.signal_graph.specs.Graph.{number_of};
+ghost use Rattle.signal_graph.specs.Machine.{sets_of, looks_of};
+ghost use Rattle.flow_model.specs.Machine.Sets.{put_all};
+ghost use Rattle.flow_model.specs.Machine.Steps.{nodes_set};
+ghost use Rattle.node_set.specs.Members.{with_nodes};
+ghost use Rattle.flow_state.specs.Flow.{sets_by_node, AreInside};
+
+use node_set::NodeSet;
+use script_tree::name::Name;
+use script_tree::value::Value;
+use signal_graph::call::Call;
+use signal_graph::graph::Graph;
+
+// What a call sets, and what it looks at.
+pub(crate) fn sets_of(call: &Call) -> &[(Name, Value)]
+    ensures { result.now ≡ sets_of call.now }
+{
+    match call {
+        Call::Fire { sets, .. } => sets.as_slice(),
+        Call::Read { .. } => &[],
+    }
+}
+
+pub(crate) fn looks_of(call: &Call) -> &[Name]
+    ensures { result.now ≡ looks_of call.now }
+{
+    match call {
+        Call::Fire { looks, .. } => looks.as_slice(),
+        Call::Read { looks } => looks.as_slice(),
+    }
+}
+
+// The number of the node with a name, or how many nodes there are.
+fn number_of(graph: &Graph, name: &Name) -> u32
+    ensures { result ≡ number_of graph.now name.now }
+{
+    match graph.find(name) {
+        Some(node) => node,
+        None => graph.len(),
+    }
+}
+
+// What the sets are by node, in the room that is there.
+pub(crate) fn fill_sets(graph: &Graph, sets: &[(Name, Value)], filled: &mut Vec<(u32, Value)>)
+    requires { length sets.now ≤ vec_capacity filled.old }
+    ensures items { filled.new.items ≡ sets_by_node graph.now sets.now }
+    ensures capacity { vec_capacity filled.new ≡ vec_capacity filled.old }
+{
+    filled.clear();
+    for (name, value) in sets {
+        filled.push_reserved((number_of(graph, name), *value));
+    }
+}
+
+// What the looks are by node, in the room that is there.
+pub(crate) fn fill_looks(graph: &Graph, looks: &[Name], filled: &mut Vec<u32>)
+    requires { length looks.now ≤ vec_capacity filled.old }
+    ensures items { filled.new.items ≡ map (number_of graph.now) looks.now }
+    ensures capacity { vec_capacity filled.new ≡ vec_capacity filled.old }
+{
+    filled.clear();
+    for name in looks {
+        filled.push_reserved(number_of(graph, name));
+    }
+}
+
+// Puts all nodes that are set into a set of nodes.
+pub(crate) fn want_all(sets: &[(u32, Value)], wanted: &mut NodeSet)
+    requires { AreInside wanted.old.size sets.now }
+    ensures { wanted.new ≡ with_nodes wanted.old (put_all (nodes_set sets.now) wanted.old.nodes) }
+{
+    for (node, _) in sets {
+        wanted.insert(*node);
+    }
+}

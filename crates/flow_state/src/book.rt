@@ -1,0 +1,472 @@
+// The record of live calls.
+
+ghost use Rattle.std.specs.Prelude.{◌≡◌, ◌≢◌, ℕ, ◌<◌, ◌≤◌, ◌+◌, ◌^◌, true, false, length, map, slice_index, None, IfOk, OnOk, OnErr, slice_get, Some};
+ghost use Rattle.std.specs.List.{range_with_len};
+ghost use Rattle.script_tree.specs.declared.limits.TheConstants.{THREADS, VERSIONS, SETS, LOOKS};
+ghost use Rattle.std.specs.Option.{option_copied};
+ghost use Rattle.script_tree.specs.declared.value.Value.TheVariants as values;
+ghost use Rattle.script_tree.specs.declared.value.Fault.TheVariants.{NoChoice};
+ghost use Rattle.signal_graph.specs.Graph.{is_in};
+ghost use Rattle.signal_graph.specs.Machine.{sets_of, looks_of, misnamed};
+ghost use Rattle.order_graph.specs.Order.{reaches, is_recorded};
+ghost use Rattle.flow_model.specs.Machine.Sets.{least};
+ghost use Rattle.flow_model.specs.Machine.State.{call_of};
+ghost use Rattle.flow_model.specs.Machine.Words.{gathered_of, set_value};
+ghost use Rattle.flow_model.specs.Machine.Changes.{closed};
+ghost use Rattle.flow_model.specs.Machine.Steps.{started, counted, with_look, free_slot};
+ghost use Rattle.node_set.specs.Members.{first_from};
+ghost use Rattle.flow_state.specs.Flow.{AreApart, opened_book, room_at, no_work, one_room_more, one_room_less, begin_call, end_call, call_in, live_in, next_look_in, nodes_in, work_in, stops_in, on_call, on_work, link_calls, opened_one, wanting, gather_work, find_work, body_work, clear_work, pressed_in, call_nth};
+ghost use Rattle.flow_state.specs.Found.{found_of, found_option};
+ghost use Rattle.flow_state.specs.Jobs.{found_items, answer_of, IsJob};
+
+use crate::found::Finding;
+use crate::job::Job;
+use crate::room::Room;
+use crate::seating::Seating;
+use crate::shelf::Shelf;
+use call_log::Log;
+use script_tree::limits::SELECTORS;
+use script_tree::memory::OutOfMemory;
+use script_tree::value::Value;
+use signal_graph::call::Call;
+use signal_graph::graph::Graph;
+use std::alloc::Global;
+use std::marker::Model;
+
+/// The record of all live calls: what a state of interleaved calls has beside the lists of its nodes.
+///
+/// Contracts see such a state without its lists, how many rooms are out, and for how many gathered values each node has
+/// room.
+#[derive(Drop)]
+pub struct Book {
+    limit: u32,
+    begun: u32,
+    rooms: u32,
+    spare: u32,
+    calls: Seating,
+    shelves: Vec<Shelf>,
+    log: Log,
+}
+
+impl Model for Book {
+    ghost use Rattle.flow_state.specs.Flow.{Booked};
+    ghost use Rattle.flow_state.specs.Kept.{booked, IsKept};
+
+    ghost Value = { Booked };
+
+    ghost view = { λ b. booked b.limit b.begun b.rooms b.calls b.shelves.items b.log };
+
+    ghost invariant = { λ b. IsKept b.limit b.begun b.rooms b.spare b.calls b.shelves.items b.log };
+}
+
+impl Book {
+    /// The book of a graph before any call, for so many callers and versions. Takes all memory that it will need but
+    /// for rooms.
+    pub fn new(
+        alloc: Global,
+        graph: &Graph,
+        callers: u32,
+        versions: u32,
+    ) -> Result<Book, OutOfMemory>
+        requires some { 0 < callers }
+        requires few { callers ≤ THREADS }
+        requires versions { versions ≤ VERSIONS }
+        ensures { IfOk result (λ book. book ≡ opened_book graph.now callers versions) }
+    {
+        let calls = Seating::new(alloc, callers, graph.len())?;
+        let shelves = empty_shelves(alloc, graph)?;
+        let log = Log::new(alloc);
+        Ok(Book {
+            limit: versions,
+            begun: 0,
+            rooms: 0,
+            spare: 0,
+            calls,
+            shelves,
+            log,
+        })
+    }
+
+    /// Takes all memory that a call will need. The room has to be spent by the call's beginning, or given back.
+    pub fn make_room(&mut self, alloc: Global, call: &Call) -> Result<Room, OutOfMemory>
+        requires { length (looks_of call.now) ≤ LOOKS }
+        ensures ok { OnOk result (self.new ≡ one_room_more self.old) }
+        ensures err { OnErr result (self.new ≡ self.old) }
+        ensures room { IfOk result (λ room. room ≡ record { looks = length (looks_of call.now); nodes = nodes_in self.old }) }
+    {
+        let Some(rooms) = self.rooms.checked_add(1) else {
+            return Err(OutOfMemory);
+        };
+        let looks = looks_len(call);
+        let looked = Vec::with_capacity(alloc, looks as usize)?;
+        if self.spare == 0 {
+            self.log.reserve_one()?;
+        } else {
+            self.spare -= 1;
+        }
+        self.rooms = rooms;
+        Ok(Room {
+            looked,
+            looks,
+            nodes: self.calls.nodes(),
+        })
+    }
+
+    /// Takes a room back that was not used.
+    pub fn give_back(&mut self, room: Room)
+        requires { 0 < self.old.rooms }
+        ensures { self.new ≡ one_room_less self.old }
+    {
+        let Room {
+            looked: _,
+            looks: _,
+            nodes: _,
+        } = room;
+        let rooms = self.rooms - 1;
+        self.rooms = rooms;
+        self.spare = self.spare.saturating_add(1);
+    }
+
+    /// A call begins in a room that was made for its looks, with the next version and in the least free slot. Answers
+    /// its version. The graph is the book's, and the call names in it what it has to.
+    pub fn begin(&mut self, graph: &Graph, caller: u32, call: Call, room: Room) -> u32
+        requires left { self.old.flow.begun < self.old.flow.limit }
+        requires slot { free_slot self.old.flow.callers 0 self.old.flow.calls < self.old.flow.callers }
+        requires named { misnamed graph.now call ≡ None }
+        requires sets { length (sets_of call) ≤ SETS }
+        requires looks { length (looks_of call) ≤ LOOKS }
+        requires nodes { nodes_in self.old ≡ length graph.now.nodes }
+        requires room { room.looks ≡ length (looks_of call) }
+        requires rooms { 0 < self.old.rooms }
+        ensures book { self.new ≡ begin_call graph.now self.old caller call }
+        ensures version { result ≡ self.old.flow.begun + 1 }
+    {
+        let Room {
+            looked,
+            looks: _,
+            nodes: _,
+        } = room;
+        let version = self.begun + 1;
+        let rooms = self.rooms - 1;
+        self.calls.begin(graph, version, caller, call, looked);
+        self.begun = version;
+        self.rooms = rooms;
+        version
+    }
+
+    /// A live call that no call is recorded before joins the log with its reply, and its slot is free.
+    pub fn end(&mut self, version: u32)
+        requires live { live_in self.old version ≡ true }
+        requires first { (u : ℕ) → is_recorded self.old.flow.pairs u version ≡ false }
+        ensures { self.new ≡ end_call self.old version }
+    {
+        let logged = self.calls.end(version);
+        self.log.append(logged);
+    }
+
+    /// How many calls are live.
+    pub fn live_len(&self) -> u32
+        ensures { result ≡ length self.now.flow.calls }
+    {
+        self.calls.len() as u32
+    }
+
+    /// The version of a live call, by its place in the order of beginnings, counted from 0.
+    pub fn version_at(&self, place: u32) -> u32
+        requires { place < length self.now.flow.calls }
+        ensures version { result ≡ (call_nth self.now place).version }
+        ensures call { call_of self.now.flow.calls result ≡ Some (call_nth self.now place) }
+    {
+        self.calls.version_at(place)
+    }
+
+    /// Whether the version is of a live call.
+    pub fn live(&self, version: u32) -> bool
+        ensures { result ≡ live_in self.now version }
+    {
+        self.calls.has(version)
+    }
+
+    /// Whose a live call is.
+    pub fn caller(&self, version: u32) -> u32
+        requires { live_in self.now version ≡ true }
+        ensures { result ≡ (call_in self.now version).caller }
+    {
+        self.calls.seat(version).caller()
+    }
+
+    /// The slot of a live call.
+    pub fn slot(&self, version: u32) -> u32
+        requires { live_in self.now version ≡ true }
+        ensures { result ≡ (call_in self.now version).slot }
+    {
+        self.calls.seat(version).slot()
+    }
+
+    /// Whether a live call executes. Else it frames.
+    pub fn executes(&self, version: u32) -> bool
+        requires { live_in self.now version ≡ true }
+        ensures { result ≡ (call_in self.now version).executing }
+    {
+        self.calls.seat(version).executing()
+    }
+
+    /// Whether a live call wants the node.
+    pub fn wants(&self, version: u32, node: u32) -> bool
+        requires { live_in self.now version ≡ true }
+        ensures { result ≡ is_in node (call_in self.now version).wanted }
+    {
+        let wanted = self.calls.seat(version).wanted();
+        wanted.is_kept();
+        node < wanted.size() && wanted.contains(node)
+    }
+
+    /// Whether the node is open for a live call.
+    pub fn opens(&self, version: u32, node: u32) -> bool
+        requires live { live_in self.now version ≡ true }
+        requires node { node < nodes_in self.now }
+        ensures { result ≡ is_in node (call_in self.now version).open_nodes }
+    {
+        self.calls.seat(version).open_nodes().contains(node)
+    }
+
+    /// Whether a live call has changed the node.
+    pub fn changes(&self, version: u32, node: u32) -> bool
+        requires live { live_in self.now version ≡ true }
+        requires node { node < nodes_in self.now }
+        ensures { result ≡ is_in node (call_in self.now version).changed }
+    {
+        self.calls.seat(version).changed().contains(node)
+    }
+
+    /// The least node that a live call wants.
+    pub fn first_wanted(&self, version: u32) -> Option<u32>
+        requires { live_in self.now version ≡ true }
+        ensures { result ≡ least (call_in self.now version).wanted }
+    {
+        self.calls.seat(version).wanted().first()
+    }
+
+    /// The least node that is open for a live call.
+    pub fn first_open(&self, version: u32) -> Option<u32>
+        requires { live_in self.now version ≡ true }
+        ensures { result ≡ least (call_in self.now version).open_nodes }
+    {
+        self.calls.seat(version).open_nodes().first()
+    }
+
+    /// The least node at or above one that is open for a live call.
+    pub fn next_open(&self, version: u32, from: u32) -> Option<u32>
+        requires { live_in self.now version ≡ true }
+        ensures { result ≡ first_from from (call_in self.now version).open_nodes }
+    {
+        self.calls.seat(version).open_nodes().next_from(from)
+    }
+
+    /// The node that a live call looks at next.
+    pub fn next_look(&self, version: u32) -> Option<u32>
+        requires { live_in self.now version ≡ true }
+        ensures { result ≡ next_look_in self.now version }
+    {
+        self.calls.seat(version).next_look()
+    }
+
+    /// The last value that a live call sets a node to. Of a node that it does not set a fault.
+    pub fn set_value(&self, version: u32, node: u32) -> Value
+        requires { live_in self.now version ≡ true }
+        ensures { result ≡ set_value node (values.Fault NoChoice) (call_in self.now version).sets }
+    {
+        self.calls.seat(version).set_value(node)
+    }
+
+    /// Whether a chain of recorded pairs leads from one live call to another.
+    pub fn reaches(&self, before: u32, after: u32) -> bool
+        requires before { live_in self.now before ≡ true }
+        requires after { live_in self.now after ≡ true }
+        ensures { result ≡ reaches self.now.flow.pairs before after }
+    {
+        self.calls.reaches(before, after)
+    }
+
+    /// Whether another call stops a live one: it comes behind that one, or frames while that one executes.
+    pub fn stops(&self, version: u32, other: u32) -> bool
+        requires { live_in self.now version ≡ true }
+        ensures { result ≡ stops_in self.now version other }
+    {
+        self.calls.stops(version, other)
+    }
+
+    /// Whether an executing call behind a live one wants the node.
+    pub fn pressed(&self, version: u32, node: u32) -> bool
+        requires live { live_in self.now version ≡ true }
+        requires node { node < nodes_in self.now }
+        ensures { result ≡ pressed_in self.now version node }
+    {
+        self.calls.pressed(version, node)
+    }
+
+    /// The value that is gathered of an input for a node.
+    pub fn gathered(&self, node: u32, input: u32) -> Option<Value>
+        requires { node < nodes_in self.now }
+        ensures { result ≡ gathered_of input (work_in self.now node).gathered }
+    {
+        self.shelves[node as usize].gathered(input)
+    }
+
+    /// What is found for a node.
+    pub fn found(&self, node: u32) -> Option<&Finding>
+        requires { node < nodes_in self.now }
+        ensures { found_option (option_copied result) ≡ (work_in self.now node).found }
+    {
+        self.shelves[node as usize].found()
+    }
+
+    /// The body's value for a node.
+    pub fn body(&self, node: u32) -> Option<Value>
+        requires { node < nodes_in self.now }
+        ensures { result ≡ (work_in self.now node).body }
+    {
+        self.shelves[node as usize].body()
+    }
+
+    /// The job of a node for a call: its scripts where nothing is found yet, else its body. `acc` is the node's value
+    /// before the call. Takes no memory.
+    pub fn job<'g>(&self, graph: &'g Graph, version: u32, node: u32, acc: Value) -> Job<'g>
+        requires nodes { nodes_in self.now ≡ length graph.now.nodes }
+        requires job { IsJob graph.now node (found_items (work_in self.now node).found) }
+        requires few { length (work_in self.now node).gathered ≤ 68 }
+        ensures { result ≡ answer_of graph.now version node (work_in self.now node).gathered acc (found_items (work_in self.now node).found) }
+    {
+        let shelf = &self.shelves[node as usize];
+        Job {
+            graph,
+            version,
+            node,
+            acc,
+            gathered: shelf.pairs(),
+            found: shelf.found_items(),
+        }
+    }
+
+    /// A node that a live call has framed is open for it, and it wants the node no more.
+    pub fn open(&mut self, version: u32, node: u32)
+        requires live { live_in self.old version ≡ true }
+        requires node { node < nodes_in self.old }
+        ensures { self.new ≡ on_call self.old version (opened_one node) }
+    {
+        self.calls.open(version, node);
+    }
+
+    /// A live call comes to want a node, unless it is open for it.
+    pub fn want(&mut self, version: u32, node: u32)
+        requires live { live_in self.old version ≡ true }
+        requires node { node < nodes_in self.old }
+        ensures { self.new ≡ on_call self.old version (wanting node) }
+    {
+        self.calls.want(version, node);
+    }
+
+    /// A live call has finished at a node, changed or not.
+    pub fn close(&mut self, version: u32, node: u32, changed: bool)
+        requires live { live_in self.old version ≡ true }
+        requires node { node < nodes_in self.old }
+        ensures { self.new ≡ on_call self.old version (closed node changed) }
+    {
+        self.calls.close(version, node, changed);
+    }
+
+    /// A live call has framed all that it reaches, and executes.
+    pub fn start(&mut self, version: u32)
+        requires { live_in self.old version ≡ true }
+        ensures { self.new ≡ on_call self.old version started }
+    {
+        self.calls.start(version);
+    }
+
+    /// A live call has evaluated one node more.
+    pub fn count(&mut self, version: u32)
+        requires live { live_in self.old version ≡ true }
+        requires few { (call_in self.old version).evaluated + 1 < 2 ^ 32 }
+        ensures { self.new ≡ on_call self.old version counted }
+    {
+        self.calls.count(version);
+    }
+
+    /// The value of a live call's next look.
+    pub fn look(&mut self, version: u32, value: Value)
+        requires live { live_in self.old version ≡ true }
+        requires left { length (call_in self.old version).looked < length (call_in self.old version).looks }
+        ensures { self.new ≡ on_call self.old version (with_look value) }
+    {
+        self.calls.look(version, value);
+    }
+
+    /// Records that one live call comes before another, for a node.
+    pub fn link(&mut self, before: u32, after: u32, node: u32)
+        requires before { live_in self.old before ≡ true }
+        requires after { live_in self.old after ≡ true }
+        requires apart { before ≢ after }
+        requires forward { reaches self.old.flow.pairs after before ≡ false }
+        ensures { self.new ≡ link_calls self.old before after node }
+    {
+        self.calls.link(before, after, node);
+    }
+
+    /// The value of an input is kept for a node. None is gathered of this input, and there is room, if no two values are
+    /// gathered of one input.
+    pub fn gather(&mut self, node: u32, input: u32, value: Value)
+        requires node { node < nodes_in self.old }
+        requires new { gathered_of input (work_in self.old node).gathered ≡ None }
+        requires room { AreApart (work_in self.old node).gathered → length (work_in self.old node).gathered < slice_index self.old.room_for node }
+        ensures { self.new ≡ on_work self.old node (gather_work input value) }
+    {
+        self.shelves[node as usize].gather(input, value);
+    }
+
+    /// What is found for a node is kept.
+    pub fn keep_found(&mut self, node: u32, found: Finding)
+        requires { node < nodes_in self.old }
+        ensures { self.new ≡ on_work self.old node (find_work (found_of found)) }
+    {
+        self.shelves[node as usize].keep_found(found);
+    }
+
+    /// The body's value for a node is kept.
+    pub fn keep_body(&mut self, node: u32, value: Value)
+        requires { node < nodes_in self.old }
+        ensures { self.new ≡ on_work self.old node (body_work value) }
+    {
+        self.shelves[node as usize].keep_body(value);
+    }
+
+    /// What was gathered, found and evaluated for a node is forgotten.
+    pub fn clear(&mut self, node: u32)
+        requires { node < nodes_in self.old }
+        ensures { self.new ≡ on_work self.old node clear_work }
+    {
+        self.shelves[node as usize].clear();
+    }
+}
+
+// A shelf for each node, with room for its inputs and picks.
+fn empty_shelves(alloc: Global, graph: &Graph) -> Result<Vec<Shelf>, OutOfMemory>
+    ensures { IfOk result (λ shelves. shelves.items ≡ map (λ n. record { work = no_work; room = room_at graph.now n }) (range_with_len 0 (length graph.now.nodes))) }
+{
+    let mut shelves = Vec::with_capacity(alloc, graph.len() as usize)?;
+    for node in 0..graph.len() {
+        let shelf = Shelf::new(alloc, graph.inputs(node).len() + SELECTORS)?;
+        shelves.push(shelf)?;
+    }
+    Ok(shelves)
+}
+
+// How many looks a call has.
+fn looks_len(call: &Call) -> u32
+    requires { length (looks_of call.now) ≤ LOOKS }
+    ensures { result ≡ length (looks_of call.now) }
+{
+    match call {
+        Call::Fire { looks, .. } => looks.len() as u32,
+        Call::Read { looks } => looks.len() as u32,
+    }
+}

@@ -1,0 +1,21 @@
+//! The record of live calls, and the data of one step.
+#![tactic(auto)]
+
+pub use book::Book;
+pub use found::{Finding, Found, FoundList};
+pub use job::Job;
+pub use outcome::{Answer, Outcome};
+pub use room::Room;
+pub use same::is_same;
+
+mod asked;
+mod book;
+mod found;
+mod job;
+mod outcome;
+mod room;
+mod row;
+mod same;
+mod seat;
+mod seating;
+mod shelf;

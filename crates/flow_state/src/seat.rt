@@ -1,0 +1,282 @@
+// The seat of a live call.
+
+ghost use Rattle.std.specs.Prelude.{◌≡◌, ◌<◌, ◌≤◌, ◌+◌, ◌^◌, true, false, [], length, slice_get, vec_capacity, None, IfOk};
+ghost use Rattle.script_tree.specs.declared.limits.TheConstants.{SETS, LOOKS, NODES};
+ghost use Rattle.script_tree.specs.declared.value.Value.TheVariants as values;
+ghost use Rattle.script_tree.specs.declared.value.Fault.TheVariants.{NoChoice};
+ghost use Rattle.signal_graph.specs.Graph.{is_in};
+ghost use Rattle.flow_model.specs.Machine.Lists.{is_empty};
+ghost use Rattle.flow_model.specs.Machine.Sets.{least};
+ghost use Rattle.flow_model.specs.Machine.State.{LiveCall, no_call};
+ghost use Rattle.flow_model.specs.Machine.Words.{set_value};
+ghost use Rattle.flow_model.specs.Machine.Changes.{closed};
+ghost use Rattle.flow_model.specs.Machine.Steps.{started, counted, with_look, logged};
+ghost use Rattle.node_set.specs.Members.{first_from};
+ghost use Rattle.flow_state.specs.Flow.{opened_one, wanting, reply_with, begun_call};
+ghost use Rattle.signal_graph.specs.Machine.{sets_of, looks_of, misnamed};
+ghost use Rattle.flow_state.specs.Seats.{Seated, with_seated};
+
+use crate::asked::{fill_looks, fill_sets, looks_of, sets_of, want_all};
+use node_set::NodeSet;
+use script_tree::items::Items;
+use script_tree::limits::{LOOKS, SETS};
+use script_tree::memory::OutOfMemory;
+use script_tree::value::{Fault, Value};
+use signal_graph::call::{Call, Reply, ValueList};
+use signal_graph::graph::Graph;
+use signal_graph::log::Logged;
+use std::alloc::Global;
+use std::marker::Model;
+use std::mem::replace;
+
+/// A slot's seat: the call that has it, and all that is kept of it. A free seat has version 0. Only `new` takes memory.
+#[derive(Drop)]
+pub(crate) struct Seat {
+    version: u32,
+    caller: u32,
+    slot: u32,
+    executing: bool,
+    evaluated: u32,
+    wanted: NodeSet,
+    open_nodes: NodeSet,
+    changed: NodeSet,
+    sets: Vec<(u32, Value)>,
+    looks: Vec<u32>,
+    looked: Vec<Value>,
+    call: Call,
+    room: u32,
+}
+
+impl Model for Seat {
+    ghost use Rattle.flow_state.specs.Seats.{Seated};
+    ghost use Rattle.flow_state.specs.Rooms.{IsSeat};
+    ghost use Rattle.std.specs.Vec.{vec_capacity};
+
+    ghost Value = { Seated };
+
+    ghost view = { λ s. record { call = record { caller = s.caller; version = s.version; slot = s.slot; executing = s.executing; call = s.call; sets = s.sets.items; looks = s.looks.items; wanted = s.wanted.nodes; open_nodes = s.open_nodes.nodes; changed = s.changed.nodes; evaluated = s.evaluated; looked = s.looked.items }; size = s.wanted.size; room = s.room } };
+
+    ghost invariant = { λ s. IsSeat s.wanted s.open_nodes s.changed (vec_capacity s.sets) (vec_capacity s.looks) s.looked.items (vec_capacity s.looked) s.room };
+}
+
+impl Seat {
+    /// A free seat of a slot, with sets for so many nodes.
+    pub(crate) fn new(alloc: Global, slot: u32, nodes: u32) -> Result<Seat, OutOfMemory>
+        requires { nodes ≤ NODES }
+        ensures { IfOk result (λ seat. seat ≡ record { call = record no_call { slot = slot }; size = nodes; room = 0 }) }
+    {
+        Ok(Seat {
+            version: 0,
+            caller: 0,
+            slot,
+            executing: false,
+            evaluated: 0,
+            wanted: NodeSet::new(alloc, nodes)?,
+            open_nodes: NodeSet::new(alloc, nodes)?,
+            changed: NodeSet::new(alloc, nodes)?,
+            sets: Vec::with_capacity(alloc, SETS)?,
+            looks: Vec::with_capacity(alloc, LOOKS)?,
+            looked: Vec::new(alloc),
+            call: Call::Read {
+                looks: Items::new(alloc),
+            },
+            room: 0,
+        })
+    }
+
+    pub(crate) fn version(&self) -> u32
+        ensures { result ≡ self.now.call.version }
+    {
+        self.version
+    }
+
+    pub(crate) fn caller(&self) -> u32
+        ensures { result ≡ self.now.call.caller }
+    {
+        self.caller
+    }
+
+    pub(crate) fn slot(&self) -> u32
+        ensures { result ≡ self.now.call.slot }
+    {
+        self.slot
+    }
+
+    pub(crate) fn executing(&self) -> bool
+        ensures { result ≡ self.now.call.executing }
+    {
+        self.executing
+    }
+
+    pub(crate) fn wanted(&self) -> &NodeSet
+        ensures nodes { result.now.nodes ≡ self.now.call.wanted }
+        ensures size { result.now.size ≡ self.now.size }
+    {
+        &self.wanted
+    }
+
+    pub(crate) fn open_nodes(&self) -> &NodeSet
+        ensures nodes { result.now.nodes ≡ self.now.call.open_nodes }
+        ensures size { result.now.size ≡ self.now.size }
+    {
+        &self.open_nodes
+    }
+
+    pub(crate) fn changed(&self) -> &NodeSet
+        ensures nodes { result.now.nodes ≡ self.now.call.changed }
+        ensures size { result.now.size ≡ self.now.size }
+    {
+        &self.changed
+    }
+
+    /// The node that the call looks at next.
+    pub(crate) fn next_look(&self) -> Option<u32>
+        ensures { result ≡ slice_get self.now.call.looks (length self.now.call.looked) }
+    {
+        self.looks.as_slice().get(self.looked.len()).copied()
+    }
+
+    /// The last value that the call sets a node to, or a fault.
+    pub(crate) fn set_value(&self, node: u32) -> Value
+        ensures { result ≡ set_value node (values.Fault NoChoice) self.now.call.sets }
+    {
+        last_set(self.sets.as_slice(), node)
+    }
+
+    /// A call begins. It names what it has to in this graph, and `looked` has room for all its looks.
+    pub(crate) fn begin(
+        &mut self,
+        graph: &Graph,
+        version: u32,
+        caller: u32,
+        call: Call,
+        looked: Vec<Value>,
+    )
+        requires named { misnamed graph.now call ≡ None }
+        requires sets { length (sets_of call) ≤ SETS }
+        requires looks { length (looks_of call) ≤ LOOKS }
+        requires size { self.old.size ≡ length graph.now.nodes }
+        requires empty { looked.items ≡ [] }
+        requires room { length (looks_of call) ≤ vec_capacity looked }
+        ensures { self.new ≡ record { call = begun_call graph.now caller version self.old.call.slot call; size = self.old.size; room = length (looks_of call) } }
+    {
+        let room = looks_of(&call).len() as u32;
+        fill_sets(graph, sets_of(&call), &mut self.sets);
+        fill_looks(graph, looks_of(&call), &mut self.looks);
+        self.wanted.clear();
+        self.open_nodes.clear();
+        self.changed.clear();
+        want_all(self.sets.as_slice(), &mut self.wanted);
+        self.version = version;
+        self.caller = caller;
+        self.executing = self.sets.is_empty();
+        self.evaluated = 0;
+        self.looked = looked;
+        self.call = call;
+        self.room = room;
+    }
+
+    /// The call ends, and the seat is free. Answers the call with its reply.
+    pub(crate) fn end(&mut self) -> Logged
+        ensures logged { result ≡ logged self.old.call }
+        ensures version { self.new.call.version ≡ 0 }
+        ensures slot { self.new.call.slot ≡ self.old.call.slot }
+        ensures size { self.new.size ≡ self.old.size }
+    {
+        let alloc = *self.looks.allocator();
+        let empty = Call::Read {
+            looks: Items::new(alloc),
+        };
+        let caller = self.caller;
+        let version = self.version;
+        let call = replace(&mut self.call, empty);
+        let looked = Items::from_vec(replace(&mut self.looked, Vec::new(alloc)));
+        let reply = reply(&call, self.changed.len(), self.evaluated, looked);
+        self.version = 0;
+        self.room = 0;
+        Logged {
+            caller,
+            version,
+            call,
+            reply,
+        }
+    }
+
+    /// Opens a node that was wanted.
+    pub(crate) fn open(&mut self, node: u32)
+        requires { node < self.old.size }
+        ensures { self.new ≡ with_seated self.old (opened_one node self.old.call) }
+    {
+        self.wanted.remove(node);
+        self.open_nodes.insert(node);
+    }
+
+    /// Wants a node, unless it is open.
+    pub(crate) fn want(&mut self, node: u32)
+        requires { node < self.old.size }
+        ensures { self.new ≡ with_seated self.old (wanting node self.old.call) }
+    {
+        if self.open_nodes.contains(node) {
+            return;
+        }
+        self.wanted.insert(node);
+    }
+
+    /// Closes an open node, changed or not.
+    pub(crate) fn close(&mut self, node: u32, changed: bool)
+        requires { node < self.old.size }
+        ensures { self.new ≡ with_seated self.old (closed node changed self.old.call) }
+    {
+        self.open_nodes.remove(node);
+        if changed {
+            self.changed.insert(node);
+        }
+    }
+
+    pub(crate) fn start(&mut self)
+        ensures { self.new ≡ with_seated self.old (started self.old.call) }
+    {
+        self.executing = true;
+    }
+
+    pub(crate) fn count(&mut self)
+        requires { self.old.call.evaluated + 1 < 2 ^ 32 }
+        ensures { self.new ≡ with_seated self.old (counted self.old.call) }
+    {
+        self.evaluated += 1;
+    }
+
+    pub(crate) fn look(&mut self, value: Value)
+        requires { length self.old.call.looked < self.old.room }
+        ensures { self.new ≡ with_seated self.old (with_look value self.old.call) }
+    {
+        self.looked.push_reserved(value);
+    }
+}
+
+// The reply of a call.
+fn reply(call: &Call, changed: u32, evaluated: u32, looks: ValueList) -> Reply
+    ensures { result ≡ reply_with changed evaluated looks call.now }
+{
+    match call {
+        Call::Fire { .. } => Reply::Fire {
+            changed,
+            evaluated,
+            looks,
+        },
+        Call::Read { .. } => Reply::Read { looks },
+    }
+}
+
+// The last value that a list of sets gives a node.
+fn last_set(sets: &[(u32, Value)], node: u32) -> Value
+    ensures { result ≡ set_value node (values.Fault NoChoice) sets.now }
+{
+    let mut last = Value::Fault(Fault::NoChoice);
+    for (source, value) in sets {
+        if *source == node {
+            last = *value;
+        }
+    }
+    last
+}

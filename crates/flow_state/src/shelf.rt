@@ -1,0 +1,158 @@
+// What is being worked out at a node.
+
+ghost use Rattle.std.specs.Prelude.{◌≡◌, ◌<◌, ◌≤◌, length, IfOk, MatchOption, None, Some};
+ghost use Rattle.std.specs.Option.{option_copied};
+ghost use Rattle.flow_model.specs.Machine.Words.{gathered_of};
+ghost use Rattle.flow_state.specs.Flow.{AreApart, no_work, gather_work, find_work, body_work, clear_work};
+ghost use Rattle.flow_state.specs.Found.{found_of, found_option};
+ghost use Rattle.flow_state.specs.Seats.{with_work};
+ghost use Rattle.flow_state.specs.Jobs.{found_items, items_of};
+
+use crate::found::{Finding, FoundList};
+use crate::row::Pairs;
+use script_tree::memory::OutOfMemory;
+use script_tree::value::Value;
+use std::alloc::Global;
+use std::marker::Model;
+
+/// What the first open call of a node has gathered, found and evaluated as a body, with room for so many gathered
+/// values. Only `new` takes memory.
+#[derive(Drop)]
+pub(crate) struct Shelf {
+    gathered: Vec<(u32, Value)>,
+    found: Option<Finding>,
+    body: Option<Value>,
+    room: usize,
+}
+
+impl Model for Shelf {
+    ghost use Rattle.std.specs.Prelude.{◌≤◌, length};
+    ghost use Rattle.std.specs.Vec.{vec_capacity};
+    ghost use Rattle.flow_state.specs.Seats.{Shelved};
+    ghost use Rattle.flow_state.specs.Flow.{AreApart};
+    ghost use Rattle.flow_state.specs.Found.{found_option};
+
+    ghost Value = { Shelved };
+
+    ghost view = { λ s. record { work = record { gathered = s.gathered.items; found = found_option s.found; body = s.body }; room = s.room } };
+
+    ghost invariant = { λ s. (length s.gathered.items ≤ s.room) × (s.room ≤ vec_capacity s.gathered) × AreApart s.gathered.items };
+}
+
+impl Shelf {
+    /// An empty shelf. Takes all memory that it will need.
+    pub(crate) fn new(alloc: Global, room: usize) -> Result<Shelf, OutOfMemory>
+        ensures { IfOk result (λ shelf. shelf ≡ record { work = no_work; room = room }) }
+    {
+        Ok(Shelf {
+            gathered: Vec::with_capacity(alloc, room)?,
+            found: None,
+            body: None,
+            room,
+        })
+    }
+
+    /// The value that is gathered of a node.
+    pub(crate) fn gathered(&self, input: u32) -> Option<Value>
+        ensures { result ≡ gathered_of input self.now.work.gathered }
+    {
+        gathered_in(self.gathered.as_slice(), input)
+    }
+
+    /// All gathered values.
+    pub(crate) fn pairs(&self) -> Pairs
+        requires { length self.now.work.gathered ≤ 68 }
+        ensures { result ≡ self.now.work.gathered }
+    {
+        pairs_of(self.gathered.as_slice())
+    }
+
+    /// What the selectors have selected, where something is found.
+    pub(crate) fn found_items(&self) -> Option<FoundList>
+        ensures { result ≡ found_items self.now.work.found }
+    {
+        match &self.found {
+            None => None,
+            Some(found) => Some(items_of(found)),
+        }
+    }
+
+    /// What is found.
+    pub(crate) fn found(&self) -> Option<&Finding>
+        ensures { found_option (option_copied result) ≡ self.now.work.found }
+    {
+        self.found.as_ref()
+    }
+
+    /// The body's value.
+    pub(crate) fn body(&self) -> Option<Value>
+        ensures { result ≡ self.now.work.body }
+    {
+        self.body
+    }
+
+    /// Keeps a value of a node of which none is gathered.
+    #[tactic(auto, using(crate::proofs::Gathered::apart_more))]
+    pub(crate) fn gather(&mut self, input: u32, value: Value)
+        requires new { gathered_of input self.old.work.gathered ≡ None }
+        requires room { AreApart self.old.work.gathered → length self.old.work.gathered < self.old.room }
+        ensures { self.new ≡ with_work self.old (gather_work input value self.old.work) }
+    {
+        self.gathered.push_reserved((input, value));
+    }
+
+    /// Keeps what is found.
+    pub(crate) fn keep_found(&mut self, found: Finding)
+        ensures { self.new ≡ with_work self.old (find_work (found_of found) self.old.work) }
+    {
+        self.found = Some(found);
+    }
+
+    /// Keeps the body's value.
+    pub(crate) fn keep_body(&mut self, value: Value)
+        ensures { self.new ≡ with_work self.old (body_work value self.old.work) }
+    {
+        self.body = Some(value);
+    }
+
+    /// Forgets all.
+    pub(crate) fn clear(&mut self)
+        ensures { self.new ≡ with_work self.old (clear_work self.old.work) }
+    {
+        self.gathered.clear();
+        self.found = None;
+        self.body = None;
+    }
+}
+
+#[tactic(auto, using(crate::proofs::JobLemmas::found_back))]
+fn items_of(found: &Finding) -> FoundList
+    ensures { result ≡ items_of (found_of found.now) }
+{
+    match found {
+        Finding::Gives(_) => FoundList::new(),
+        Finding::Selects(list) => list.copy(),
+    }
+}
+
+fn pairs_of(gathered: &[(u32, Value)]) -> Pairs
+    requires { length gathered.now ≤ 68 }
+    ensures { result ≡ gathered.now }
+{
+    let mut pairs = Pairs::new();
+    for (node, value) in gathered {
+        pairs.push(*node, *value);
+    }
+    pairs
+}
+
+fn gathered_in(gathered: &[(u32, Value)], input: u32) -> Option<Value>
+    ensures { result ≡ gathered_of input gathered.now }
+{
+    for (node, value) in gathered {
+        if *node == input {
+            return Some(*value);
+        }
+    }
+    None
+}

@@ -1,0 +1,45 @@
+-- A beginning finds a slot, and what it makes.
+use Rattle.std.proofs.Common.{◌≡◌, ℕ, ◌+◌, ◌<◌, ◌≤◌, Bool, true, false, not, ◌&&◌, refl, sym, ap, ◌∙◌, subst, arith}
+use Rattle.std.specs.Prelude.{nat_le}
+use Rattle.std.proofs.lemmas.Bool.Decides.{nat_tests}
+use Rattle.std.proofs.lemmas.Bool.{false≢true}
+use Rattle.signal_graph.specs.declared.call.Call.{Call}
+use Rattle.signal_graph.specs.Graph.{Graph}
+use Rattle.flow_model.specs.Machine.State.{Core}
+use Rattle.flow_model.specs.Machine.Steps.{can_begin, free_slot, has_call}
+use Rattle.flow_model.proofs.OneStep.BegunCalls.{few-calls, slot-free}
+use Rattle.flow_state.specs.Flow.{Booked, Flow, begin_call}
+use Rattle.flow_state.specs.Fitting.{IsBookOf}
+use Rattle.framing.specs.Begins.{MakesBeginning}
+
+left_of : (a b : Bool) → (a && b) ≡ true → a ≡ true
+left_of true b h = refl
+left_of false b h = h
+
+right_of : (a b : Bool) → (a && b) ≡ true → b ≡ true
+right_of true b h = h
+right_of false b h = absurd (false≢true h)
+
+not_is : (b : Bool) → not b ≡ true → b ≡ false
+not_is true h = absurd (false≢true h)
+not_is false h = refl
+
+at_most : (a b : ℕ) → nat_le a b ≡ true → a ≤ b
+at_most a b h = grind (arith, nat_tests)
+
+pub slot_inside : (graph : Graph) (s : Core) (book : Booked) (caller : ℕ) (call : Call) → IsBookOf graph s book → can_begin graph s caller call ≡ true → free_slot book.flow.callers 0 book.flow.calls < book.flow.callers
+slot_inside graph s book caller call fits h =
+    let three = left_of _ _ (left_of _ _ (left_of _ _ (left_of _ _ h))) in
+    let two = left_of _ _ three in
+    let first = at_most 1 caller (left_of _ _ two) in
+    let last = at_most caller s.callers (right_of _ _ two) in
+    let none = not_is (has_call caller s.calls) (right_of _ _ three) in
+    let slot = slot-free graph s fits.lawful (few-calls graph s fits.lawful caller first last none) in
+    let inside : free_slot s.callers 0 s.calls < s.callers = let i = slot.inside in omega (arith, i) in
+    subst (λ (f : Flow). free_slot f.callers 0 f.calls < f.callers) (sym fits.flow) inside
+
+pub begin_makes : (graph : Graph) (book new : Booked) (caller version : ℕ) (call : Call) → new ≡ begin_call graph book caller call → version ≡ book.flow.begun + 1 → MakesBeginning graph book caller call new version
+begin_makes graph book new caller version call is v s fits h = (
+  is ∙ ap (λ (f : Flow). begin_call graph (record book { flow = f }) caller call) fits.flow,
+  let b = ap (λ (f : Flow). f.begun) fits.flow in omega (arith, v, b),
+)

@@ -1,0 +1,24 @@
+-- What a start asks and makes.
+use Rattle.std.proofs.Common.{◌≡◌, ℕ, Bool, true, false, ◌&&◌, refl, sym, ap, ◌∙◌, subst}
+use Rattle.signal_graph.specs.Graph.{Graph}
+use Rattle.flow_model.specs.declared.step.Step.TheVariants.{Start}
+use Rattle.flow_model.specs.Machine.State.{Core, live, is_framing}
+use Rattle.flow_model.specs.Machine.Steps.{allowed, started}
+use Rattle.flow_state.specs.Flow.{Booked, Flow, live_in, on_call}
+use Rattle.flow_state.specs.Fitting.{IsBookStep, MakesBook}
+
+first_of : (a b : Bool) → (a && b) ≡ true → a ≡ true
+first_of true b h = refl
+first_of false b h = h
+
+frames-live : (s : Core) (t : ℕ) → frames s t ≡ true → live s t ≡ true
+frames-live s t h = first_of (live s t) _ h
+
+start-frames : (graph : Graph) (s : Core) (t : ℕ) → allowed graph s (Start t) ≡ true → frames s t ≡ true
+start-frames graph s t h = first_of (frames s t) _ (first_of _ _ h)
+
+pub start-live : (book : Booked) (t : ℕ) → (graph : Graph) × IsBookStep graph book (Start t) → live_in book t ≡ true
+start-live book t h = let s = h.1.state in subst (λ (f : Flow). live_in (record book { flow = f }) t ≡ true) (sym h.1.fits.flow) (frames-live s t (start-frames h.0 s t h.1.allowed))
+
+pub start-makes : (book new : Booked) (t : ℕ) → new ≡ on_call book t started → (graph : Graph) → MakesBook graph book (Start t) new
+start-makes book new t is graph s fits h = is ∙ ap (λ (f : Flow). on_call (record book { flow = f }) t started) fits.flow

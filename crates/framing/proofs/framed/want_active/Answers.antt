@@ -1,0 +1,30 @@
+use Rattle.std.proofs.Common.{◌∙◌, List, ap, sym, arith}
+use Rattle.node_versions.specs.Entries.{OutEdge, active_nodes}
+use Rattle.flow_state.specs.Flow.{nodes_in}
+use Rattle.framing.proofs.Wanting.{wanting_begins, wanting_more, wanting_same, wanting_ends, drop_past, edge_in, active_taken, active_skip}
+use Rattle.framing.proofs.framed.want_active.Goals as goal
+use Rattle.framing.proofs.framed.want_active.Goals.{then-active, else-active}
+
+pub loop-index-init : goal.loop-index-init
+loop-index-init c = wanting_begins c.args.book.now c.args.version _ c.requires.live
+
+pub want-requires-clause-node : goal.want-requires-clause-node
+want-requires-clause-node c =
+    let n = edge_in (nodes_in c.args.book.now) c.args.list.now.outs c.loop-index.index c.out-chooser.result c.out-chooser.ensures c.requires.below in
+    let same = c.loop-index.invariant.nodes in
+    omega (arith, n, same)
+
+pub loop-index-preserved : goal.loop-index-preserved
+loop-index-preserved c =
+    let len = c.outs_len-index-end.ensures in
+    elim c.if-active.branch [
+      | then-active w ↦ wanting_more c.args.book.now c.loop-index.book c.if-active.book c.args.version w.out-chooser.result.0 _ _ _ c.loop-index.invariant
+          (active_taken c.args.list.now.entries c.args.list.now.outs c.args.version c.loop-index.index w.out-chooser.result w.out-chooser.ensures (sym c.active.ensures ∙ w.if-active.true))
+          (w.book-is ∙ w.want.ensures)
+      | else-active w ↦ wanting_same c.args.book.now c.loop-index.book c.if-active.book c.args.version _ _ _ c.loop-index.invariant
+          (active_skip c.args.list.now.entries c.args.list.now.outs c.args.version c.loop-index.index (0, 0) (omega (arith, len)) (sym c.active.ensures ∙ w.if-active.false)) w.book-is
+    ]
+
+pub returns : goal.returns
+returns c = wanting_ends c.args.book.now c.loop-index.book c.args.version _ _ c.loop-index.invariant
+    (ap (λ (xs : List OutEdge). active_nodes c.args.list.now.entries xs c.args.version) (drop_past c.args.list.now.outs c.loop-index.index (let len = c.outs_len-index-end.ensures in omega (arith, len))))

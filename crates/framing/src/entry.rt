@@ -1,0 +1,90 @@
+// A call enters a list.
+
+ghost use Rattle.std.specs.Prelude.{◌≡◌, ◌≤◌, true, length, take, drop, None};
+ghost use Rattle.std.specs.List.{position_or_len};
+ghost use Rattle.flow_model.specs.Machine.Changes.{first_version, last_version};
+ghost use Rattle.flow_state.specs.Flow.{live_in};
+ghost use Rattle.framing.specs.Entering.{SomeCanEnter, Enters, stops_entry, link_before, link_behind, CanLinkBefore, CanLinkBehind};
+
+use flow_state::Book;
+use node_versions::{Entry, NodeList, State};
+
+/// A live call that has no entry in a node's list enters it at its place: before the first entry that stops it, else at
+/// the end. It is recorded behind its left neighbour and before its right one, where these are live. Takes no memory.
+pub fn enter(book: &mut Book, list: &mut NodeList, version: u32, node: u32, state: State)
+    requires { SomeCanEnter book.old node list.old version }
+    ensures { Enters book.old node list.old version state book.new list.new }
+{
+    let place = place_in(book, list, version);
+    let left = version_before(list, place);
+    let right = version_at(list, place);
+    let slot = book.slot(version);
+    list.insert_at(
+        place,
+        Entry {
+            version,
+            slot,
+            state,
+        },
+    );
+    link_left(book, left, version, node);
+    link_right(book, version, right, node);
+}
+
+// The index of the first entry that stops the call, else how many there are.
+fn place_in(book: &Book, list: &NodeList, version: u32) -> u32
+    requires { live_in book.now version ≡ true }
+    ensures place { result ≡ position_or_len (stops_entry book.now version) list.now.entries }
+    ensures bound { result ≤ length list.now.entries }
+{
+    list.place_of(|entry| book.stops(version, entry.version))
+}
+
+// The call of the last entry before an index.
+fn version_before(list: &NodeList, index: u32) -> Option<u32>
+    requires { index ≤ length list.now.entries }
+    ensures { result ≡ last_version None (take index list.now.entries) }
+{
+    if index == 0 {
+        return None;
+    }
+    Some(list.get(index - 1).version)
+}
+
+// The call of the entry at an index.
+fn version_at(list: &NodeList, index: u32) -> Option<u32>
+    ensures { result ≡ first_version (drop index list.now.entries) }
+{
+    if index >= list.len() {
+        return None;
+    }
+    Some(list.get(index).version)
+}
+
+// Records a call before the one that enters, where it is live.
+fn link_left(book: &mut Book, left: Option<u32>, version: u32, node: u32)
+    requires live { live_in book.old version ≡ true }
+    requires can { CanLinkBefore book.old left version }
+    ensures { book.new ≡ link_before book.old left version node }
+{
+    let Some(left) = left else {
+        return;
+    };
+    if book.live(left) {
+        book.link(left, version, node);
+    }
+}
+
+// Records the one that enters before a call, where that is live.
+fn link_right(book: &mut Book, version: u32, right: Option<u32>, node: u32)
+    requires live { live_in book.old version ≡ true }
+    requires can { CanLinkBehind book.old right version }
+    ensures { book.new ≡ link_behind book.old right version node }
+{
+    let Some(right) = right else {
+        return;
+    };
+    if book.live(right) {
+        book.link(version, right, node);
+    }
+}

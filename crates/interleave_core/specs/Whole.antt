@@ -1,0 +1,44 @@
+-- The state of a book and the lists of all nodes.
+use Rattle.std.specs.Prelude.{◌≡◌, ℕ, ◌+◌, List, [], ◌∷◌, length}
+use Rattle.signal_graph.specs.Graph.{Graph, IsGraph}
+use Rattle.node_versions.specs.Entries.{Versions}
+use Rattle.flow_model.specs.Machine.State.{Core, Cell}
+use Rattle.flow_model.specs.declared.step.Step.{Step}
+use Rattle.flow_model.specs.Machine.Steps.{apply}
+use Rattle.flow_state.specs.Flow.{Booked, Flow, Work, rooms_for}
+use Rattle.flow_state.specs.Fitting.{choosers}
+
+-- what contracts see in a `Core`
+pub record Whole : Type 0 where
+  pub graph : Graph
+  pub state : Core
+  pub rooms : ℕ
+
+abbrev pub with_state : Whole → Core → Whole
+with_state whole s = record whole { state = s }
+
+abbrev pub after : Whole → Step → Whole
+after whole step = with_state whole (apply whole.graph whole.state step)
+
+abbrev pub cells_of : List Work → List Versions → List Cell
+cells_of [] lists = []
+cells_of (w ∷ ws) [] = []
+cells_of (w ∷ ws) (l ∷ ls) = record { entries = l.entries; outs = l.outs; gathered = w.gathered; found = w.found; body = w.body } ∷ cells_of ws ls
+
+abbrev pub state_of : Flow → List Versions → Core
+state_of flow lists = record { callers = flow.callers; limit = flow.limit; begun = flow.begun; calls = flow.calls; cells = cells_of flow.works lists; pairs = flow.pairs; log = flow.log }
+
+abbrev pub whole_of : Graph → Booked → List Versions → Whole
+whole_of graph book lists = record { graph = graph; state = state_of book.flow lists; rooms = book.rooms }
+
+-- the rooms of lists, from the node n on
+abbrev pub HaveRooms : Graph → ℕ → ℕ → List Versions → Type 0
+HaveRooms graph callers n [] = Unit {0}
+HaveRooms graph callers n (l ∷ ls) = (l.room ≡ callers + 9) × (l.outs_room ≡ choosers graph n) × HaveRooms graph callers (n + 1) ls
+
+-- There is a list for each node, and all rooms are those of the graph.
+pub record IsWhole (graph : Graph) (book : Booked) (lists : List Versions) : Type 0 where
+  pub is_graph : IsGraph graph
+  pub many : length lists ≡ length book.flow.works
+  pub room_for : book.room_for ≡ rooms_for graph
+  pub rooms : HaveRooms graph book.flow.callers 0 lists

@@ -1,0 +1,4 @@
+pub mod Helps
+pub mod Tells
+pub mod Extends
+pub mod Joins

@@ -1,0 +1,8 @@
+pub mod Ends
+pub mod Looks
+pub mod Skips
+pub mod Gathers
+pub mod Picks
+pub mod Puts
+pub mod Resolves
+pub mod Marks

@@ -1,0 +1,94 @@
+-- What a collection asks and makes.
+use Rattle.std.proofs.Common.{◌≡◌, ℕ, zero, suc, ◌<◌, Bool, true, false, not, List, [], ◌∷◌, length, map, refl, sym, ap, ap₂, ◌∙◌, subst, arith, true≢false}
+use Rattle.std.proofs.lemmas.Bool.Decides.{eqb_tells}
+use Rattle.std.specs.List.{filter}
+use Rattle.std.specs.Option.{is_some}
+use Rattle.std.specs.Prelude.{slice_index_or, nat_lt}
+use Rattle.signal_graph.specs.Graph.{Graph}
+use Rattle.node_versions.specs.declared.entry.Entry.{Entry}
+use Rattle.node_versions.specs.Entries.{Versions, IsUnique, EndedIsPrefix, HasEndedPrefix, has, at, behind, is_done, last_done, collected, with_entries}
+use Rattle.flow_model.specs.declared.step.Step.TheVariants.{Collect}
+use Rattle.flow_model.specs.Machine.State.{Cell, no_cell, call_of, ended, live, entries}
+use Rattle.std.specs.Prelude.{is_some}
+use Rattle.flow_model.specs.Machine.Lists.{change_at}
+use Rattle.flow_model.specs.Machine.Steps.{allowed, collect}
+use Rattle.flow_model.proofs.OneList.InOrder.{on_calls}
+use Rattle.flow_model.proofs.OneList.StatesAndPlaces.{behind-has}
+use Rattle.flow_state.specs.Flow.{Booked, Flow, Work, flow_of, work_of, live_in, with_flow}
+use Rattle.flow_state.specs.Fitting.{IsListStep, MakesList, list_of}
+
+-- ---- the ended entries come first
+
+none-ended : (gone : ℕ → Bool) (es : List Entry) → ((v : ℕ) → has es v ≡ true → gone v ≡ false) → filter (on_calls gone) es ≡ []
+none-ended gone [] h = refl
+none-ended gone (e ∷ es) h =
+    let first = h e.version in
+    let r = none-ended gone es (λ v k. h v (grind (arith, k))) in
+    grind (arith, eqb_tells, first, r)
+
+prefix : (gone : ℕ → Bool) (es : List Entry) → IsUnique es → ((u v : ℕ) → behind es u v ≡ true → gone v ≡ true → gone u ≡ true) → EndedIsPrefix (on_calls gone) es
+prefix gone [] once h = tt
+prefix gone (e ∷ es) once h =
+    let more = prefix gone es once.1 (λ u v b. h u v (let p = behind-has es u v b in let o = once.0 in grind (arith, eqb_tells, b, p, o))) in
+    go (gone e.version) refl more
+  where
+    go : (b : Bool) → gone e.version ≡ b → EndedIsPrefix (on_calls gone) es → elim b as (λ _. Type 0) [ true ↦ EndedIsPrefix (on_calls gone) es | false ↦ filter (on_calls gone) es ≡ [] ]
+    go true k more = more
+    go false k more = none-ended gone es (λ v b. let q = h e.version v in grind (arith, eqb_tells, b, k, q))
+
+some-done : (gone : ℕ → Bool) (es : List Entry) (u : ℕ) → gone u ≡ true → at is_done es u ≡ true → is_some (last_done (filter (on_calls gone) es)) ≡ true
+some-done gone [] u g h = absurd (true≢false (sym h))
+some-done gone (e ∷ es) u g h = let r = some-done gone es u g in grind (arith, eqb_tells, r)
+
+-- ---- cells
+
+inside : (cs : List Cell) (n : ℕ) → 0 < length (slice_index_or cs n no_cell).entries → n < length cs
+inside [] n h = absurd (omega (arith, h))
+inside (c ∷ cs) zero h = omega arith
+inside (c ∷ cs) (suc n) h = let r = inside cs n h in omega (arith, r)
+
+changed-at : (n : ℕ) (f : Cell → Cell) (cs : List Cell) → n < length cs → slice_index_or (change_at n f cs) n no_cell ≡ f (slice_index_or cs n no_cell)
+changed-at n f [] h = absurd (omega (arith, h))
+changed-at zero f (c ∷ cs) h = refl
+changed-at (suc n) f (c ∷ cs) h = changed-at n f cs (omega (arith, h))
+
+same-works : (n : ℕ) (f : Cell → Cell) → ((c : Cell) → work_of (f c) ≡ work_of c) → (cs : List Cell) → map work_of (change_at n f cs) ≡ map work_of cs
+same-works n f same [] = refl
+same-works zero f same (c ∷ cs) = ap (λ (w : Work). w ∷ map work_of cs) (same c)
+same-works (suc n) f same (c ∷ cs) = ap (λ (ws : List Work). work_of c ∷ ws) (same-works n f same cs)
+
+-- ---- the step
+
+some-entry : (a b : ℕ) → nat_lt a b ≡ true → 0 < b
+some-entry a b h = grind (arith, h)
+
+flips : (a b : Bool) → (a ≡ false → b ≡ false) → not a ≡ true → not b ≡ true
+flips a b f h = let k = f (grind (arith, h)) in grind (arith, k)
+
+in-state : (graph : Graph) (book : Booked) (n : ℕ) (list : Versions) → (h : IsListStep graph book n list (Collect n)) → HasEndedPrefix (ended h.state) (entries h.state n)
+in-state graph book n list h =
+    let s = h.state in
+    let kept = h.fits.lawful.ended_is_prefix in
+    let some = kept.done n (inside s.cells n (some-entry _ _ h.allowed)) in
+    record {
+      prefix = prefix (λ u. not (live s u)) (entries s n) (h.fits.lawful.one_entry n) (λ u v b. flips (live s v) (live s u) (kept.prefix n u v b));
+      done = some-done (λ u. not (live s u)) (entries s n) some.0 (ap not some.1) some.2;
+    }
+
+pub ready : (graph : Graph) (book : Booked) (n : ℕ) (list : Versions) → IsListStep graph book n list (Collect n) → HasEndedPrefix (λ e. not (live_in book e.version)) list.entries
+ready graph book n list h =
+    subst (λ (f : Flow). HasEndedPrefix (λ e. not (is_some (call_of f.calls e.version))) list.entries) (sym h.fits.flow)
+    (subst (λ (v : Versions). HasEndedPrefix (ended h.state) v.entries) (sym h.is_list) (in-state graph book n list h))
+
+pub makes : (graph : Graph) (book : Booked) (n : ℕ) (list new : Versions) → (HasEndedPrefix (λ e. not (live_in book e.version)) list.entries → new ≡ with_entries list (collected (λ e. not (live_in book e.version)) list.entries))
+    → MakesList graph book n list (Collect n) book new
+makes graph book n list new made s fits is_list allowed =
+    let h : IsListStep graph book n list (Collect n) = record { state = s; fits = fits; is_list = is_list; allowed = allowed } in
+    let some = inside s.cells n (some-entry _ _ allowed) in
+    let now = changed-at n (collect s) s.cells some in
+    let flow = ap (λ (ws : List Work). record (flow_of s) { works = ws }) (same-works n (collect s) (λ c. refl) s.cells) in (
+      ap (with_flow book) (fits.flow ∙ sym flow),
+      made (ready graph book n list h)
+          ∙ ap₂ (λ (f : Flow) (v : Versions). with_entries v (collected (λ e. not (is_some (call_of f.calls e.version))) v.entries)) fits.flow is_list
+          ∙ ap (λ (c : Cell). record (list_of graph s n) { entries = c.entries; outs = c.outs }) (sym now),
+    )
