@@ -7,7 +7,7 @@ use Rattle.flow_model.specs.Machine.State.{Core, Cell, no_cell, entries, outs, w
 use Rattle.flow_model.specs.Machine.Lists.{change_at}
 use Rattle.flow_model.specs.Machine.Changes.{ensure_mark, enter, place_entry}
 use Rattle.flow_model.proofs.OneStep.SameLengths.{change_at-length}
-use Rattle.flow_state.specs.Flow.{Work, work_of, flow_of}
+use Rattle.flow_model.specs.Parts.Books.{Work, work_in, book_of}
 
 pub inside : (cs : List Cell) (n : ℕ) → 0 < length (slice_index_or cs n no_cell).entries → n < length cs
 inside [] n h = absurd (omega (arith, h))
@@ -19,14 +19,14 @@ changed-at n f [] h = absurd (omega (arith, h))
 changed-at zero f (c ∷ cs) h = refl
 changed-at (suc n) f (c ∷ cs) h = changed-at n f cs (omega (arith, h))
 
-same-works : (n : ℕ) (f : Cell → Cell) → ((c : Cell) → work_of (f c) ≡ work_of c) → (cs : List Cell) → map work_of (change_at n f cs) ≡ map work_of cs
+same-works : (n : ℕ) (f : Cell → Cell) → ((c : Cell) → work_in (f c) ≡ work_in c) → (cs : List Cell) → map work_in (change_at n f cs) ≡ map work_in cs
 same-works n f same [] = refl
-same-works zero f same (c ∷ cs) = ap (λ (w : Work). w ∷ map work_of cs) (same c)
-same-works (suc n) f same (c ∷ cs) = ap (λ (ws : List Work). work_of c ∷ ws) (same-works n f same cs)
+same-works zero f same (c ∷ cs) = ap (λ (w : Work). w ∷ map work_in cs) (same c)
+same-works (suc n) f same (c ∷ cs) = ap (λ (ws : List Work). work_in c ∷ ws) (same-works n f same cs)
 
 -- a change of lists alone is not seen in a book
-pub same-flow : (s : Core) (n : ℕ) (f : Cell → Cell) → ((c : Cell) → work_of (f c) ≡ work_of c) → flow_of (with_cell s n f) ≡ flow_of s
-same-flow s n f same = ap (λ (ws : List Work). record (flow_of s) { works = ws }) (same-works n f same s.cells)
+pub same-flow : (s : Core) (n : ℕ) (f : Cell → Cell) → ((c : Cell) → work_in (f c) ≡ work_in c) → book_of (with_cell s n f) ≡ book_of s
+same-flow s n f same = ap (λ (ws : List Work). record (book_of s) { works = ws }) (same-works n f same s.cells)
 
 -- ---- where a call has its Mark
 

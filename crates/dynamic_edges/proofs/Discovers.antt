@@ -10,7 +10,7 @@ use Rattle.flow_model.specs.Machine.Steps.{allowed, has_room_for}
 use Rattle.flow_model.proofs.OneStep.WhoMayStep.{and_right, discover-due, drop-due, at_front-executes, executes-live}
 use Rattle.flow_model.proofs.OneStep.WhoMayStep.{due-can_work}
 use Rattle.flow_model.proofs.OneStep.WhoMayStep.{can_work-at_front}
-use Rattle.flow_state.specs.Flow.{Booked, with_flow}
+use Rattle.flow_state.specs.Booked.{Booked, with_book}
 use Rattle.flow_state.specs.Fitting.{IsBookOf, IsListStep, MakesList, list_of, choosers}
 use Rattle.flow_state.specs.Joining.{MakesJoined}
 use Rattle.dynamic_edges.specs.Marking.{CanMark, SomeCanMark, Marks}
@@ -63,7 +63,7 @@ discover-makes graph book between t n m list marked new_list some marks added s 
     let q = ensure_mark s t m in
     let told = marks graph s (discover-can graph s book t n m list fits is some h) in
     let node = in-marked s t m (in-cells graph s m list is some) in (
-      told.0 ∙ ap (with_flow book) (sym (same-flow q m (add_edge n t) (λ c. refl))),
+      told.0 ∙ ap (with_book book) (sym (same-flow q m (add_edge n t) (λ c. refl))),
       added ∙ ap (λ (v : Versions). with_outs v (with_out v.outs n t)) told.1 ∙ ap (λ (c : Cell). record (list_of graph q m) { entries = c.entries; outs = c.outs }) (sym (changed-at m (add_edge n t) q.cells node)),
     )
 
@@ -81,6 +81,6 @@ drop-makes graph book between t n m list marked new_list some marks removed s fi
     let q = ensure_mark s t m in
     let told = marks graph s (drop-can graph s book t n m list fits is some h) in
     let node = in-marked s t m (in-cells graph s m list is some) in (
-      told.0 ∙ ap (with_flow book) (sym (same-flow q m (drop_edge n) (λ c. refl))),
+      told.0 ∙ ap (with_book book) (sym (same-flow q m (drop_edge n) (λ c. refl))),
       removed ∙ ap (λ (v : Versions). with_outs v (remove_first n v.outs)) told.1 ∙ ap (λ (c : Cell). record (list_of graph q m) { entries = c.entries; outs = c.outs }) (sym (changed-at m (drop_edge n) q.cells node)),
     )

@@ -6,7 +6,8 @@ use Rattle.node_versions.specs.Entries.{Versions, has}
 use Rattle.flow_model.specs.Machine.State.{Core, entries}
 use Rattle.flow_model.specs.Machine.Words.{has_room}
 use Rattle.flow_model.specs.Machine.Changes.{ensure_mark, enter}
-use Rattle.flow_state.specs.Flow.{Booked, flow_of, with_flow}
+use Rattle.flow_state.specs.Booked.{Booked, with_book}
+use Rattle.flow_model.specs.Parts.Books.{book_of}
 use Rattle.flow_state.specs.Fitting.{list_of}
 use Rattle.framing.specs.Entering.{CanEnter, SomeCanEnter, Enters}
 use Rattle.dynamic_edges.specs.Marking.{CanMark, SomeCanMark, Marks}
@@ -33,9 +34,9 @@ pub marks-new : (book new : Booked) (n : ℕ) (list new_list : Versions) (t : �
 marks-new book new n list new_list t away made graph s can =
     let after = sym (entered s t n false (sym (has-list graph s n t list can.is_list) ∙ away)) in
     let told = made graph s (can-enter graph s book n list t can away) in
-    (told.0 ∙ ap (λ (q : Core). with_flow book (flow_of q)) after, told.1 ∙ ap (λ (q : Core). list_of graph q n) after)
+    (told.0 ∙ ap (λ (q : Core). with_book book (book_of q)) after, told.1 ∙ ap (λ (q : Core). list_of graph q n) after)
 
 pub marks-old : (book : Booked) (n : ℕ) (list : Versions) (t : ℕ) → has list.entries t ≡ true → Marks book n list t book list
 marks-old book n list t there graph s can =
     let after = sym (entered s t n true (sym (has-list graph s n t list can.is_list) ∙ there)) in
-    (ap (with_flow book) can.fits.flow ∙ ap (λ (q : Core). with_flow book (flow_of q)) after, can.is_list ∙ ap (λ (q : Core). list_of graph q n) after)
+    (ap (with_book book) can.fits.parts ∙ ap (λ (q : Core). with_book book (book_of q)) after, can.is_list ∙ ap (λ (q : Core). list_of graph q n) after)

@@ -5,7 +5,8 @@ use Rattle.node_versions.specs.Entries.{Versions}
 use Rattle.flow_model.specs.Machine.State.{Core, live}
 use Rattle.flow_model.specs.Machine.Changes.{ensure_mark}
 use Rattle.flow_model.specs.Machine.Steps.{has_room_for}
-use Rattle.flow_state.specs.Flow.{Booked, flow_of, with_flow}
+use Rattle.flow_state.specs.Booked.{Booked, with_book}
+use Rattle.flow_model.specs.Parts.Books.{book_of}
 use Rattle.flow_state.specs.Fitting.{IsBookOf, list_of}
 
 -- The state fits, the call is live, and it has an entry in the node's list or the list has room.
@@ -25,4 +26,4 @@ pub record SomeCanMark (book : Booked) (n : ℕ) (list : Versions) (t : ℕ) : T
 abbrev pub Marks : Booked → ℕ → Versions → ℕ → Booked → Versions → Type 0
 Marks book n list t new new_list =
     (graph : Graph) (s : Core) → CanMark graph s book n list t
-    → (new ≡ with_flow book (flow_of (ensure_mark s t n))) × (new_list ≡ list_of graph (ensure_mark s t n) n)
+    → (new ≡ with_book book (book_of (ensure_mark s t n))) × (new_list ≡ list_of graph (ensure_mark s t n) n)

@@ -14,7 +14,7 @@ use Rattle.flow_model.specs.Machine.Steps.{uses_slot, free_slot}
 use Rattle.flow_model.specs.Kept.Lawful.{times, AreDistinct}
 use Rattle.flow_model.proofs.General.Pigeons.{times-it, times-other, total-all, total-missing}
 use Rattle.flow_state.specs.declared.seating.Tenant.{Tenant}
-use Rattle.flow_state.specs.Flow.{begun_call}
+use Rattle.flow_state.specs.Booked.{begun_call}
 use Rattle.flow_state.specs.Seats.{Seated, LiveCalls, Shelved, no_seat, has_call, one_call_more, seat_at, call_at, version_at, calls_of, versions_of, pairs_of, live_calls, has_version, has_slot, AreTenants, AreLinked, AreSeats}
 use Rattle.flow_state.specs.Kept.{IsKept}
 use Rattle.flow_state.proofs.SeatLemmas.{calls-away}

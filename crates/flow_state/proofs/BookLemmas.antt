@@ -6,7 +6,9 @@ use Rattle.signal_graph.specs.declared.log.Logged.{Logged}
 use Rattle.flow_model.specs.Machine.State.{LiveCall, call_of, change_call}
 use Rattle.std.specs.Prelude.{is_some}
 use Rattle.flow_model.specs.Machine.Steps.{without_call}
-use Rattle.flow_state.specs.Flow.{Work, Booked, no_work, change_at, on_work, work_in}
+use Rattle.flow_state.specs.Booked.{Booked, on_work, work_at}
+use Rattle.flow_model.specs.Parts.Books.{Work, no_work}
+use Rattle.flow_model.specs.Machine.Lists.{change_at}
 use Rattle.flow_state.specs.Seats.{LiveCalls, Shelved, with_pairs, with_work, has_call, on_live, left_calls}
 use Rattle.flow_state.specs.Kept.{booked, IsKept}
 
@@ -67,16 +69,16 @@ rooms-set (x ∷ xs) (suc n) was new h e is = ap (λ (rs : List ℕ). x.room ∷
 
 pub seen_shelf : (limit begun rooms : ℕ) (live : LiveCalls) (shelves : List Shelved) (log : Record) (n : ℕ) (was new : Shelved) (f : Work → Work) (seen : Booked) → booked limit begun rooms live shelves log ≡ seen → n < length shelves → was ≡ get_or shelves n was → new ≡ with_work was (f was.work) → booked limit begun rooms live (set shelves n new) log ≡ on_work seen n f
 seen_shelf limit begun rooms live shelves log n was new f seen view h e is =
-    let B : List Work → List ℕ → Booked = λ ws rs. record { flow = record { callers = live.callers; limit = limit; begun = begun; calls = live.calls; works = ws; pairs = live.pairs; log = log.entries }; rooms = rooms; room_for = rs } in
+    let B : List Work → List ℕ → Booked = λ ws rs. record { book = record { callers = live.callers; limit = limit; begun = begun; calls = live.calls; works = ws; pairs = live.pairs; log = log.entries }; rooms = rooms; room_for = rs } in
     ap (λ (ws : List Work). B ws (map (λ (s : Shelved). s.room) (set shelves n new))) (works-set shelves n was new f h e is)
     ∙ ap (B (change_at n f (map (λ (s : Shelved). s.work) shelves))) (rooms-set shelves n was new h e (ap (λ (s : Shelved). s.room) is))
     ∙ ap (λ (b : Booked). on_work b n f) view
 
 -- ---- a shelf that is read
 
-pub shelf_inside : (limit begun rooms spare : ℕ) (live : LiveCalls) (shelves : List Shelved) (log : Record) (n : ℕ) (seen : Booked) → booked limit begun rooms live shelves log ≡ seen → n < length seen.flow.works → n < length shelves
+pub shelf_inside : (limit begun rooms spare : ℕ) (live : LiveCalls) (shelves : List Shelved) (log : Record) (n : ℕ) (seen : Booked) → booked limit begun rooms live shelves log ≡ seen → n < length seen.book.works → n < length shelves
 shelf_inside limit begun rooms spare live shelves log n seen view h =
-    let e = ap (λ (b : Booked). length b.flow.works) view in
+    let e = ap (λ (b : Booked). length b.book.works) view in
     let l = length-works shelves in
     omega (arith, h, e, l)
   where
@@ -84,18 +86,18 @@ shelf_inside limit begun rooms spare live shelves log n seen view h =
     length-works [] = refl
     length-works (x ∷ xs) = ap suc (length-works xs)
 
-work_at : (shelves : List Shelved) (n : ℕ) (was : Shelved) → n < length shelves → was ≡ get_or shelves n was → was.work ≡ get_or (map (λ (s : Shelved). s.work) shelves) n no_work
-work_at [] n was h e = absurd (omega (arith, h))
-work_at (x ∷ xs) zero was h e = ap (λ (s : Shelved). s.work) e
-work_at (x ∷ xs) (suc n) was h e = work_at xs n was (omega (arith, h)) e
+work-kept : (shelves : List Shelved) (n : ℕ) (was : Shelved) → n < length shelves → was ≡ get_or shelves n was → was.work ≡ get_or (map (λ (s : Shelved). s.work) shelves) n no_work
+work-kept [] n was h e = absurd (omega (arith, h))
+work-kept (x ∷ xs) zero was h e = ap (λ (s : Shelved). s.work) e
+work-kept (x ∷ xs) (suc n) was h e = work-kept xs n was (omega (arith, h)) e
 
 room_at : (shelves : List Shelved) (n : ℕ) (was : Shelved) → n < length shelves → was ≡ get_or shelves n was → was.room ≡ get_or (map (λ (s : Shelved). s.room) shelves) n 0
 room_at [] n was h e = absurd (omega (arith, h))
 room_at (x ∷ xs) zero was h e = ap (λ (s : Shelved). s.room) e
 room_at (x ∷ xs) (suc n) was h e = room_at xs n was (omega (arith, h)) e
 
-pub shelf_work : (limit begun rooms : ℕ) (live : LiveCalls) (shelves : List Shelved) (log : Record) (n : ℕ) (was : Shelved) (seen : Booked) → booked limit begun rooms live shelves log ≡ seen → n < length shelves → was ≡ get_or shelves n was → was.work ≡ work_in seen n
-shelf_work limit begun rooms live shelves log n was seen view h e = work_at shelves n was h e ∙ ap (λ (b : Booked). work_in b n) view
+pub shelf_work : (limit begun rooms : ℕ) (live : LiveCalls) (shelves : List Shelved) (log : Record) (n : ℕ) (was : Shelved) (seen : Booked) → booked limit begun rooms live shelves log ≡ seen → n < length shelves → was ≡ get_or shelves n was → was.work ≡ work_at seen n
+shelf_work limit begun rooms live shelves log n was seen view h e = work-kept shelves n was h e ∙ ap (λ (b : Booked). work_at b n) view
 
 pub shelf_room : (limit begun rooms : ℕ) (live : LiveCalls) (shelves : List Shelved) (log : Record) (n : ℕ) (was : Shelved) (seen : Booked) → booked limit begun rooms live shelves log ≡ seen → n < length shelves → was ≡ get_or shelves n was → was.room ≡ get_or seen.room_for n 0
 shelf_room limit begun rooms live shelves log n was seen view h e = room_at shelves n was h e ∙ ap (λ (b : Booked). get_or b.room_for n 0) view

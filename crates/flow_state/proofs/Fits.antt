@@ -13,34 +13,36 @@ use Rattle.flow_model.proofs.General.Truths.{not_true, is_not_true, same_number,
 use Rattle.flow_model.proofs.OneList.StatesAndPlaces.{at-has, first_open-frame}
 use Rattle.flow_model.proofs.OrderStays.NoFrameBeforeDones.{head-first}
 use Rattle.flow_model.proofs.OrderStays.OpenNodesHaveFrames.{entry-there}
-use Rattle.flow_state.specs.Flow.{Booked, Flow, Work, work_of, live_in, nodes_in, work_in, change_at}
+use Rattle.flow_state.specs.Booked.{Booked, live_in, node_count, work_at}
+use Rattle.flow_model.specs.Parts.Books.{Work, work_in, Book}
+use Rattle.flow_model.specs.Machine.Lists.{change_at}
 use Rattle.flow_state.specs.Fitting.{IsBookOf}
 
 -- ---- the book
 
-length-works : (cs : List Cell) → length (map work_of cs) ≡ length cs
+length-works : (cs : List Cell) → length (map work_in cs) ≡ length cs
 length-works [] = refl
 length-works (c ∷ cs) = ap suc (length-works cs)
 
 pub fits_live : (graph : Graph) (s : Core) (book : Booked) (t : ℕ) → IsBookOf graph s book → live s t ≡ true → live_in book t ≡ true
-fits_live graph s book t fits h = subst (λ (f : Flow). live_in (record book { flow = f }) t ≡ true) (sym fits.flow) h
+fits_live graph s book t fits h = subst (λ (f : Book). live_in (record book { book = f }) t ≡ true) (sym fits.parts) h
 
-pub fits_node : (graph : Graph) (s : Core) (book : Booked) (n : ℕ) → IsBookOf graph s book → n < length s.cells → n < nodes_in book
-fits_node graph s book n fits h = subst (λ (f : Flow). n < nodes_in (record book { flow = f })) (sym fits.flow) (let l = length-works s.cells in omega (arith, l, h))
+pub fits_node : (graph : Graph) (s : Core) (book : Booked) (n : ℕ) → IsBookOf graph s book → n < length s.cells → n < node_count book
+fits_node graph s book n fits h = subst (λ (f : Book). n < node_count (record book { book = f })) (sym fits.parts) (let l = length-works s.cells in omega (arith, l, h))
 
-pub same_work : (graph : Graph) (s : Core) (book : Booked) (n : ℕ) → IsBookOf graph s book → work_in book n ≡ work_of (cell s n)
-same_work graph s book n fits = ap (λ (f : Flow). work_in (record book { flow = f }) n) fits.flow ∙ get_or-map work_of s.cells n no_cell
+pub same_work : (graph : Graph) (s : Core) (book : Booked) (n : ℕ) → IsBookOf graph s book → work_at book n ≡ work_in (cell s n)
+same_work graph s book n fits = ap (λ (f : Book). work_at (record book { book = f }) n) fits.parts ∙ get_or-map work_in s.cells n no_cell
 
 -- a change of a cell is one of its work
-pub works-change : (n : ℕ) (f : Cell → Cell) (g : Work → Work) → ((c : Cell) → work_of (f c) ≡ g (work_of c)) → (cs : List Cell) → map work_of (change_at n f cs) ≡ change_at n g (map work_of cs)
+pub works-change : (n : ℕ) (f : Cell → Cell) (g : Work → Work) → ((c : Cell) → work_in (f c) ≡ g (work_in c)) → (cs : List Cell) → map work_in (change_at n f cs) ≡ change_at n g (map work_in cs)
 works-change n f g same [] = refl
-works-change zero f g same (c ∷ cs) = ap (λ (w : Work). w ∷ map work_of cs) (same c)
-works-change (suc n) f g same (c ∷ cs) = ap (λ (ws : List Work). work_of c ∷ ws) (works-change n f g same cs)
+works-change zero f g same (c ∷ cs) = ap (λ (w : Work). w ∷ map work_in cs) (same c)
+works-change (suc n) f g same (c ∷ cs) = ap (λ (ws : List Work). work_in c ∷ ws) (works-change n f g same cs)
 
-pub works-same : (n : ℕ) (f : Cell → Cell) → ((c : Cell) → work_of (f c) ≡ work_of c) → (cs : List Cell) → map work_of (change_at n f cs) ≡ map work_of cs
+pub works-same : (n : ℕ) (f : Cell → Cell) → ((c : Cell) → work_in (f c) ≡ work_in c) → (cs : List Cell) → map work_in (change_at n f cs) ≡ map work_in cs
 works-same n f same [] = refl
-works-same zero f same (c ∷ cs) = ap (λ (w : Work). w ∷ map work_of cs) (same c)
-works-same (suc n) f same (c ∷ cs) = ap (λ (ws : List Work). work_of c ∷ ws) (works-same n f same cs)
+works-same zero f same (c ∷ cs) = ap (λ (w : Work). w ∷ map work_in cs) (same c)
+works-same (suc n) f same (c ∷ cs) = ap (λ (ws : List Work). work_in c ∷ ws) (works-same n f same cs)
 
 -- ---- Dones before an entry
 

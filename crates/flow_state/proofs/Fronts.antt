@@ -12,7 +12,7 @@ use Rattle.flow_model.specs.Machine.Changes.{set_state}
 
 use Rattle.flow_model.proofs.OneStep.WhoMayStep.{at_front-heads, at_front-executes, executes-live}
 use Rattle.flow_model.proofs.OrderStays.OpenNodesHaveFrames.{cell-there, entry-there}
-use Rattle.flow_state.specs.Flow.{Booked, live_in, nodes_in}
+use Rattle.flow_state.specs.Booked.{Booked, live_in, node_count}
 use Rattle.flow_state.specs.Fitting.{IsBookOf, list_of, choosers}
 use Rattle.flow_state.proofs.Fits.{fits_live, fits_node, lawful_before, heads_frame, heads_has}
 
@@ -34,7 +34,7 @@ front_inside graph s book n list t h = entry-there s n t (front_has graph s book
 pub front-live : (graph : Graph) (s : Core) (book : Booked) (n : ℕ) (list : Versions) (t : ℕ) → IsFront graph s book n list t → live_in book t ≡ true
 front-live graph s book n list t h = fits_live graph s book t h.fits (front_live graph s book n list t h)
 
-pub front-node : (graph : Graph) (s : Core) (book : Booked) (n : ℕ) (list : Versions) (t : ℕ) → IsFront graph s book n list t → n < nodes_in book
+pub front-node : (graph : Graph) (s : Core) (book : Booked) (n : ℕ) (list : Versions) (t : ℕ) → IsFront graph s book n list t → n < node_count book
 front-node graph s book n list t h = fits_node graph s book n h.fits (front_inside graph s book n list t h)
 
 pub front-has : (graph : Graph) (s : Core) (book : Booked) (n : ℕ) (list : Versions) (t : ℕ) → IsFront graph s book n list t → has list.entries t ≡ true

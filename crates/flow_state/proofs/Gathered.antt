@@ -3,7 +3,7 @@ use Rattle.std.proofs.Common.{◌≡◌, ℕ, Bool, true, false, ◌==◌, List,
 use Rattle.std.proofs.lemmas.Bool.Decides.{eqb_tells}
 use Rattle.script_tree.specs.declared.value.Value.{Value}
 use Rattle.flow_model.specs.Machine.Words.{gathered_of}
-use Rattle.flow_state.specs.Flow.{AreApart}
+use Rattle.flow_state.specs.Booked.{AreApart}
 
 abbrev first : Bool → Value → Option Value → Option Value
 first b v o = elim b [ true ↦ Some v | false ↦ o ]

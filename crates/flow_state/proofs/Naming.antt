@@ -10,7 +10,7 @@ use Rattle.signal_graph.specs.Graph.{Graph, IsGraph, place_in, number_of}
 use Rattle.signal_graph.specs.Machine.{sets_of, names_node, names_source, first_wrong, misnamed}
 use Rattle.flow_model.specs.Machine.Sets.{put, put_all}
 use Rattle.flow_model.specs.Machine.Steps.{nodes_set}
-use Rattle.flow_state.specs.Flow.{sets_by_node, AreInside}
+use Rattle.flow_state.specs.Booked.{sets_by_node, AreInside}
 use Rattle.flow_state.proofs.Walks.{rest_is}
 
 place-most : (names : List (List ℕ)) (name : List ℕ) → place_in names name ≤ length names

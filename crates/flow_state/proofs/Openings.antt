@@ -10,7 +10,8 @@ use Rattle.signal_graph.specs.declared.node.Node.{Node}
 use Rattle.signal_graph.specs.Graph.{Graph, numbers, numbers_from}
 use Rattle.order_graph.specs.Order.{Order, without_pairs}
 use Rattle.flow_model.specs.Machine.State.{start_cell}
-use Rattle.flow_state.specs.Flow.{Work, Booked, no_work, work_of, room_at, opened_book}
+use Rattle.flow_state.specs.Booked.{Booked, room_at, opened_book}
+use Rattle.flow_model.specs.Parts.Books.{Work, no_work, work_in}
 use Rattle.flow_state.specs.Seats.{Seated, Shelved, LiveCalls, no_seat, free_seat, no_calls, seat_at, AreSeats}
 use Rattle.flow_state.specs.Kept.{booked, IsKept}
 use Rattle.flow_state.specs.declared.seating.Tenant.{Tenant}
@@ -51,7 +52,7 @@ numbers-range : (n : ℕ) (nodes : List Node) → numbers_from n nodes ≡ range
 numbers-range n [] = refl
 numbers-range n (x ∷ xs) = ap (λ ys. n ∷ ys) (numbers-range (n + 1) xs)
 
-works-empty : (graph : Graph) (ns : List ℕ) → map (λ (s : Shelved). s.work) (map (empty_shelf graph) ns) ≡ map work_of (map (start_cell graph) ns)
+works-empty : (graph : Graph) (ns : List ℕ) → map (λ (s : Shelved). s.work) (map (empty_shelf graph) ns) ≡ map work_in (map (start_cell graph) ns)
 works-empty graph [] = refl
 works-empty graph (n ∷ ns) = ap (λ (ws : List Work). no_work ∷ ws) (works-empty graph ns)
 
@@ -61,13 +62,13 @@ rooms-empty graph (n ∷ ns) = ap (λ (rs : List ℕ). room_at graph n ∷ rs) (
 
 pub opening_seen : (graph : Graph) (callers limit : ℕ) (live : LiveCalls) (shelves : List Shelved) (log : Record) → live ≡ no_calls callers (length graph.nodes) → shelves ≡ map (empty_shelf graph) (range_with_len 0 (length graph.nodes)) → log.entries ≡ [] → booked limit 0 0 live shelves log ≡ opened_book graph callers limit
 opening_seen graph callers limit live shelves log none empty new =
-    let B : List Work → List ℕ → List Logged → LiveCalls → Booked = λ ws rs es l. record { flow = record { callers = l.callers; limit = limit; begun = 0; calls = l.calls; works = ws; pairs = l.pairs; log = es }; rooms = 0; room_for = rs } in
+    let B : List Work → List ℕ → List Logged → LiveCalls → Booked = λ ws rs es l. record { book = record { callers = l.callers; limit = limit; begun = 0; calls = l.calls; works = ws; pairs = l.pairs; log = es }; rooms = 0; room_for = rs } in
     let all : shelves ≡ map (empty_shelf graph) (numbers graph) = empty ∙ ap (map (empty_shelf graph)) (sym (numbers-range 0 graph.nodes)) in
     ap (λ (l : LiveCalls). B (map (λ (s : Shelved). s.work) shelves) (map (λ (s : Shelved). s.room) shelves) log.entries l) none
     ∙ ap (λ (es : List Logged). B (map (λ (s : Shelved). s.work) shelves) (map (λ (s : Shelved). s.room) shelves) es (no_calls callers (length graph.nodes))) new
     ∙ ap (λ (ss : List Shelved). B (map (λ (s : Shelved). s.work) ss) (map (λ (s : Shelved). s.room) ss) [] (no_calls callers (length graph.nodes))) all
     ∙ ap (λ (ws : List Work). B ws (map (λ (s : Shelved). s.room) (map (empty_shelf graph) (numbers graph))) [] (no_calls callers (length graph.nodes))) (works-empty graph (numbers graph))
-    ∙ ap (λ (rs : List ℕ). B (map work_of (map (start_cell graph) (numbers graph))) rs [] (no_calls callers (length graph.nodes))) (rooms-empty graph (numbers graph))
+    ∙ ap (λ (rs : List ℕ). B (map work_in (map (start_cell graph) (numbers graph))) rs [] (no_calls callers (length graph.nodes))) (rooms-empty graph (numbers graph))
 
 pub opening_kept : (graph : Graph) (callers limit : ℕ) (live : LiveCalls) (shelves : List Shelved) (log : Record) → limit ≤ 4000000 → live ≡ no_calls callers (length graph.nodes) → shelves ≡ map (empty_shelf graph) (range_with_len 0 (length graph.nodes)) → log.entries ≡ [] → IsKept limit 0 0 0 live shelves log
 opening_kept graph callers limit live shelves log few none empty new = subst (λ (l : LiveCalls). IsKept limit 0 0 0 l shelves log) (sym none) (record {

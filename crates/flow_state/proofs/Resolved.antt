@@ -16,7 +16,9 @@ use Rattle.flow_model.proofs.OneStep.WhoMayStep.{can_work-at_front}
 use Rattle.flow_model.proofs.OneStep.WhoMayStep.{resolve-can_work}
 use Rattle.flow_model.proofs.OneStep.SameLengths.{change_at-length}
 use Rattle.flow_model.proofs.OrderStays.OpenNodesHaveFrames.{cell-there}
-use Rattle.flow_state.specs.Flow.{Booked, Flow, Work, work_of, flow_of, on_call, on_work, change_at, clear_work}
+use Rattle.flow_state.specs.Booked.{Booked, on_call, on_work}
+use Rattle.flow_model.specs.Parts.Books.{Work, work_in, book_of, forgotten, Book}
+use Rattle.flow_model.specs.Machine.Lists.{change_at}
 use Rattle.flow_state.specs.Fitting.{IsBookOf, IsListStep, list_of, book_after}
 use Rattle.flow_state.proofs.Fits.{works-change, works-same}
 use Rattle.flow_state.proofs.Fronts.{IsFront, front_inside, cell_list, finished_list}
@@ -32,7 +34,7 @@ resolve-known graph book n list t h = let l = h.fits.lawful.lists in let k = fro
 
 pub resolved : (graph : Graph) (s : Core) (book mid new : Booked) (n : ℕ) (list new_list : Versions) (t : ℕ) (v old : Value) (is_same : Bool) (picks : List (Option ℕ))
     → IsFront graph s book n list t → v ≡ value_now graph s t n → old ≡ value_before list.entries t → is_same ≡ same v old → picks ≡ found_picks s n
-    → new_list ≡ with_entries list (with_state t (Done v (not is_same) picks) list.entries) → mid ≡ on_call book t (closed n (not is_same)) → new ≡ on_work mid n clear_work
+    → new_list ≡ with_entries list (with_state t (Done v (not is_same) picks) list.entries) → mid ≡ on_call book t (closed n (not is_same)) → new ≡ on_work mid n forgotten
     → (new ≡ book_after graph s (Resolve t n) book) × (new_list ≡ list_of graph (apply graph s (Resolve t n)) n)
 resolved graph s book mid new n list new_list t v old is_same picks front value_is before compared picks_are made mid_is new_is = (on_book, on_list)
   where
@@ -54,14 +56,14 @@ resolved graph s book mid new n list new_list t v old is_same picks front value_
     done : Core
     done = finish s t n now change (found_picks s n)
 
-    works : map work_of (change_at n cleared done.cells) ≡ change_at n clear_work (map work_of s.cells)
-    works = works-change n cleared clear_work (λ c. refl) done.cells ∙ ap (change_at n clear_work) (works-same n (set_state t state) (λ c. refl) s.cells)
+    works : map work_in (change_at n cleared done.cells) ≡ change_at n forgotten (map work_in s.cells)
+    works = works-change n cleared forgotten (λ c. refl) done.cells ∙ ap (change_at n forgotten) (works-same n (set_state t state) (λ c. refl) s.cells)
 
     on_book : new ≡ book_after graph s (Resolve t n) book
     on_book =
-        new_is ∙ ap (λ (b : Booked). on_work b n clear_work) (mid_is ∙ ap (λ (c : Bool). on_call book t (closed n c)) change_is)
-        ∙ ap (λ (f : Flow). on_work (on_call (record book { flow = f }) t (closed n change)) n clear_work) front.fits.flow
-        ∙ ap (λ (ws : List Work). record book { flow = record (flow_of s) { calls = change_call t (closed n change) s.calls; works = ws } }) (sym works)
+        new_is ∙ ap (λ (b : Booked). on_work b n forgotten) (mid_is ∙ ap (λ (c : Bool). on_call book t (closed n c)) change_is)
+        ∙ ap (λ (f : Book). on_work (on_call (record book { book = f }) t (closed n change)) n forgotten) front.fits.parts
+        ∙ ap (λ (ws : List Work). record book { book = record (book_of s) { calls = change_call t (closed n change) s.calls; works = ws } }) (sym works)
 
     on_list : new_list ≡ list_of graph (apply graph s (Resolve t n)) n
     on_list =

@@ -11,7 +11,7 @@ use Rattle.flow_model.specs.Machine.Steps.{allowed}
 use Rattle.flow_state.specs.declared.outcome.Outcome.{Outcome}
 use Rattle.flow_state.specs.declared.outcome.Outcome.TheVariants as outcome
 use Rattle.flow_state.specs.declared.outcome.Answer.{Answer}
-use Rattle.flow_state.specs.Flow.{Booked}
+use Rattle.flow_state.specs.Booked.{Booked}
 use Rattle.flow_state.specs.Found.{selection_of}
 use Rattle.flow_state.specs.Fitting.{IsBookOf, book_after}
 

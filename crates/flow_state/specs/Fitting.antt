@@ -6,7 +6,8 @@ use Rattle.flow_model.specs.declared.step.Step.{Step}
 use Rattle.flow_model.specs.Machine.State.{Core, entries, outs}
 use Rattle.flow_model.specs.Machine.Steps.{allowed, apply}
 use Rattle.flow_model.specs.Kept.Lawful.{IsLawful, lists_candidate}
-use Rattle.flow_state.specs.Flow.{Booked, flow_of, rooms_for, with_flow}
+use Rattle.flow_state.specs.Booked.{Booked, rooms_for, with_book}
+use Rattle.flow_model.specs.Parts.Books.{book_of}
 
 -- how many nodes list a node as a candidate: so many out-edges can stand at it
 abbrev pub choosers : Graph → ℕ → ℕ
@@ -20,12 +21,12 @@ list_of graph s n = record { entries = entries s n; outs = outs s n; room = s.ca
 pub record IsBookOf (graph : Graph) (s : Core) (book : Booked) : Type 0 where
   pub is_graph : IsGraph graph
   pub lawful : IsLawful graph s
-  pub flow : book.flow ≡ flow_of s
+  pub parts : book.book ≡ book_of s
   pub room_for : book.room_for ≡ rooms_for graph
 
 -- The book after a step.
 abbrev pub book_after : Graph → Core → Step → Booked → Booked
-book_after graph s step book = with_flow book (flow_of (apply graph s step))
+book_after graph s step book = with_book book (book_of (apply graph s step))
 
 -- ---- a step on the book alone
 

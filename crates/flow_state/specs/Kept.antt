@@ -1,13 +1,13 @@
 -- How a book is kept.
 use Rattle.std.specs.Prelude.{◌≡◌, ℕ, ◌+◌, ◌≤◌, true, List, length, map}
 use Rattle.call_log.specs.Record.{Record}
-use Rattle.flow_state.specs.Flow.{Booked}
+use Rattle.flow_state.specs.Booked.{Booked}
 use Rattle.flow_state.specs.Seats.{LiveCalls, Shelved, has_call}
 
 -- what is seen of a book
 abbrev pub booked : ℕ → ℕ → ℕ → LiveCalls → List Shelved → Record → Booked
 booked limit begun rooms live shelves log = record {
-  flow = record {
+  book = record {
     callers = live.callers;
     limit = limit;
     begun = begun;

@@ -1,4 +1,4 @@
-pub mod Flow
+pub mod Booked
 pub mod Found
 pub mod Answers
 pub mod Fitting

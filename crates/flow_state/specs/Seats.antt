@@ -7,7 +7,7 @@ use Rattle.order_graph.specs.Order.{Order, reaches, retired}
 use Rattle.flow_model.specs.Machine.Steps.{without_call}
 use Rattle.flow_model.specs.Machine.State.{LiveCall, no_call, call_of, call_or, change_call}
 use Rattle.std.specs.Prelude.{is_some}
-use Rattle.flow_state.specs.Flow.{Work}
+use Rattle.flow_model.specs.Parts.Books.{Work}
 use Rattle.flow_state.specs.declared.seating.Tenant.{Tenant}
 
 -- what contracts see in a `Seat`: its call, how many nodes its sets are for, and room for how many looks

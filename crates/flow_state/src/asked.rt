@@ -7,7 +7,7 @@ ghost use Rattle.signal_graph.specs.Machine.{sets_of, looks_of};
 ghost use Rattle.flow_model.specs.Machine.Sets.{put_all};
 ghost use Rattle.flow_model.specs.Machine.Steps.{nodes_set};
 ghost use Rattle.node_set.specs.Members.{with_nodes};
-ghost use Rattle.flow_state.specs.Flow.{sets_by_node, AreInside};
+ghost use Rattle.flow_state.specs.Booked.{sets_by_node, AreInside};
 
 use node_set::NodeSet;
 use script_tree::name::Name;

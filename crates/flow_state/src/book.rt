@@ -15,7 +15,8 @@ ghost use Rattle.flow_model.specs.Machine.Words.{gathered_of, set_value};
 ghost use Rattle.flow_model.specs.Machine.Changes.{closed};
 ghost use Rattle.flow_model.specs.Machine.Steps.{started, counted, with_look, free_slot};
 ghost use Rattle.node_set.specs.Members.{first_from};
-ghost use Rattle.flow_state.specs.Flow.{AreApart, opened_book, room_at, no_work, one_room_more, one_room_less, begin_call, end_call, call_in, live_in, next_look_in, nodes_in, work_in, stops_in, on_call, on_work, link_calls, opened_one, wanting, gather_work, find_work, body_work, clear_work, pressed_in, call_nth};
+ghost use Rattle.flow_state.specs.Booked.{AreApart, opened_book, room_at, one_room_more, one_room_less, begin_call, end_call, call_in, live_in, next_look_in, node_count, work_at, stops_in, on_call, on_work, link_calls, opened_one, wanting, pressed_in, call_nth};
+ghost use Rattle.flow_model.specs.Parts.Books.{no_work, with_gathered, with_found, with_body, forgotten};
 ghost use Rattle.flow_state.specs.Found.{found_of, found_option};
 ghost use Rattle.flow_state.specs.Jobs.{found_items, answer_of, IsJob};
 
@@ -49,7 +50,7 @@ pub struct Book {
 }
 
 impl Model for Book {
-    ghost use Rattle.flow_state.specs.Flow.{Booked};
+    ghost use Rattle.flow_state.specs.Booked.{Booked};
     ghost use Rattle.flow_state.specs.Kept.{booked, IsKept};
 
     ghost Value = { Booked };
@@ -92,7 +93,7 @@ impl Book {
         requires { length (looks_of call.now) ≤ LOOKS }
         ensures ok { OnOk result (self.new ≡ one_room_more self.old) }
         ensures err { OnErr result (self.new ≡ self.old) }
-        ensures room { IfOk result (λ room. room ≡ record { looks = length (looks_of call.now); nodes = nodes_in self.old }) }
+        ensures room { IfOk result (λ room. room ≡ record { looks = length (looks_of call.now); nodes = node_count self.old }) }
     {
         let Some(rooms) = self.rooms.checked_add(1) else {
             return Err(OutOfMemory);
@@ -130,16 +131,16 @@ impl Book {
     /// A call begins in a room that was made for its looks, with the next version and in the least free slot. Answers
     /// its version. The graph is the book's, and the call names in it what it has to.
     pub fn begin(&mut self, graph: &Graph, caller: u32, call: Call, room: Room) -> u32
-        requires left { self.old.flow.begun < self.old.flow.limit }
-        requires slot { free_slot self.old.flow.callers 0 self.old.flow.calls < self.old.flow.callers }
+        requires left { self.old.book.begun < self.old.book.limit }
+        requires slot { free_slot self.old.book.callers 0 self.old.book.calls < self.old.book.callers }
         requires named { misnamed graph.now call ≡ None }
         requires sets { length (sets_of call) ≤ SETS }
         requires looks { length (looks_of call) ≤ LOOKS }
-        requires nodes { nodes_in self.old ≡ length graph.now.nodes }
+        requires nodes { node_count self.old ≡ length graph.now.nodes }
         requires room { room.looks ≡ length (looks_of call) }
         requires rooms { 0 < self.old.rooms }
         ensures book { self.new ≡ begin_call graph.now self.old caller call }
-        ensures version { result ≡ self.old.flow.begun + 1 }
+        ensures version { result ≡ self.old.book.begun + 1 }
     {
         let Room {
             looked,
@@ -157,7 +158,7 @@ impl Book {
     /// A live call that no call is recorded before joins the log with its reply, and its slot is free.
     pub fn end(&mut self, version: u32)
         requires live { live_in self.old version ≡ true }
-        requires first { (u : ℕ) → is_recorded self.old.flow.pairs u version ≡ false }
+        requires first { (u : ℕ) → is_recorded self.old.book.pairs u version ≡ false }
         ensures { self.new ≡ end_call self.old version }
     {
         let logged = self.calls.end(version);
@@ -166,16 +167,16 @@ impl Book {
 
     /// How many calls are live.
     pub fn live_len(&self) -> u32
-        ensures { result ≡ length self.now.flow.calls }
+        ensures { result ≡ length self.now.book.calls }
     {
         self.calls.len() as u32
     }
 
     /// The version of a live call, by its place in the order of beginnings, counted from 0.
     pub fn version_at(&self, place: u32) -> u32
-        requires { place < length self.now.flow.calls }
+        requires { place < length self.now.book.calls }
         ensures version { result ≡ (call_nth self.now place).version }
-        ensures call { call_of self.now.flow.calls result ≡ Some (call_nth self.now place) }
+        ensures call { call_of self.now.book.calls result ≡ Some (call_nth self.now place) }
     {
         self.calls.version_at(place)
     }
@@ -224,7 +225,7 @@ impl Book {
     /// Whether the node is open for a live call.
     pub fn opens(&self, version: u32, node: u32) -> bool
         requires live { live_in self.now version ≡ true }
-        requires node { node < nodes_in self.now }
+        requires node { node < node_count self.now }
         ensures { result ≡ is_in node (call_in self.now version).open_nodes }
     {
         self.calls.seat(version).open_nodes().contains(node)
@@ -233,7 +234,7 @@ impl Book {
     /// Whether a live call has changed the node.
     pub fn changes(&self, version: u32, node: u32) -> bool
         requires live { live_in self.now version ≡ true }
-        requires node { node < nodes_in self.now }
+        requires node { node < node_count self.now }
         ensures { result ≡ is_in node (call_in self.now version).changed }
     {
         self.calls.seat(version).changed().contains(node)
@@ -283,7 +284,7 @@ impl Book {
     pub fn reaches(&self, before: u32, after: u32) -> bool
         requires before { live_in self.now before ≡ true }
         requires after { live_in self.now after ≡ true }
-        ensures { result ≡ reaches self.now.flow.pairs before after }
+        ensures { result ≡ reaches self.now.book.pairs before after }
     {
         self.calls.reaches(before, after)
     }
@@ -299,7 +300,7 @@ impl Book {
     /// Whether an executing call behind a live one wants the node.
     pub fn pressed(&self, version: u32, node: u32) -> bool
         requires live { live_in self.now version ≡ true }
-        requires node { node < nodes_in self.now }
+        requires node { node < node_count self.now }
         ensures { result ≡ pressed_in self.now version node }
     {
         self.calls.pressed(version, node)
@@ -307,24 +308,24 @@ impl Book {
 
     /// The value that is gathered of an input for a node.
     pub fn gathered(&self, node: u32, input: u32) -> Option<Value>
-        requires { node < nodes_in self.now }
-        ensures { result ≡ gathered_of input (work_in self.now node).gathered }
+        requires { node < node_count self.now }
+        ensures { result ≡ gathered_of input (work_at self.now node).gathered }
     {
         self.shelves[node as usize].gathered(input)
     }
 
     /// What is found for a node.
     pub fn found(&self, node: u32) -> Option<&Finding>
-        requires { node < nodes_in self.now }
-        ensures { found_option (option_copied result) ≡ (work_in self.now node).found }
+        requires { node < node_count self.now }
+        ensures { found_option (option_copied result) ≡ (work_at self.now node).found }
     {
         self.shelves[node as usize].found()
     }
 
     /// The body's value for a node.
     pub fn body(&self, node: u32) -> Option<Value>
-        requires { node < nodes_in self.now }
-        ensures { result ≡ (work_in self.now node).body }
+        requires { node < node_count self.now }
+        ensures { result ≡ (work_at self.now node).body }
     {
         self.shelves[node as usize].body()
     }
@@ -332,10 +333,10 @@ impl Book {
     /// The job of a node for a call: its scripts where nothing is found yet, else its body. `acc` is the node's value
     /// before the call. Takes no memory.
     pub fn job<'g>(&self, graph: &'g Graph, version: u32, node: u32, acc: Value) -> Job<'g>
-        requires nodes { nodes_in self.now ≡ length graph.now.nodes }
-        requires job { IsJob graph.now node (found_items (work_in self.now node).found) }
-        requires few { length (work_in self.now node).gathered ≤ 68 }
-        ensures { result ≡ answer_of graph.now version node (work_in self.now node).gathered acc (found_items (work_in self.now node).found) }
+        requires nodes { node_count self.now ≡ length graph.now.nodes }
+        requires job { IsJob graph.now node (found_items (work_at self.now node).found) }
+        requires few { length (work_at self.now node).gathered ≤ 68 }
+        ensures { result ≡ answer_of graph.now version node (work_at self.now node).gathered acc (found_items (work_at self.now node).found) }
     {
         let shelf = &self.shelves[node as usize];
         Job {
@@ -351,7 +352,7 @@ impl Book {
     /// A node that a live call has framed is open for it, and it wants the node no more.
     pub fn open(&mut self, version: u32, node: u32)
         requires live { live_in self.old version ≡ true }
-        requires node { node < nodes_in self.old }
+        requires node { node < node_count self.old }
         ensures { self.new ≡ on_call self.old version (opened_one node) }
     {
         self.calls.open(version, node);
@@ -360,7 +361,7 @@ impl Book {
     /// A live call comes to want a node, unless it is open for it.
     pub fn want(&mut self, version: u32, node: u32)
         requires live { live_in self.old version ≡ true }
-        requires node { node < nodes_in self.old }
+        requires node { node < node_count self.old }
         ensures { self.new ≡ on_call self.old version (wanting node) }
     {
         self.calls.want(version, node);
@@ -369,7 +370,7 @@ impl Book {
     /// A live call has finished at a node, changed or not.
     pub fn close(&mut self, version: u32, node: u32, changed: bool)
         requires live { live_in self.old version ≡ true }
-        requires node { node < nodes_in self.old }
+        requires node { node < node_count self.old }
         ensures { self.new ≡ on_call self.old version (closed node changed) }
     {
         self.calls.close(version, node, changed);
@@ -406,7 +407,7 @@ impl Book {
         requires before { live_in self.old before ≡ true }
         requires after { live_in self.old after ≡ true }
         requires apart { before ≢ after }
-        requires forward { reaches self.old.flow.pairs after before ≡ false }
+        requires forward { reaches self.old.book.pairs after before ≡ false }
         ensures { self.new ≡ link_calls self.old before after node }
     {
         self.calls.link(before, after, node);
@@ -415,34 +416,34 @@ impl Book {
     /// The value of an input is kept for a node. None is gathered of this input, and there is room, if no two values are
     /// gathered of one input.
     pub fn gather(&mut self, node: u32, input: u32, value: Value)
-        requires node { node < nodes_in self.old }
-        requires new { gathered_of input (work_in self.old node).gathered ≡ None }
-        requires room { AreApart (work_in self.old node).gathered → length (work_in self.old node).gathered < slice_index self.old.room_for node }
-        ensures { self.new ≡ on_work self.old node (gather_work input value) }
+        requires node { node < node_count self.old }
+        requires new { gathered_of input (work_at self.old node).gathered ≡ None }
+        requires room { AreApart (work_at self.old node).gathered → length (work_at self.old node).gathered < slice_index self.old.room_for node }
+        ensures { self.new ≡ on_work self.old node (with_gathered input value) }
     {
         self.shelves[node as usize].gather(input, value);
     }
 
     /// What is found for a node is kept.
     pub fn keep_found(&mut self, node: u32, found: Finding)
-        requires { node < nodes_in self.old }
-        ensures { self.new ≡ on_work self.old node (find_work (found_of found)) }
+        requires { node < node_count self.old }
+        ensures { self.new ≡ on_work self.old node (with_found (found_of found)) }
     {
         self.shelves[node as usize].keep_found(found);
     }
 
     /// The body's value for a node is kept.
     pub fn keep_body(&mut self, node: u32, value: Value)
-        requires { node < nodes_in self.old }
-        ensures { self.new ≡ on_work self.old node (body_work value) }
+        requires { node < node_count self.old }
+        ensures { self.new ≡ on_work self.old node (with_body value) }
     {
         self.shelves[node as usize].keep_body(value);
     }
 
     /// What was gathered, found and evaluated for a node is forgotten.
     pub fn clear(&mut self, node: u32)
-        requires { node < nodes_in self.old }
-        ensures { self.new ≡ on_work self.old node clear_work }
+        requires { node < node_count self.old }
+        ensures { self.new ≡ on_work self.old node forgotten }
     {
         self.shelves[node as usize].clear();
     }

@@ -12,7 +12,7 @@ ghost use Rattle.flow_model.specs.Machine.Words.{set_value};
 ghost use Rattle.flow_model.specs.Machine.Changes.{closed};
 ghost use Rattle.flow_model.specs.Machine.Steps.{started, counted, with_look, logged};
 ghost use Rattle.node_set.specs.Members.{first_from};
-ghost use Rattle.flow_state.specs.Flow.{opened_one, wanting, reply_with, begun_call};
+ghost use Rattle.flow_state.specs.Booked.{opened_one, wanting, reply_with, begun_call};
 ghost use Rattle.signal_graph.specs.Machine.{sets_of, looks_of, misnamed};
 ghost use Rattle.flow_state.specs.Seats.{Seated, with_seated};
 

@@ -7,7 +7,7 @@ ghost use Rattle.order_graph.specs.Order.{reaches, linked, is_recorded};
 ghost use Rattle.flow_model.specs.Machine.State.{no_call, call_of};
 ghost use Rattle.flow_model.specs.Machine.Changes.{closed};
 ghost use Rattle.flow_model.specs.Machine.Steps.{started, counted, with_look, logged, free_slot, uses_slot};
-ghost use Rattle.flow_state.specs.Flow.{opened_one, wanting, begun_call};
+ghost use Rattle.flow_state.specs.Booked.{opened_one, wanting, begun_call};
 ghost use Rattle.signal_graph.specs.Machine.{sets_of, looks_of, misnamed};
 ghost use Rattle.flow_state.specs.Seats.{find_call, has_call, on_live, stops_live, presses_live, pressed_live, LeadsToLive, with_pairs, one_call_more, slot_in, has_version, free_seat, no_calls, left_calls, without_tenant};
 

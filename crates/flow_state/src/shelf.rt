@@ -3,7 +3,8 @@
 ghost use Rattle.std.specs.Prelude.{◌≡◌, ◌<◌, ◌≤◌, length, IfOk, MatchOption, None, Some};
 ghost use Rattle.std.specs.Option.{option_copied};
 ghost use Rattle.flow_model.specs.Machine.Words.{gathered_of};
-ghost use Rattle.flow_state.specs.Flow.{AreApart, no_work, gather_work, find_work, body_work, clear_work};
+ghost use Rattle.flow_state.specs.Booked.{AreApart};
+ghost use Rattle.flow_model.specs.Parts.Books.{no_work, with_gathered, with_found, with_body, forgotten};
 ghost use Rattle.flow_state.specs.Found.{found_of, found_option};
 ghost use Rattle.flow_state.specs.Seats.{with_work};
 ghost use Rattle.flow_state.specs.Jobs.{found_items, items_of};
@@ -29,7 +30,7 @@ impl Model for Shelf {
     ghost use Rattle.std.specs.Prelude.{◌≤◌, length};
     ghost use Rattle.std.specs.Vec.{vec_capacity};
     ghost use Rattle.flow_state.specs.Seats.{Shelved};
-    ghost use Rattle.flow_state.specs.Flow.{AreApart};
+    ghost use Rattle.flow_state.specs.Booked.{AreApart};
     ghost use Rattle.flow_state.specs.Found.{found_option};
 
     ghost Value = { Shelved };
@@ -96,28 +97,28 @@ impl Shelf {
     pub(crate) fn gather(&mut self, input: u32, value: Value)
         requires new { gathered_of input self.old.work.gathered ≡ None }
         requires room { AreApart self.old.work.gathered → length self.old.work.gathered < self.old.room }
-        ensures { self.new ≡ with_work self.old (gather_work input value self.old.work) }
+        ensures { self.new ≡ with_work self.old (with_gathered input value self.old.work) }
     {
         self.gathered.push_reserved((input, value));
     }
 
     /// Keeps what is found.
     pub(crate) fn keep_found(&mut self, found: Finding)
-        ensures { self.new ≡ with_work self.old (find_work (found_of found) self.old.work) }
+        ensures { self.new ≡ with_work self.old (with_found (found_of found) self.old.work) }
     {
         self.found = Some(found);
     }
 
     /// Keeps the body's value.
     pub(crate) fn keep_body(&mut self, value: Value)
-        ensures { self.new ≡ with_work self.old (body_work value self.old.work) }
+        ensures { self.new ≡ with_work self.old (with_body value self.old.work) }
     {
         self.body = Some(value);
     }
 
     /// Forgets all.
     pub(crate) fn clear(&mut self)
-        ensures { self.new ≡ with_work self.old (clear_work self.old.work) }
+        ensures { self.new ≡ with_work self.old (forgotten self.old.work) }
     {
         self.gathered.clear();
         self.found = None;

@@ -19,7 +19,8 @@ use Rattle.flow_model.specs.Machine.Changes.{closed}
 use Rattle.flow_model.specs.Machine.Steps.{allowed, is_worked_out}
 use Rattle.flow_model.proofs.General.Truths.{or_cases}
 use Rattle.flow_model.proofs.OneStep.WhoMayStep.{and_left, and_right, at_front-heads}
-use Rattle.flow_state.specs.Flow.{Booked, Work, live_in, nodes_in, work_in, on_call, on_work, clear_work}
+use Rattle.flow_state.specs.Booked.{Booked, live_in, node_count, work_at, on_call, on_work}
+use Rattle.flow_model.specs.Parts.Books.{Work, forgotten}
 use Rattle.flow_state.specs.Fitting.{IsListStep, MakesList}
 use Rattle.flow_state.proofs.Fits.{same_work}
 use Rattle.flow_state.proofs.Fronts.{IsFront, front-live, front-node, front-has, front-frame, front-done}
@@ -39,7 +40,7 @@ fold_front book n list t h = resolve-front h.0 book n list t h.2
 pub fold-live : (book : Booked) (n : ℕ) (list : Versions) (t : ℕ) → IsFoldStep book n list t → live_in book t ≡ true
 fold-live book n list t h = front-live h.0 h.2.state book n list t (fold_front book n list t h)
 
-pub fold-node : (book : Booked) (n : ℕ) (list : Versions) (t : ℕ) → IsFoldStep book n list t → n < nodes_in book
+pub fold-node : (book : Booked) (n : ℕ) (list : Versions) (t : ℕ) → IsFoldStep book n list t → n < node_count book
 fold-node book n list t h = front-node h.0 h.2.state book n list t (fold_front book n list t h)
 
 pub fold-has : (book : Booked) (n : ℕ) (list : Versions) (t : ℕ) → IsFoldStep book n list t → has list.entries t ≡ true
@@ -100,8 +101,8 @@ fold_value graph s t n is_fold g =
     ∙ ap (value_by s n) plain.no_body ∙ ap (value_without s n) g.found
 
 pub fold-makes : (book mid new : Booked) (n : ℕ) (list new_list : Versions) (t : ℕ) (v old : Value) (is_same : Bool) (picks : List (Option ℕ))
-    → v ≡ given_value (work_in book n).found → old ≡ value_before list.entries t → is_same ≡ same v old → picks ≡ []
-    → new_list ≡ with_entries list (with_state t (Done v (not is_same) picks) list.entries) → mid ≡ on_call book t (closed n (not is_same)) → new ≡ on_work mid n clear_work
+    → v ≡ given_value (work_at book n).found → old ≡ value_before list.entries t → is_same ≡ same v old → picks ≡ []
+    → new_list ≡ with_entries list (with_state t (Done v (not is_same) picks) list.entries) → mid ≡ on_call book t (closed n (not is_same)) → new ≡ on_work mid n forgotten
     → (graph : Graph) → IsFold graph n → MakesList graph book n list (Resolve t n) new new_list
 fold-makes book mid new n list new_list t v old is_same picks value before compared none made mid_is new_is graph is_fold s fits is_list h =
     let front = resolve_front graph s book n list t fits is_list h in

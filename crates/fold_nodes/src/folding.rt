@@ -6,7 +6,7 @@ ghost use Rattle.signal_graph.specs.Graph.{Graph, kind_of, node_at};
 ghost use Rattle.signal_graph.specs.declared.node.NodeKind.TheVariants as kinds;
 ghost use Rattle.node_versions.specs.Entries.{has, before, last_done, value_before};
 ghost use Rattle.flow_model.specs.declared.step.Step.TheVariants as step;
-ghost use Rattle.flow_state.specs.Flow.{nodes_in, work_in};
+ghost use Rattle.flow_state.specs.Booked.{node_count, work_at};
 ghost use Rattle.flow_state.specs.Found.{found_of};
 ghost use Rattle.flow_state.specs.Fitting.{IsListStep, MakesList};
 ghost use Rattle.fold_nodes.specs.Given.{given_value, value_given};
@@ -40,8 +40,8 @@ pub fn resolve_fold(book: &mut Book, list: &mut NodeList, version: u32, node: u3
 
 // The value that is found.
 fn given_value(book: &Book, node: u32) -> Value
-    requires { node < nodes_in book.now }
-    ensures { result ≡ given_value (work_in book.now node).found }
+    requires { node < node_count book.now }
+    ensures { result ≡ given_value (work_at book.now node).found }
 {
     match book.found(node) {
         Some(finding) => value_of(finding),

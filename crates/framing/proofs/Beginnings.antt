@@ -8,7 +8,8 @@ use Rattle.signal_graph.specs.Graph.{Graph}
 use Rattle.flow_model.specs.Machine.State.{Core}
 use Rattle.flow_model.specs.Machine.Steps.{can_begin, free_slot, has_call}
 use Rattle.flow_model.proofs.OneStep.BegunCalls.{few-calls, slot-free}
-use Rattle.flow_state.specs.Flow.{Booked, Flow, begin_call}
+use Rattle.flow_state.specs.Booked.{Booked, begin_call}
+use Rattle.flow_model.specs.Parts.Books.{Book}
 use Rattle.flow_state.specs.Fitting.{IsBookOf}
 use Rattle.framing.specs.Begins.{MakesBeginning}
 
@@ -27,7 +28,7 @@ not_is false h = refl
 at_most : (a b : ℕ) → nat_le a b ≡ true → a ≤ b
 at_most a b h = grind (arith, nat_tests)
 
-pub slot_inside : (graph : Graph) (s : Core) (book : Booked) (caller : ℕ) (call : Call) → IsBookOf graph s book → can_begin graph s caller call ≡ true → free_slot book.flow.callers 0 book.flow.calls < book.flow.callers
+pub slot_inside : (graph : Graph) (s : Core) (book : Booked) (caller : ℕ) (call : Call) → IsBookOf graph s book → can_begin graph s caller call ≡ true → free_slot book.book.callers 0 book.book.calls < book.book.callers
 slot_inside graph s book caller call fits h =
     let three = left_of _ _ (left_of _ _ (left_of _ _ (left_of _ _ h))) in
     let two = left_of _ _ three in
@@ -36,10 +37,10 @@ slot_inside graph s book caller call fits h =
     let none = not_is (has_call caller s.calls) (right_of _ _ three) in
     let slot = slot-free graph s fits.lawful (few-calls graph s fits.lawful caller first last none) in
     let inside : free_slot s.callers 0 s.calls < s.callers = let i = slot.inside in omega (arith, i) in
-    subst (λ (f : Flow). free_slot f.callers 0 f.calls < f.callers) (sym fits.flow) inside
+    subst (λ (f : Book). free_slot f.callers 0 f.calls < f.callers) (sym fits.parts) inside
 
-pub begin_makes : (graph : Graph) (book new : Booked) (caller version : ℕ) (call : Call) → new ≡ begin_call graph book caller call → version ≡ book.flow.begun + 1 → MakesBeginning graph book caller call new version
+pub begin_makes : (graph : Graph) (book new : Booked) (caller version : ℕ) (call : Call) → new ≡ begin_call graph book caller call → version ≡ book.book.begun + 1 → MakesBeginning graph book caller call new version
 begin_makes graph book new caller version call is v s fits h = (
-  is ∙ ap (λ (f : Flow). begin_call graph (record book { flow = f }) caller call) fits.flow,
-  let b = ap (λ (f : Flow). f.begun) fits.flow in omega (arith, v, b),
+  is ∙ ap (λ (f : Book). begin_call graph (record book { book = f }) caller call) fits.parts,
+  let b = ap (λ (f : Book). f.begun) fits.parts in omega (arith, v, b),
 )

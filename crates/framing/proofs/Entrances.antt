@@ -18,7 +18,8 @@ use Rattle.flow_model.proofs.OneList.Entering.{enter-Standing}
 use Rattle.flow_model.proofs.OneList.InOrder.{front-goes, front-has, rest-has, last-has}
 use Rattle.flow_model.proofs.OneList.InOrder.{first-has}
 use Rattle.flow_model.specs.Kept.Lawful.{ended_before}
-use Rattle.flow_state.specs.Flow.{Booked, Flow, Work, work_of, flow_of, live_in, call_in, stops_in}
+use Rattle.flow_state.specs.Booked.{Booked, live_in, call_in, stops_in}
+use Rattle.flow_model.specs.Parts.Books.{Work, work_in, book_of, Book}
 use Rattle.flow_state.specs.Fitting.{IsBookOf, choosers}
 use Rattle.framing.specs.Entering.{CanEnter, Enters, stops_entry, link_if, link_before, link_behind, CanLinkBefore, CanLinkBehind}
 use Rattle.framing.proofs.Places.{place-same, take-front, drop-rest, cell-changed}
@@ -30,11 +31,11 @@ stop_words r e l x t h = grind (arith, h)
 
 pub stops-same : (graph : Graph) (s : Core) (book : Booked) (t : ℕ) → IsBookOf graph s book → live s t ≡ true → (e : Entry) → stops_entry book t e ≡ stops s t e
 stops-same graph s book t fits lt e =
-    ap (λ (f : Flow). stops_in (record book { flow = f }) t e.version) fits.flow
+    ap (λ (f : Book). stops_in (record book { book = f }) t e.version) fits.parts
     ∙ stop_words (reaches s.pairs t e.version) (executes s t) (live s e.version) (executes s e.version) (live s t) lt
 
 pub live-same : (graph : Graph) (s : Core) (book : Booked) (u : ℕ) → IsBookOf graph s book → live_in book u ≡ live s u
-live-same graph s book u fits = ap (λ (f : Flow). live_in (record book { flow = f }) u) fits.flow
+live-same graph s book u fits = ap (λ (f : Book). live_in (record book { book = f }) u) fits.parts
 
 -- What the place of a call is: the parts of the list before and behind it.
 pub record IsPlace (s : Core) (n t : ℕ) (es : List Entry) (place : ℕ) : Type 0 where
@@ -64,7 +65,7 @@ can_link_left graph s book n list t place left can at is = go left (is ∙ ap (l
     go (Some u) e = λ lu.
         let there = last-has (front (stops s t) (entries s n)) u (sym e) in (
           (λ same. true≢false (sym (front-has (stops_call s t) (entries s n) u there) ∙ ap (has (entries s n)) same ∙ can.no_entry)),
-          ap (λ (f : Flow). reaches f.pairs t u) can.fits.flow ∙ no_stop (reaches s.pairs t u) (live s t) (live s u) _ (front-goes (stops_call s t) (entries s n) u there),
+          ap (λ (f : Book). reaches f.pairs t u) can.fits.parts ∙ no_stop (reaches s.pairs t u) (live s t) (live s u) _ (front-goes (stops_call s t) (entries s n) u there),
         )
 
 away_from : (r rvt same : Bool) (whole : Bool) → whole ≡ (r || ((same || rvt) && (true || r))) → whole ≡ false → rvt ≡ false
@@ -79,10 +80,10 @@ right_away s t n v state ps right e lv free =
 
 -- the flow with other pairs
 abbrev with_pairs_of : Booked → Core → List Pair → Booked
-with_pairs_of book s ps = record book { flow = record (flow_of s) { pairs = ps } }
+with_pairs_of book s ps = record book { book = record (book_of s) { pairs = ps } }
 
 left-linked : (graph : Graph) (s : Core) (book : Booked) (t n : ℕ) (left : Option ℕ) → IsBookOf graph s book → link_before book left t n ≡ with_pairs_of book s (link_left s t n left s.pairs)
-left-linked graph s book t n left fits = ap (λ (f : Flow). link_before (record book { flow = f }) left t n) fits.flow ∙ go left
+left-linked graph s book t n left fits = ap (λ (f : Book). link_before (record book { book = f }) left t n) fits.parts ∙ go left
   where
     by : (b : Bool) (u : ℕ) → link_if b (with_pairs_of book s s.pairs) u t n ≡ with_pairs_of book s (elim b [ true ↦ linked s.pairs u t n | false ↦ s.pairs ])
     by true u = refl
@@ -116,16 +117,16 @@ can_link_right graph s book between n list t place state left right can at l_is 
         let lives : live s v ≡ true = sym (ap (λ (b : Booked). live_in b v) pairs) ∙ lv in
         let after = enter-Standing s (ended_before s.log) t n state (lawful-Standing graph s can.fits.lawful) can.is_live can.no_entry in (
           (λ same. true≢false (sym there ∙ ap (has (entries s n)) (sym same) ∙ can.no_entry)),
-          ap (λ (b : Booked). reaches b.flow.pairs v t) pairs
+          ap (λ (b : Booked). reaches b.book.pairs v t) pairs
               ∙ right_away s t n v state (link_left s t n (last_version None (front (stops s t) (entries s n))) s.pairs) (first_version (rest (stops s t) (entries s n))) (sym e) lives after.order.no_cycle,
         )
 
 -- ---- what the entry makes
 
-pub works-kept : (n : ℕ) (f : Cell → Cell) (cs : List Cell) → ((c : Cell) → work_of (f c) ≡ work_of c) → map work_of (change_at n f cs) ≡ map work_of cs
+pub works-kept : (n : ℕ) (f : Cell → Cell) (cs : List Cell) → ((c : Cell) → work_in (f c) ≡ work_in c) → map work_in (change_at n f cs) ≡ map work_in cs
 works-kept n f [] same = refl
-works-kept zero f (c ∷ cs) same = ap (λ (w : Work). w ∷ map work_of cs) (same c)
-works-kept (suc n) f (c ∷ cs) same = ap (λ (ws : List Work). work_of c ∷ ws) (works-kept n f cs same)
+works-kept zero f (c ∷ cs) same = ap (λ (w : Work). w ∷ map work_in cs) (same c)
+works-kept (suc n) f (c ∷ cs) same = ap (λ (ws : List Work). work_in c ∷ ws) (works-kept n f cs same)
 
 pub enters : (book between new : Booked) (n : ℕ) (list new_list : Versions) (t place slot : ℕ) (state : State) (left right : Option ℕ)
     → place ≡ position_or_len (stops_entry book t) list.entries → left ≡ last_version None (take place list.entries) → right ≡ first_version (drop place list.entries) → slot ≡ (call_in book t).slot
@@ -136,11 +137,11 @@ enters book between new n list new_list t place slot state left right p_is l_is 
     let l : left ≡ last_version None (front (stops s t) (entries s n)) = l_is ∙ ap (last_version None) at.before in
     let r : right ≡ first_version (rest (stops s t) (entries s n)) = r_is ∙ ap first_version at.behind in
     let ps : List Pair = link_left s t n (last_version None (front (stops s t) (entries s n))) s.pairs in
-    let e : record { version = t; slot = slot; state = state } ≡ new_entry s t state = ap (λ (k : ℕ). record { version = t; slot = k; state = state }) (s_is ∙ ap (λ (f : Flow). (call_in (record book { flow = f }) t).slot) can.fits.flow) in (
+    let e : record { version = t; slot = slot; state = state } ≡ new_entry s t state = ap (λ (k : ℕ). record { version = t; slot = k; state = state }) (s_is ∙ ap (λ (f : Book). (call_in (record book { book = f }) t).slot) can.fits.parts) in (
       n_is ∙ ap (λ (b : Booked). link_behind b right t n) (b_is ∙ ap (λ (x : Option ℕ). link_before book x t n) l ∙ left-linked graph s book t n (last_version None (front (stops s t) (entries s n))) can.fits)
           ∙ ap (λ (x : Option ℕ). link_behind (with_pairs_of book s ps) x t n) r
           ∙ right-linked s book t n ps (first_version (rest (stops s t) (entries s n)))
-          ∙ ap (λ (ws : List Work). record book { flow = record (flow_of s) { works = ws; pairs = linked_at s t n } }) (sym (works-kept n (place_entry s t state) s.cells (λ c. refl))),
+          ∙ ap (λ (ws : List Work). record book { book = record (book_of s) { works = ws; pairs = linked_at s t n } }) (sym (works-kept n (place_entry s t state) s.cells (λ c. refl))),
       e_is
           ∙ ap (λ (es : List Entry). with_entries list (es ++ record { version = t; slot = slot; state = state } ∷ drop place list.entries)) at.before
           ∙ ap (λ (es : List Entry). with_entries list (front (stops s t) (entries s n) ++ record { version = t; slot = slot; state = state } ∷ es)) at.behind

@@ -21,7 +21,8 @@ use Rattle.flow_model.specs.Kept.Lawful.{lists_candidate}
 use Rattle.flow_model.proofs.OrderStays.AfterEachStep.{wanted-fresh}
 use Rattle.flow_model.proofs.OneList.InOrder.{with_state-has}
 use Rattle.flow_model.proofs.OneList.OneEntryACall.{placed-has}
-use Rattle.flow_state.specs.Flow.{Booked, Flow, Work, work_of, flow_of, live_in, nodes_in, with_flow, on_call, opened_one}
+use Rattle.flow_state.specs.Booked.{Booked, live_in, node_count, with_book, on_call, opened_one}
+use Rattle.flow_model.specs.Parts.Books.{Work, work_in, book_of, Book}
 use Rattle.flow_state.specs.Fitting.{IsBookOf, IsListStep, MakesList, list_of, choosers}
 use Rattle.framing.specs.Entering.{CanEnter, Enters}
 use Rattle.framing.specs.Framed.{wanting_all, with_frame, CanFrame, SomeCanFrame, TakesFrame, AreBelow, EdgesBelow}
@@ -97,9 +98,9 @@ pub takes_by_raise : (book : Booked) (n : ℕ) (list new_list : Versions) (t : �
 takes_by_raise book n list new_list t h is graph s can =
     let m = can.mark (sym (list_has graph s n list t can.is_list) ∙ h) in
     let s_is = raised s t n m in (
-      ap (λ (f : Flow). record book { flow = f }) can.fits.flow
-          ∙ ap (λ (ws : List Work). record book { flow = record (flow_of s) { works = ws } }) (sym (works-kept n (set_state t state.Frame) s.cells (λ c. refl)))
-          ∙ ap (λ (x : Core). with_flow book (flow_of x)) (sym s_is),
+      ap (λ (f : Book). record book { book = f }) can.fits.parts
+          ∙ ap (λ (ws : List Work). record book { book = record (book_of s) { works = ws } }) (sym (works-kept n (set_state t state.Frame) s.cells (λ c. refl)))
+          ∙ ap (λ (x : Core). with_book book (book_of x)) (sym s_is),
       is ∙ ap (λ (l : Versions). with_entries l (with_state t state.Frame l.entries)) can.is_list
           ∙ ap (λ (c : Cell). record { entries = c.entries; outs = c.outs; room = s.callers + 9; outs_room = choosers graph n }) (sym (cell-changed n (set_state t state.Frame) s.cells can.node))
           ∙ ap (λ (x : Core). list_of graph x n) (sym s_is),
@@ -111,7 +112,7 @@ takes_by_entry book new n list new_list t h enters graph s can =
     let no_mark : at is_mark (entries s n) t ≡ false = elim (bool_cases (at is_mark (entries s n) t)) [ inl m ↦ absurd (true≢false (sym (at-has is_mark (entries s n) t m) ∙ k.no_entry)) | inr m ↦ m ] in
     let s_is = entered s t n no_mark in
     let made = enters graph s k in
-    (made.0 ∙ ap (λ (x : Core). with_flow book (flow_of x)) (sym s_is), made.1 ∙ ap (λ (x : Core). list_of graph x n) (sym s_is))
+    (made.0 ∙ ap (λ (x : Core). with_book book (book_of x)) (sym s_is), made.1 ∙ ap (λ (x : Core). list_of graph x n) (sym s_is))
 
 -- ---- what stays
 
@@ -152,11 +153,11 @@ frame-has s t n h = go (at is_mark (entries s n) t) refl
     go true e = ap (λ (c : Cell). has c.entries t) (cell-changed n (set_state t state.Frame) s.cells h) ∙ with_state-has t state.Frame (entries s n) t ∙ at-has is_mark (entries s n) t e
     go false e = ap (λ (c : Cell). has c.entries t) (cell-changed n (place_entry s t state.Frame) s.cells h) ∙ placed-has (stops_call s t) (new_entry s t state.Frame) (entries s n) t ∙ or_first (t == t) _ (eq-eqb t t refl)
 
-pub book_live : (graph : Graph) (s : Core) (book book1 : Booked) (n : ℕ) (list : Versions) (t : ℕ) → CanFrame graph s book n list t → book1 ≡ with_flow book (flow_of (with_frame s t n)) → live_in book1 t ≡ true
+pub book_live : (graph : Graph) (s : Core) (book book1 : Booked) (n : ℕ) (list : Versions) (t : ℕ) → CanFrame graph s book n list t → book1 ≡ with_book book (book_of (with_frame s t n)) → live_in book1 t ≡ true
 book_live graph s book book1 n list t can is = ap (λ (b : Booked). live_in b t) is ∙ ap (λ (cs : List LiveCall). is_some (call_of cs t)) (frame-calls s t n) ∙ can.is_live
 
-pub book_nodes : (graph : Graph) (s : Core) (book book1 : Booked) (n : ℕ) (list : Versions) (t : ℕ) → CanFrame graph s book n list t → book1 ≡ with_flow book (flow_of (with_frame s t n)) → nodes_in book1 ≡ length graph.nodes
-book_nodes graph s book book1 n list t can is = ap nodes_in is ∙ length-map (with_frame s t n).cells work_of ∙ frame-cells s t n ∙ can.fits.lawful.lists
+pub book_nodes : (graph : Graph) (s : Core) (book book1 : Booked) (n : ℕ) (list : Versions) (t : ℕ) → CanFrame graph s book n list t → book1 ≡ with_book book (book_of (with_frame s t n)) → node_count book1 ≡ length graph.nodes
+book_nodes graph s book book1 n list t can is = ap node_count is ∙ length-map (with_frame s t n).cells work_in ∙ frame-cells s t n ∙ can.fits.lawful.lists
 
 pub list_entered : (graph : Graph) (s : Core) (book : Booked) (n : ℕ) (list list1 : Versions) (t : ℕ) → CanFrame graph s book n list t → list1 ≡ list_of graph (with_frame s t n) n → has list1.entries t ≡ true
 list_entered graph s book n list list1 t can is = ap (λ (l : Versions). has l.entries t) is ∙ frame-has s t n can.node
@@ -211,13 +212,13 @@ opens_framed graph s t n = go (at is_mark (entries s n) t)
     go false = refl
 
 same-change : (t : ℕ) (f g : LiveCall → LiveCall) (book : Booked) → ((c : LiveCall) → f c ≡ g c) → on_call book t f ≡ on_call book t g
-same-change t f g book same = ap (λ (cs : List LiveCall). record book { flow = record book.flow { calls = cs } }) (go book.flow.calls)
+same-change t f g book same = ap (λ (cs : List LiveCall). record book { book = record book.book { calls = cs } }) (go book.book.calls)
   where
-    go : (cs : List LiveCall) → (on_call (record book { flow = record book.flow { calls = cs } }) t f).flow.calls ≡ (on_call (record book { flow = record book.flow { calls = cs } }) t g).flow.calls
+    go : (cs : List LiveCall) → (on_call (record book { book = record book.book { calls = cs } }) t f).book.calls ≡ (on_call (record book { book = record book.book { calls = cs } }) t g).book.calls
     go [] = refl
     go (c ∷ cs) = by (c.version == t) (go cs)
       where
-        by : (b : Bool) → (on_call (record book { flow = record book.flow { calls = cs } }) t f).flow.calls ≡ (on_call (record book { flow = record book.flow { calls = cs } }) t g).flow.calls → elim b as (λ _. List LiveCall) [ true ↦ f c ∷ cs | false ↦ c ∷ (on_call (record book { flow = record book.flow { calls = cs } }) t f).flow.calls ] ≡ elim b as (λ _. List LiveCall) [ true ↦ g c ∷ cs | false ↦ c ∷ (on_call (record book { flow = record book.flow { calls = cs } }) t g).flow.calls ]
+        by : (b : Bool) → (on_call (record book { book = record book.book { calls = cs } }) t f).book.calls ≡ (on_call (record book { book = record book.book { calls = cs } }) t g).book.calls → elim b as (λ _. List LiveCall) [ true ↦ f c ∷ cs | false ↦ c ∷ (on_call (record book { book = record book.book { calls = cs } }) t f).book.calls ] ≡ elim b as (λ _. List LiveCall) [ true ↦ g c ∷ cs | false ↦ c ∷ (on_call (record book { book = record book.book { calls = cs } }) t g).book.calls ]
         by true r = ap (λ (d : LiveCall). d ∷ cs) (same c)
         by false r = ap (λ (ds : List LiveCall). c ∷ ds) r
 
@@ -235,6 +236,6 @@ frame_makes graph book book1 book2 book3 book4 n list list1 t statics takes b2 s
           ∙ same-change t (λ c. wanting_all act (wanting_all statics (opened_one n c))) (opened n (statics ++ act)) book1 (λ c. all-append statics act (opened_one n c) ∙ opened-all n (statics ++ act) c)
           ∙ ap (λ (ns : List ℕ). on_call book1 t (opened n ns)) outs_are
           ∙ ap (λ (b : Booked). on_call b t (opened n (active_outs graph x t n))) made.0
-          ∙ ap (λ (y : Core). with_flow book (flow_of y)) (sym (opens_framed graph s t n)),
+          ∙ ap (λ (y : Core). with_book book (book_of y)) (sym (opens_framed graph s t n)),
       made.1 ∙ ap (λ (y : Core). list_of graph y n) (sym (opens_framed graph s t n)),
     )

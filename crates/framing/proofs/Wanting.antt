@@ -8,7 +8,7 @@ use Rattle.signal_graph.specs.Graph.{is_in}
 use Rattle.flow_model.specs.Machine.Sets.{put, put_all, take_out, without}
 use Rattle.flow_model.specs.Machine.State.{LiveCall, change_call}
 use Rattle.flow_model.specs.Machine.Changes.{opened}
-use Rattle.flow_state.specs.Flow.{Booked, live_in, nodes_in, on_call, opened_one, wanting}
+use Rattle.flow_state.specs.Booked.{Booked, live_in, node_count, on_call, opened_one, wanting}
 use Rattle.flow_state.proofs.BookLemmas.{has-change}
 use Rattle.framing.specs.Framed.{wanting_all, AreBelow, EdgesBelow}
 
@@ -34,16 +34,16 @@ change-none t (c ∷ cs) = go (c.version == t) (change-none t cs)
     go false r = ap (λ (ds : List LiveCall). c ∷ ds) r
 
 abbrev with_calls_in : Booked → List LiveCall → Booked
-with_calls_in book cs = record book { flow = record book.flow { calls = cs } }
+with_calls_in book cs = record book { book = record book.book { calls = cs } }
 
 pub on-twice : (book : Booked) (t : ℕ) (f g : LiveCall → LiveCall) → ((c : LiveCall) → (f c).version ≡ c.version) → on_call (on_call book t f) t g ≡ on_call book t (λ c. g (f c))
-on-twice book t f g same = ap (with_calls_in book) (change-twice t f g book.flow.calls same)
+on-twice book t f g same = ap (with_calls_in book) (change-twice t f g book.book.calls same)
 
 pub on-none : (book : Booked) (t : ℕ) → on_call book t (λ c. c) ≡ book
-on-none book t = ap (with_calls_in book) (change-none t book.flow.calls)
+on-none book t = ap (with_calls_in book) (change-none t book.book.calls)
 
 pub live-on : (book : Booked) (t u : ℕ) (f : LiveCall → LiveCall) → ((c : LiveCall) → (f c).version ≡ c.version) → live_in (on_call book t f) u ≡ live_in book u
-live-on book t u f same = has-change t u f book.flow.calls same
+live-on book t u f same = has-change t u f book.book.calls same
 
 -- ---- a walk over the nodes that are to be wanted
 
@@ -51,7 +51,7 @@ live-on book t u f same = has-change t u f book.flow.calls same
 pub record IsWanting (first book : Booked) (t : ℕ) (all left : List ℕ) : Type 0 where
   pub is : on_call book t (wanting_all left) ≡ on_call first t (wanting_all all)
   pub lives : live_in book t ≡ true
-  pub nodes : nodes_in book ≡ nodes_in first
+  pub nodes : node_count book ≡ node_count first
 
 pub wanting_begins : (book : Booked) (t : ℕ) (all : List ℕ) → live_in book t ≡ true → IsWanting book book t all all
 wanting_begins book t all lives = record { is = refl; lives = lives; nodes = refl }
@@ -60,7 +60,7 @@ pub wanting_more : (first book new : Booked) (t n : ℕ) (all rest left : List �
 wanting_more first book new t n all rest left so cons is = record {
   is = ap (λ (b : Booked). on_call b t (wanting_all rest)) is ∙ on-twice book t (wanting n) (wanting_all rest) (λ _. refl) ∙ ap (λ (ns : List ℕ). on_call book t (wanting_all ns)) (sym cons) ∙ so.is;
   lives = ap (λ (b : Booked). live_in b t) is ∙ live-on book t t (wanting n) (λ _. refl) ∙ so.lives;
-  nodes = ap nodes_in is ∙ so.nodes;
+  nodes = ap node_count is ∙ so.nodes;
 }
 
 pub wanting_same : (first book new : Booked) (t : ℕ) (all rest left : List ℕ) → IsWanting first book t all left → left ≡ rest → new ≡ book → IsWanting first new t all rest

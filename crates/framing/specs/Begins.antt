@@ -5,7 +5,8 @@ use Rattle.signal_graph.specs.Graph.{Graph}
 use Rattle.signal_graph.specs.Machine.{looks_of}
 use Rattle.flow_model.specs.Machine.State.{Core}
 use Rattle.flow_model.specs.Machine.Steps.{can_begin, begin}
-use Rattle.flow_state.specs.Flow.{Booked, flow_of}
+use Rattle.flow_state.specs.Booked.{Booked}
+use Rattle.flow_model.specs.Parts.Books.{book_of}
 use Rattle.flow_state.specs.Rooms.{Roomy}
 use Rattle.flow_state.specs.Fitting.{IsBookOf}
 
@@ -20,7 +21,7 @@ pub record IsBeginning (graph : Graph) (book : Booked) (caller : ℕ) (call : Ca
 
 -- the book after the beginning: one room less is out
 abbrev pub book_begun : Graph → Core → ℕ → Call → Booked → Booked
-book_begun graph s caller call book = record book { flow = flow_of (begin graph s caller call); rooms = book.rooms - 1 }
+book_begun graph s caller call book = record book { book = book_of (begin graph s caller call); rooms = book.rooms - 1 }
 
 abbrev pub MakesBeginning : Graph → Booked → ℕ → Call → Booked → ℕ → Type 0
 MakesBeginning graph book caller call new version =

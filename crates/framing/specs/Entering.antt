@@ -8,7 +8,8 @@ use Rattle.node_versions.specs.Entries.{Versions, has}
 use Rattle.flow_model.specs.Machine.State.{Core, live, entries}
 use Rattle.flow_model.specs.Machine.Words.{has_room}
 use Rattle.flow_model.specs.Machine.Changes.{enter}
-use Rattle.flow_state.specs.Flow.{Booked, flow_of, live_in, stops_in, with_flow, link_calls}
+use Rattle.flow_state.specs.Booked.{Booked, live_in, stops_in, with_book, link_calls}
+use Rattle.flow_model.specs.Parts.Books.{book_of}
 use Rattle.flow_state.specs.Fitting.{IsBookOf, list_of}
 
 -- The state fits, the call is live and has no entry in the node's list, and the list has room.
@@ -29,7 +30,7 @@ pub record SomeCanEnter (book : Booked) (n : ℕ) (list : Versions) (t : ℕ) : 
 abbrev pub Enters : Booked → ℕ → Versions → ℕ → State → Booked → Versions → Type 0
 Enters book n list t state new new_list =
     (graph : Graph) (s : Core) → CanEnter graph s book n list t
-    → (new ≡ with_flow book (flow_of (enter s t n state))) × (new_list ≡ list_of graph (enter s t n state) n)
+    → (new ≡ with_book book (book_of (enter s t n state))) × (new_list ≡ list_of graph (enter s t n state) n)
 
 -- ---- in a book
 
@@ -51,7 +52,7 @@ link_behind book (Some u) t n = link_if (live_in book u) book t u n
 
 -- a live call can be recorded before another
 abbrev pub CanLink : Booked → ℕ → ℕ → Type 0
-CanLink book u v = (u ≢ v) × (reaches book.flow.pairs v u ≡ false)
+CanLink book u v = (u ≢ v) × (reaches book.book.pairs v u ≡ false)
 
 abbrev pub CanLinkBefore : Booked → Option ℕ → ℕ → Type 0
 CanLinkBefore book None t = Unit {0}

@@ -7,7 +7,8 @@ use Rattle.node_versions.specs.Entries.{Versions, OutEdge, is_mark, has, at}
 use Rattle.flow_model.specs.Machine.State.{Core, LiveCall, live, entries}
 use Rattle.flow_model.specs.Machine.Words.{has_room}
 use Rattle.flow_model.specs.Machine.Changes.{enter, raise}
-use Rattle.flow_state.specs.Flow.{Booked, flow_of, wanting, with_flow}
+use Rattle.flow_state.specs.Booked.{Booked, wanting, with_book}
+use Rattle.flow_model.specs.Parts.Books.{book_of}
 use Rattle.flow_state.specs.Fitting.{IsBookOf, list_of}
 
 -- a call comes to want all nodes of a list, but for those that are open for it
@@ -36,7 +37,7 @@ pub record SomeCanFrame (book : Booked) (n : ℕ) (list : Versions) (t : ℕ) : 
 abbrev pub TakesFrame : Booked → ℕ → Versions → ℕ → Booked → Versions → Type 0
 TakesFrame book n list t new new_list =
     (graph : Graph) (s : Core) → CanFrame graph s book n list t
-    → (new ≡ with_flow book (flow_of (with_frame s t n))) × (new_list ≡ list_of graph (with_frame s t n) n)
+    → (new ≡ with_book book (book_of (with_frame s t n))) × (new_list ≡ list_of graph (with_frame s t n) n)
 
 -- all nodes are below a number
 abbrev pub AreBelow : ℕ → List ℕ → Type 0

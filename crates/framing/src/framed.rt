@@ -3,7 +3,7 @@
 ghost use Rattle.std.specs.Prelude.{◌≡◌, true};
 ghost use Rattle.node_versions.specs.Entries.{has, active_nodes};
 ghost use Rattle.flow_model.specs.declared.step.Step.TheVariants as step;
-ghost use Rattle.flow_state.specs.Flow.{live_in, nodes_in, on_call};
+ghost use Rattle.flow_state.specs.Booked.{live_in, node_count, on_call};
 ghost use Rattle.flow_state.specs.Fitting.{IsListStep, MakesList};
 ghost use Rattle.framing.specs.Framed.{SomeCanFrame, TakesFrame, wanting_all, AreBelow, EdgesBelow};
 
@@ -40,7 +40,7 @@ fn take_frame(book: &mut Book, list: &mut NodeList, version: u32, node: u32)
 // The call comes to want all these nodes, but for those that are open for it.
 fn want_all(book: &mut Book, version: u32, nodes: &[u32])
     requires live { live_in book.old version ≡ true }
-    requires below { AreBelow (nodes_in book.old) nodes.now }
+    requires below { AreBelow (node_count book.old) nodes.now }
     ensures { book.new ≡ on_call book.old version (wanting_all nodes.now) }
 {
     for node in nodes {
@@ -52,7 +52,7 @@ fn want_all(book: &mut Book, version: u32, nodes: &[u32])
 fn want_active(book: &mut Book, list: &NodeList, version: u32)
     requires live { live_in book.old version ≡ true }
     requires entry { has list.now.entries version ≡ true }
-    requires below { EdgesBelow (nodes_in book.old) list.now.outs }
+    requires below { EdgesBelow (node_count book.old) list.now.outs }
     ensures { book.new ≡ on_call book.old version (wanting_all (active_nodes list.now.entries list.now.outs version)) }
 {
     for index in 0..list.outs_len() {

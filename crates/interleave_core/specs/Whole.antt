@@ -5,7 +5,8 @@ use Rattle.node_versions.specs.Entries.{Versions}
 use Rattle.flow_model.specs.Machine.State.{Core, Cell}
 use Rattle.flow_model.specs.declared.step.Step.{Step}
 use Rattle.flow_model.specs.Machine.Steps.{apply}
-use Rattle.flow_state.specs.Flow.{Booked, Flow, Work, rooms_for}
+use Rattle.flow_state.specs.Booked.{Booked, rooms_for}
+use Rattle.flow_model.specs.Parts.Books.{Work, Book}
 use Rattle.flow_state.specs.Fitting.{choosers}
 
 -- what contracts see in a `Core`
@@ -25,11 +26,11 @@ cells_of [] lists = []
 cells_of (w ∷ ws) [] = []
 cells_of (w ∷ ws) (l ∷ ls) = record { entries = l.entries; outs = l.outs; gathered = w.gathered; found = w.found; body = w.body } ∷ cells_of ws ls
 
-abbrev pub state_of : Flow → List Versions → Core
+abbrev pub state_of : Book → List Versions → Core
 state_of flow lists = record { callers = flow.callers; limit = flow.limit; begun = flow.begun; calls = flow.calls; cells = cells_of flow.works lists; pairs = flow.pairs; log = flow.log }
 
 abbrev pub whole_of : Graph → Booked → List Versions → Whole
-whole_of graph book lists = record { graph = graph; state = state_of book.flow lists; rooms = book.rooms }
+whole_of graph book lists = record { graph = graph; state = state_of book.book lists; rooms = book.rooms }
 
 -- the rooms of lists, from the node n on
 abbrev pub HaveRooms : Graph → ℕ → ℕ → List Versions → Type 0
@@ -39,6 +40,6 @@ HaveRooms graph callers n (l ∷ ls) = (l.room ≡ callers + 9) × (l.outs_room 
 -- There is a list for each node, and all rooms are those of the graph.
 pub record IsWhole (graph : Graph) (book : Booked) (lists : List Versions) : Type 0 where
   pub is_graph : IsGraph graph
-  pub many : length lists ≡ length book.flow.works
+  pub many : length lists ≡ length book.book.works
   pub room_for : book.room_for ≡ rooms_for graph
-  pub rooms : HaveRooms graph book.flow.callers 0 lists
+  pub rooms : HaveRooms graph book.book.callers 0 lists

@@ -8,7 +8,8 @@ use Rattle.flow_model.specs.Machine.State.{Core, LiveCall, call_of, live}
 use Rattle.std.specs.Prelude.{is_some}
 use Rattle.flow_model.specs.Machine.Words.{presses}
 use Rattle.flow_model.specs.Machine.Next.{lesser, least_version}
-use Rattle.flow_state.specs.Flow.{Booked, Flow, flow_of, live_in}
+use Rattle.flow_state.specs.Booked.{Booked, live_in}
+use Rattle.flow_model.specs.Parts.Books.{book_of, Book}
 use Rattle.retrofit.specs.Helping.{is_helped}
 
 abbrev pub helped : Booked → ℕ → ℕ → LiveCall → Bool
@@ -41,10 +42,10 @@ after_live wants runs reached lives other h = grind (arith, h)
 helped-presses : (s : Core) (t n : ℕ) → live s t ≡ true → (c : LiveCall) → (is_in n c.wanted && c.executing && reaches s.pairs t c.version) ≡ presses s t n c
 helped-presses s t n h c = after_live (is_in n c.wanted) c.executing (reaches s.pairs t c.version) (live s t) (live s c.version) h
 
-pub in-state : (book : Booked) (s : Core) (t n : ℕ) → book.flow ≡ flow_of s → live_in book t ≡ true → least_version (helped book t n) book.flow.calls ≡ least_version (presses s t n) s.calls
+pub in-state : (book : Booked) (s : Core) (t n : ℕ) → book.book ≡ book_of s → live_in book t ≡ true → least_version (helped book t n) book.book.calls ≡ least_version (presses s t n) s.calls
 in-state book s t n is h =
-    let lives = sym (ap (λ (f : Flow). is_some (call_of f.calls t)) is) ∙ h in
-    ap (λ (f : Flow). least_version (λ c. is_in n c.wanted && c.executing && reaches f.pairs t c.version) f.calls) is
+    let lives = sym (ap (λ (f : Book). is_some (call_of f.calls t)) is) ∙ h in
+    ap (λ (f : Book). least_version (λ c. is_in n c.wanted && c.executing && reaches f.pairs t c.version) f.calls) is
     ∙ ap (λ (test : LiveCall → Bool). least_version test s.calls) (λ i c. helped-presses s t n lives c i)
 
 pub some-any : (test : LiveCall → Bool) (cs : List LiveCall) → is_some (least_version test cs) ≡ list_any test cs

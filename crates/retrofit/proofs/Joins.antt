@@ -5,7 +5,7 @@ use Rattle.node_versions.specs.Entries.{Versions}
 use Rattle.flow_model.specs.declared.step.Step.TheVariants.{Discover}
 use Rattle.flow_model.specs.Machine.State.{Core}
 use Rattle.flow_model.specs.Machine.Steps.{allowed}
-use Rattle.flow_state.specs.Flow.{Booked}
+use Rattle.flow_state.specs.Booked.{Booked}
 use Rattle.flow_state.specs.Fitting.{IsBookOf, list_of}
 use Rattle.flow_state.specs.Joining.{MakesJoined, IsJoinedOf}
 
@@ -16,7 +16,7 @@ joins graph s t n m book new list new_list fits is h made =
     record {
       lawful = fits.lawful;
       allowed = h;
-      flow = ap (λ (b : Booked). b.flow) told.0;
+      flow = ap (λ (b : Booked). b.book) told.0;
       room_for = ap (λ (b : Booked). b.room_for) told.0 ∙ fits.room_for;
       is_list = told.1;
     }

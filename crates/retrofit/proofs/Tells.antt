@@ -14,7 +14,7 @@ use Rattle.flow_model.specs.Kept.Lawful.{AreDistinct}
 use Rattle.flow_model.proofs.OneList.StatesAndPlaces.{at-has, behind-has}
 use Rattle.flow_model.proofs.General.Truths.{same_number}
 use Rattle.flow_model.proofs.OneStep.VersionsStayFresh.{head-distinct, tail-distinct}
-use Rattle.flow_state.specs.Flow.{wanting}
+use Rattle.flow_state.specs.Booked.{wanting}
 use Rattle.retrofit.specs.Telling.{told_by}
 
 -- ---- one call a version

@@ -3,7 +3,7 @@
 ghost use Rattle.std.specs.Prelude.{◌≡◌, ◌<◌, ℕ};
 ghost use Rattle.signal_graph.specs.Graph.{Graph};
 ghost use Rattle.flow_model.specs.Machine.Changes.{hands_on};
-ghost use Rattle.flow_state.specs.Flow.{nodes_in};
+ghost use Rattle.flow_state.specs.Booked.{node_count};
 ghost use Rattle.flow_state.specs.Joining.{IsJoined, MakesTold};
 ghost use Rattle.retrofit.specs.Telling.{told_one};
 
@@ -29,7 +29,7 @@ pub fn extend_wanted(book: &mut Book, candidate_list: &NodeList, version: u32, n
 
 // The call of an entry comes to want the node, where it lives and hands on what it does there.
 fn tell(book: &mut Book, entry: &Entry, node: u32)
-    requires { node < nodes_in book.old }
+    requires { node < node_count book.old }
     ensures { book.new ≡ told_one book.old node entry.now }
 {
     if hands_on(&entry.state) && book.live(entry.version) {

@@ -7,7 +7,8 @@ ghost use Rattle.order_graph.specs.Order.{reaches};
 ghost use Rattle.flow_model.specs.Machine.State.{Core};
 ghost use Rattle.flow_model.specs.Machine.Words.{presses, pressed};
 ghost use Rattle.flow_model.specs.Machine.Next.{least_version};
-ghost use Rattle.flow_state.specs.Flow.{flow_of, call_in, live_in};
+ghost use Rattle.flow_state.specs.Booked.{call_in, live_in};
+ghost use Rattle.flow_model.specs.Parts.Books.{book_of};
 ghost use Rattle.retrofit.specs.Helping.{is_helped, lesser_of};
 
 use flow_state::Book;
@@ -16,8 +17,8 @@ use flow_state::Book;
 /// order is asked only of calls that want the node. Takes no memory.
 pub fn to_help(book: &Book, version: u32, node: u32) -> Option<u32>
     requires { live_in book.now version ≡ true }
-    ensures least { (s : Core) → book.now.flow ≡ flow_of s → result ≡ least_version (presses s version node) s.calls }
-    ensures exact { (s : Core) → book.now.flow ≡ flow_of s → is_some result ≡ pressed s version node }
+    ensures least { (s : Core) → book.now.book ≡ book_of s → result ≡ least_version (presses s version node) s.calls }
+    ensures exact { (s : Core) → book.now.book ≡ book_of s → is_some result ≡ pressed s version node }
 {
     let mut least = None;
     for place in 0..book.live_len() {

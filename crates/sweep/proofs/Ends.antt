@@ -9,7 +9,8 @@ use Rattle.flow_model.specs.Machine.Steps.{any_before}
 use Rattle.flow_model.proofs.General.Truths.{not_true, is_not_true}
 use Rattle.flow_model.proofs.OneStep.WhoMayStep.{and_right, not_is, end-idle, idle-executes, executes-live}
 use Rattle.flow_model.proofs.OneList.CallsAndCells.{list_any-none}
-use Rattle.flow_state.specs.Flow.{Booked, Flow, live_in, end_call}
+use Rattle.flow_state.specs.Booked.{Booked, live_in, end_call}
+use Rattle.flow_model.specs.Parts.Books.{Book}
 use Rattle.flow_state.specs.Fitting.{IsBookStep, MakesBook}
 use Rattle.flow_state.proofs.Fits.{fits_live}
 
@@ -23,11 +24,11 @@ none_recorded s u t none alive = go (call_of s.calls u) refl
     go None e = absurd (true≢false (sym alive ∙ ap is_some e))
     go (Some c) e = let k = list_any-none (λ c. is_recorded s.pairs c.version t) s.calls u c none e in sym (ap (λ v. is_recorded s.pairs v t) k.1) ∙ k.0
 
-pub end-first : (book : Booked) (t : ℕ) → (graph : Graph) × IsBookStep graph book (End t) → (u : ℕ) → is_recorded book.flow.pairs u t ≡ false
+pub end-first : (book : Booked) (t : ℕ) → (graph : Graph) × IsBookStep graph book (End t) → (u : ℕ) → is_recorded book.book.pairs u t ≡ false
 end-first book t h u =
     let s = h.1.state in
     let none = not_is (any_before s t) (and_right _ _ h.1.allowed) in
-    ap (λ (f : Flow). is_recorded f.pairs u t) h.1.fits.flow ∙ not_true _ (λ r. is_not_true _ (none_recorded s u t none (h.1.fits.lawful.entries_are_kept.pairs u t r).0) r)
+    ap (λ (f : Book). is_recorded f.pairs u t) h.1.fits.parts ∙ not_true _ (λ r. is_not_true _ (none_recorded s u t none (h.1.fits.lawful.entries_are_kept.pairs u t r).0) r)
 
 pub end-makes : (book new : Booked) (t : ℕ) → new ≡ end_call book t → (graph : Graph) → MakesBook graph book (End t) new
-end-makes book new t is graph s fits h = is ∙ ap (λ (f : Flow). end_call (record book { flow = f }) t) fits.flow
+end-makes book new t is graph s fits h = is ∙ ap (λ (f : Book). end_call (record book { book = f }) t) fits.parts

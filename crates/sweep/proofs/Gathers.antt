@@ -19,7 +19,8 @@ use Rattle.flow_model.proofs.OneStep.WhoMayStep.{due-can_work}
 use Rattle.flow_model.proofs.OneStep.WhoMayStep.{can_work-at_front}
 use Rattle.flow_model.proofs.OrderStays.OpenNodesHaveFrames.{entry-there}
 use Rattle.flow_model.proofs.Opening.OpeningLists.{nodes-at}
-use Rattle.flow_state.specs.Flow.{AreApart, Booked, Flow, Work, flow_of, nodes_in as nodes_of, work_in, on_work, gather_work, room_at}
+use Rattle.flow_state.specs.Booked.{AreApart, Booked, nodes_in as nodes_of, work_at, on_work, room_at}
+use Rattle.flow_model.specs.Parts.Books.{Work, book_of, with_gathered, Book}
 use Rattle.flow_state.specs.Fitting.{IsBookOf, IsListStep, MakesRead}
 use Rattle.flow_state.proofs.Fits.{fits_node, same_work, works-change, lawful_up_to, heads_has}
 use Rattle.sweep.proofs.Looks.{served-has}
@@ -177,10 +178,10 @@ gather-done book list t n m h = subst (λ (l : Versions). IsSome (last_done (up_
 pub gather-node : (book : Booked) (list : Versions) (t n m : ℕ) → IsGather book list t n m → n < nodes_of book
 gather-node book list t n m h = fits_node h.0 h.1.state book n h.1.fits (gather_inside h.0 h.1.state t n m h.1.fits.lawful h.1.allowed)
 
-pub gather-new : (book : Booked) (list : Versions) (t n m : ℕ) → IsGather book list t n m → gathered_of m (work_in book n).gathered ≡ None
+pub gather-new : (book : Booked) (list : Versions) (t n m : ℕ) → IsGather book list t n m → gathered_of m (work_at book n).gathered ≡ None
 gather-new book list t n m h = ap (λ (w : Work). gathered_of m w.gathered) (same_work h.0 h.1.state book n h.1.fits) ∙ gather_new h.0 h.1.state t n m h.1.allowed
 
-pub gather-room : (book : Booked) (list : Versions) (t n m : ℕ) → IsGather book list t n m → AreApart (work_in book n).gathered → length (work_in book n).gathered < slice_index_or book.room_for n 0
+pub gather-room : (book : Booked) (list : Versions) (t n m : ℕ) → IsGather book list t n m → AreApart (work_at book n).gathered → length (work_at book n).gathered < slice_index_or book.room_for n 0
 gather-room book list t n m h apart =
     let s = h.1.state in
     let work = same_work h.0 s book n h.1.fits in
@@ -189,8 +190,8 @@ gather-room book list t n m h apart =
     let len = ap (λ (w : Work). length w.gathered) work in
     omega (arith, len, room, fits)
 
-pub gather-makes : (book new : Booked) (list : Versions) (t n m : ℕ) (v : Value) → v ≡ value_at list.entries t → new ≡ on_work book n (gather_work m v) → (graph : Graph) → MakesRead graph book m list (Gather t n m) new
+pub gather-makes : (book new : Booked) (list : Versions) (t n m : ℕ) (v : Value) → v ≡ value_at list.entries t → new ≡ on_work book n (with_gathered m v) → (graph : Graph) → MakesRead graph book m list (Gather t n m) new
 gather-makes book new list t n m v value is graph s fits is_list h =
-    is ∙ ap (λ (v : Value). on_work book n (gather_work m v)) (value ∙ ap (λ (l : Versions). value_at l.entries t) is_list)
-    ∙ ap (λ (f : Flow). on_work (record book { flow = f }) n (gather_work m (value_at (entries s m) t))) fits.flow
-    ∙ ap (λ (ws : List Work). record book { flow = record (flow_of s) { works = ws } }) (sym (works-change n (gather m (value_at (entries s m) t)) (gather_work m (value_at (entries s m) t)) (λ c. refl) s.cells))
+    is ∙ ap (λ (v : Value). on_work book n (with_gathered m v)) (value ∙ ap (λ (l : Versions). value_at l.entries t) is_list)
+    ∙ ap (λ (f : Book). on_work (record book { book = f }) n (with_gathered m (value_at (entries s m) t))) fits.parts
+    ∙ ap (λ (ws : List Work). record book { book = record (book_of s) { works = ws } }) (sym (works-change n (gather m (value_at (entries s m) t)) (with_gathered m (value_at (entries s m) t)) (λ c. refl) s.cells))

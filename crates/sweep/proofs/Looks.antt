@@ -11,7 +11,8 @@ use Rattle.flow_model.specs.Machine.State.{Core, entries, live}
 use Rattle.flow_model.specs.Machine.Words.{next_look}
 use Rattle.flow_model.specs.Machine.Steps.{served_look, look_value, with_look}
 use Rattle.flow_model.proofs.OneStep.WhoMayStep.{and_right, look-idle, idle-executes, executes-live}
-use Rattle.flow_state.specs.Flow.{Booked, Flow, live_in, call_in, next_look_in, on_call}
+use Rattle.flow_state.specs.Booked.{Booked, live_in, call_in, next_look_in, on_call}
+use Rattle.flow_model.specs.Parts.Books.{Book}
 use Rattle.flow_state.specs.Fitting.{IsBookOf, IsListStep, MakesRead}
 use Rattle.flow_state.proofs.Fits.{fits_live, lawful_up_to}
 
@@ -29,7 +30,7 @@ abbrev pub IsLook : Booked → Versions → ℕ → Type 0
 IsLook book list t = (graph : Graph) × (node : ℕ) × (next_look_in book t ≡ Some node) × IsListStep graph book node list (Look t)
 
 same_next : (graph : Graph) (s : Core) (book : Booked) (t : ℕ) → IsBookOf graph s book → next_look s t ≡ next_look_in book t
-same_next graph s book t fits = sym (ap (λ (f : Flow). next_look_in (record book { flow = f }) t) fits.flow)
+same_next graph s book t fits = sym (ap (λ (f : Book). next_look_in (record book { book = f }) t) fits.parts)
 
 look_live : (book : Booked) (list : Versions) (t : ℕ) → (h : IsLook book list t) → live h.3.state t ≡ true
 look_live book list t h = let s = h.3.state in executes-live s t (idle-executes s t (look-idle h.0 s t h.3.allowed))
@@ -55,4 +56,4 @@ pub look-makes : (book new : Booked) (list : Versions) (t : ℕ) (v : Value) →
     → (graph : Graph) (node : ℕ) → next_look_in book t ≡ Some node → MakesRead graph book node list (Look t) new
 look-makes book new list t v value is graph node next s fits is_list h =
     let seen = value ∙ ap (λ (l : Versions). value_at l.entries t) is_list ∙ sym (ap (look_value s t) (same_next graph s book t fits ∙ next)) in
-    is ∙ ap (λ (v : Value). on_call book t (with_look v)) seen ∙ ap (λ (f : Flow). on_call (record book { flow = f }) t (with_look (look_value s t (next_look s t)))) fits.flow
+    is ∙ ap (λ (v : Value). on_call book t (with_look v)) seen ∙ ap (λ (f : Book). on_call (record book { book = f }) t (with_look (look_value s t (next_look s t)))) fits.parts

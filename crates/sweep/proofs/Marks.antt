@@ -7,7 +7,7 @@ use Rattle.flow_model.specs.declared.step.Step.TheVariants.{Mark}
 use Rattle.flow_model.specs.Machine.State.{Core, Cell, no_cell}
 use Rattle.flow_model.specs.Machine.Steps.{allowed}
 use Rattle.flow_model.proofs.OneStep.WhoMayStep.{and_left, and_right, mark-executes, mark-no_entry, executes-live}
-use Rattle.flow_state.specs.Flow.{Booked}
+use Rattle.flow_state.specs.Booked.{Booked}
 use Rattle.flow_state.specs.Fitting.{IsBookOf, IsListStep, MakesList, list_of}
 use Rattle.framing.specs.Entering.{CanEnter, SomeCanEnter, Enters}
 

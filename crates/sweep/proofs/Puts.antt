@@ -11,7 +11,8 @@ use Rattle.flow_model.specs.Machine.Steps.{allowed, counted, keep_found, keep_bo
 use Rattle.flow_model.specs.Kept.Lawful.{IsLawful, has_evaluated}
 use Rattle.flow_model.proofs.OneStep.WhoMayStep.{evaluate-at_front, at_front-executes, executes-live}
 use Rattle.flow_state.specs.declared.outcome.Answer.{Answer}
-use Rattle.flow_state.specs.Flow.{Booked, Flow, Work, flow_of, call_in, on_call, on_work, find_work, body_work}
+use Rattle.flow_state.specs.Booked.{Booked, call_in, on_call, on_work}
+use Rattle.flow_model.specs.Parts.Books.{Work, book_of, with_found, with_body, Book}
 use Rattle.flow_state.specs.Answers.{step_of, IsRight, IsAnswerStep, MakesAnswer}
 use Rattle.flow_state.specs.Fitting.{book_after}
 use Rattle.flow_state.proofs.Fits.{works-change}
@@ -38,29 +39,29 @@ evaluated_few graph s t is_graph lawful alive =
     let few = is_graph.few in
     omega (arith, count, most, few)
 
-pub put-few : (book mid : Booked) (a : Answer) (f : Found) → IsPut book a → IsEvaluate a → mid ≡ on_work book a.node (find_work f) → (call_in mid a.version).evaluated + 1 < 4294967296
+pub put-few : (book mid : Booked) (a : Answer) (f : Found) → IsPut book a → IsEvaluate a → mid ≡ on_work book a.node (with_found f) → (call_in mid a.version).evaluated + 1 < 4294967296
 put-few book mid a f h is kept =
     let s = h.1.state in
     let fits = h.1.fits in
     let front = evaluate-at_front h.0 s a.version a.node (sym (ap (allowed h.0 s) is) ∙ h.1.allowed) in
     let few = evaluated_few h.0 s a.version fits.is_graph fits.lawful (executes-live s a.version (at_front-executes h.0 s a.version a.node front)) in
-    subst (λ (b : Booked). (call_in b a.version).evaluated + 1 < 4294967296) (sym kept) (subst (λ (f : Flow). (call_in (record book { flow = f }) a.version).evaluated + 1 < 4294967296) (sym fits.flow) few)
+    subst (λ (b : Booked). (call_in b a.version).evaluated + 1 < 4294967296) (sym kept) (subst (λ (f : Book). (call_in (record book { book = f }) a.version).evaluated + 1 < 4294967296) (sym fits.parts) few)
 
 pub found-makes : (book mid new : Booked) (a : Answer) (f : Found) → IsEvaluate a → ((graph : Graph) (s : Core) → IsRight graph s a → found_now graph s a.version a.node ≡ f)
-    → mid ≡ on_work book a.node (find_work f) → new ≡ on_call mid a.version counted → (graph : Graph) → MakesAnswer graph book a new
+    → mid ≡ on_work book a.node (with_found f) → new ≡ on_call mid a.version counted → (graph : Graph) → MakesAnswer graph book a new
 found-makes book mid new a f is right kept made graph s fits h is_right =
     let t = a.version in
     let n = a.node in
-    made ∙ ap (λ (b : Booked). on_call b t counted) (kept ∙ ap (λ (f : Found). on_work book n (find_work f)) (sym (right graph s is_right)))
-    ∙ ap (λ (f : Flow). on_call (on_work (record book { flow = f }) n (find_work (found_now graph s t n))) t counted) fits.flow
-    ∙ ap (λ (ws : List Work). record book { flow = record (flow_of s) { calls = change_call t counted s.calls; works = ws } }) (sym (works-change n (keep_found (found_now graph s t n)) (find_work (found_now graph s t n)) (λ c. refl) s.cells))
+    made ∙ ap (λ (b : Booked). on_call b t counted) (kept ∙ ap (λ (f : Found). on_work book n (with_found f)) (sym (right graph s is_right)))
+    ∙ ap (λ (f : Book). on_call (on_work (record book { book = f }) n (with_found (found_now graph s t n))) t counted) fits.parts
+    ∙ ap (λ (ws : List Work). record book { book = record (book_of s) { calls = change_call t counted s.calls; works = ws } }) (sym (works-change n (keep_found (found_now graph s t n)) (with_found (found_now graph s t n)) (λ c. refl) s.cells))
     ∙ ap (λ (step : Step). book_after graph s step book) (sym is)
 
 pub body-makes : (book new : Booked) (a : Answer) (v : Value) → step_of a ≡ Body a.version a.node → ((graph : Graph) (s : Core) → IsRight graph s a → body_now graph s a.node ≡ v)
-    → new ≡ on_work book a.node (body_work v) → (graph : Graph) → MakesAnswer graph book a new
+    → new ≡ on_work book a.node (with_body v) → (graph : Graph) → MakesAnswer graph book a new
 body-makes book new a v is right made graph s fits h is_right =
     let n = a.node in
-    made ∙ ap (λ (v : Value). on_work book n (body_work v)) (sym (right graph s is_right))
-    ∙ ap (λ (f : Flow). on_work (record book { flow = f }) n (body_work (body_now graph s n))) fits.flow
-    ∙ ap (λ (ws : List Work). record book { flow = record (flow_of s) { works = ws } }) (sym (works-change n (keep_body (body_now graph s n)) (body_work (body_now graph s n)) (λ c. refl) s.cells))
+    made ∙ ap (λ (v : Value). on_work book n (with_body v)) (sym (right graph s is_right))
+    ∙ ap (λ (f : Book). on_work (record book { book = f }) n (with_body (body_now graph s n))) fits.parts
+    ∙ ap (λ (ws : List Work). record book { book = record (book_of s) { works = ws } }) (sym (works-change n (keep_body (body_now graph s n)) (with_body (body_now graph s n)) (λ c. refl) s.cells))
     ∙ ap (λ (step : Step). book_after graph s step book) (sym is)

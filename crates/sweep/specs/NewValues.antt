@@ -7,7 +7,8 @@ use Rattle.script_tree.specs.Scripts.{Scripted}
 use Rattle.signal_graph.specs.Graph.{Graph, node_at, is_source, body_of}
 use Rattle.flow_model.specs.Machine.State.{Found}
 use Rattle.flow_model.specs.Machine.Words.{gathered_of, value_or, value_over, set_value}
-use Rattle.flow_state.specs.Flow.{Work, Booked, call_in, work_in}
+use Rattle.flow_state.specs.Booked.{Booked, call_in, work_at}
+use Rattle.flow_model.specs.Parts.Books.{Work}
 
 -- the value that is gathered of a node
 abbrev pub gathered_value : Work → ℕ → Value
@@ -27,4 +28,4 @@ worked_value w None = found_value w
 worked_value w (Some body) = value_or w.body
 
 abbrev pub new_value : Graph → Booked → ℕ → ℕ → Value
-new_value graph book t n = elim (is_source (node_at graph n)) [ true ↦ set_value n (Faulty NoChoice) (call_in book t).sets | false ↦ worked_value (work_in book n) (body_of (node_at graph n)) ]
+new_value graph book t n = elim (is_source (node_at graph n)) [ true ↦ set_value n (Faulty NoChoice) (call_in book t).sets | false ↦ worked_value (work_at book n) (body_of (node_at graph n)) ]

@@ -3,7 +3,7 @@
 ghost use Rattle.std.specs.Prelude.{◌≡◌, ℕ, Some};
 ghost use Rattle.signal_graph.specs.Graph.{Graph};
 ghost use Rattle.flow_model.specs.declared.step.Step.TheVariants as step;
-ghost use Rattle.flow_state.specs.Flow.{next_look_in};
+ghost use Rattle.flow_state.specs.Booked.{next_look_in};
 ghost use Rattle.flow_state.specs.Fitting.{IsListStep, MakesRead};
 
 use flow_state::Book;

@@ -4,7 +4,7 @@ ghost use Rattle.std.specs.Prelude.{◌≡◌, ◌<◌, true, map, length, Some,
 ghost use Rattle.signal_graph.specs.Values.{taken};
 ghost use Rattle.flow_model.specs.declared.step.Step.TheVariants as step;
 ghost use Rattle.flow_model.specs.Machine.Words.{first_pick_over, value_over, value_or, picks_of_found};
-ghost use Rattle.flow_state.specs.Flow.{live_in, nodes_in, work_in};
+ghost use Rattle.flow_state.specs.Booked.{live_in, node_count, work_at};
 ghost use Rattle.flow_state.specs.Found.{found_of, selection_of};
 ghost use Rattle.flow_state.specs.Fitting.{IsListStep, MakesList};
 ghost use Rattle.sweep.specs.NewValues.{gathered_value, found_value, new_value};
@@ -34,7 +34,7 @@ pub fn resolve(book: &mut Book, list: &mut NodeList, graph: &Graph, version: u32
 // The value that the call gives the node.
 fn new_value(book: &Book, graph: &Graph, version: u32, node: u32) -> Value
     requires live { live_in book.now version ≡ true }
-    requires node { node < nodes_in book.now }
+    requires node { node < node_count book.now }
     requires known { node < length graph.now.nodes }
     ensures { result ≡ new_value graph.now book.now version node }
 {
@@ -49,8 +49,8 @@ fn new_value(book: &Book, graph: &Graph, version: u32, node: u32) -> Value
 
 // The value that is found, or that of the one pick.
 fn found_value(book: &Book, node: u32) -> Value
-    requires { node < nodes_in book.now }
-    ensures { result ≡ found_value (work_in book.now node) }
+    requires { node < node_count book.now }
+    ensures { result ≡ found_value (work_at book.now node) }
 {
     match book.found(node) {
         Some(finding) => finding_value(book, node, finding),
@@ -59,8 +59,8 @@ fn found_value(book: &Book, node: u32) -> Value
 }
 
 fn finding_value(book: &Book, node: u32, finding: &Finding) -> Value
-    requires { node < nodes_in book.now }
-    ensures { result ≡ value_over None (gathered_value (work_in book.now node)) (found_of finding.now) }
+    requires { node < node_count book.now }
+    ensures { result ≡ value_over None (gathered_value (work_at book.now node)) (found_of finding.now) }
 {
     match finding {
         Finding::Gives(value) => *value,
@@ -69,8 +69,8 @@ fn finding_value(book: &Book, node: u32, finding: &Finding) -> Value
 }
 
 fn first_pick(book: &Book, node: u32, list: &FoundList) -> Value
-    requires { node < nodes_in book.now }
-    ensures { result ≡ first_pick_over (gathered_value (work_in book.now node)) (map selection_of list.now) }
+    requires { node < node_count book.now }
+    ensures { result ≡ first_pick_over (gathered_value (work_at book.now node)) (map selection_of list.now) }
 {
     if list.len() == 0 {
         return Value::Fault(Fault::NoChoice);
@@ -92,8 +92,8 @@ fn value_or(value: Option<Value>) -> Value
 
 // The picks that are found.
 fn found_picks(book: &Book, node: u32) -> Picks
-    requires { node < nodes_in book.now }
-    ensures { result ≡ picks_of_found (work_in book.now node).found }
+    requires { node < node_count book.now }
+    ensures { result ≡ picks_of_found (work_at book.now node).found }
 {
     match book.found(node) {
         Some(finding) => picks_in(finding),

@@ -14,7 +14,8 @@ use Rattle.flow_model.specs.Machine.Lists.{change_at}
 use Rattle.flow_model.specs.Machine.Steps.{allowed, collect}
 use Rattle.flow_model.proofs.OneList.InOrder.{on_calls}
 use Rattle.flow_model.proofs.OneList.StatesAndPlaces.{behind-has}
-use Rattle.flow_state.specs.Flow.{Booked, Flow, Work, flow_of, work_of, live_in, with_flow}
+use Rattle.flow_state.specs.Booked.{Booked, live_in, with_book}
+use Rattle.flow_model.specs.Parts.Books.{Work, book_of, work_in, Book}
 use Rattle.flow_state.specs.Fitting.{IsListStep, MakesList, list_of}
 
 -- ---- the ended entries come first
@@ -52,10 +53,10 @@ changed-at n f [] h = absurd (omega (arith, h))
 changed-at zero f (c ∷ cs) h = refl
 changed-at (suc n) f (c ∷ cs) h = changed-at n f cs (omega (arith, h))
 
-same-works : (n : ℕ) (f : Cell → Cell) → ((c : Cell) → work_of (f c) ≡ work_of c) → (cs : List Cell) → map work_of (change_at n f cs) ≡ map work_of cs
+same-works : (n : ℕ) (f : Cell → Cell) → ((c : Cell) → work_in (f c) ≡ work_in c) → (cs : List Cell) → map work_in (change_at n f cs) ≡ map work_in cs
 same-works n f same [] = refl
-same-works zero f same (c ∷ cs) = ap (λ (w : Work). w ∷ map work_of cs) (same c)
-same-works (suc n) f same (c ∷ cs) = ap (λ (ws : List Work). work_of c ∷ ws) (same-works n f same cs)
+same-works zero f same (c ∷ cs) = ap (λ (w : Work). w ∷ map work_in cs) (same c)
+same-works (suc n) f same (c ∷ cs) = ap (λ (ws : List Work). work_in c ∷ ws) (same-works n f same cs)
 
 -- ---- the step
 
@@ -77,7 +78,7 @@ in-state graph book n list h =
 
 pub ready : (graph : Graph) (book : Booked) (n : ℕ) (list : Versions) → IsListStep graph book n list (Collect n) → HasEndedPrefix (λ e. not (live_in book e.version)) list.entries
 ready graph book n list h =
-    subst (λ (f : Flow). HasEndedPrefix (λ e. not (is_some (call_of f.calls e.version))) list.entries) (sym h.fits.flow)
+    subst (λ (f : Book). HasEndedPrefix (λ e. not (is_some (call_of f.calls e.version))) list.entries) (sym h.fits.parts)
     (subst (λ (v : Versions). HasEndedPrefix (ended h.state) v.entries) (sym h.is_list) (in-state graph book n list h))
 
 pub makes : (graph : Graph) (book : Booked) (n : ℕ) (list new : Versions) → (HasEndedPrefix (λ e. not (live_in book e.version)) list.entries → new ≡ with_entries list (collected (λ e. not (live_in book e.version)) list.entries))
@@ -86,9 +87,9 @@ makes graph book n list new made s fits is_list allowed =
     let h : IsListStep graph book n list (Collect n) = record { state = s; fits = fits; is_list = is_list; allowed = allowed } in
     let some = inside s.cells n (some-entry _ _ allowed) in
     let now = changed-at n (collect s) s.cells some in
-    let flow = ap (λ (ws : List Work). record (flow_of s) { works = ws }) (same-works n (collect s) (λ c. refl) s.cells) in (
-      ap (with_flow book) (fits.flow ∙ sym flow),
+    let flow = ap (λ (ws : List Work). record (book_of s) { works = ws }) (same-works n (collect s) (λ c. refl) s.cells) in (
+      ap (with_book book) (fits.parts ∙ sym flow),
       made (ready graph book n list h)
-          ∙ ap₂ (λ (f : Flow) (v : Versions). with_entries v (collected (λ e. not (is_some (call_of f.calls e.version))) v.entries)) fits.flow is_list
+          ∙ ap₂ (λ (f : Book) (v : Versions). with_entries v (collected (λ e. not (is_some (call_of f.calls e.version))) v.entries)) fits.parts is_list
           ∙ ap (λ (c : Cell). record (list_of graph s n) { entries = c.entries; outs = c.outs }) (sym now),
     )

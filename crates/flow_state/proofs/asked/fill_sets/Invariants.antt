@@ -1,6 +1,6 @@
 use Rattle.std.proofs.Common.{◌≡◌, take}
 use Rattle.std.specs.Vec.{vec_capacity}
-use Rattle.flow_state.specs.Flow.{sets_by_node}
+use Rattle.flow_state.specs.Booked.{sets_by_node}
 use Rattle.flow_state.proofs.asked.fill_sets.Given as goal
 
 abbrev pub invariant-loop-name : goal.invariant-loop-name

@@ -1,5 +1,5 @@
 use Rattle.std.proofs.Common.{◌+◌, List, ℕ, length, ap, ◌∙◌}
-use Rattle.flow_state.specs.Flow.{no_work}
+use Rattle.flow_model.specs.Parts.Books.{no_work}
 use Rattle.flow_state.specs.Seats.{Shelved}
 use Rattle.flow_state.proofs.Openings.{one_more, empty_shelf}
 use Rattle.flow_state.proofs.book.empty_shelves.Goals as goal

@@ -1,6 +1,7 @@
 use Rattle.std.proofs.Common.{◌≡◌, map}
 use Rattle.std.specs.List.{range_with_len}
-use Rattle.flow_state.specs.Flow.{no_work, room_at}
+use Rattle.flow_state.specs.Booked.{room_at}
+use Rattle.flow_model.specs.Parts.Books.{no_work}
 use Rattle.flow_state.proofs.book.empty_shelves.Given as goal
 
 abbrev pub invariant-loop-node : goal.invariant-loop-node

@@ -1,5 +1,5 @@
 use Rattle.std.proofs.Common.{◌≡◌, ℕ, length, refl, sym, ap, ◌∙◌, subst, arith}
-use Rattle.flow_state.specs.Flow.{Booked, live_in, nodes_in, opened_one}
+use Rattle.flow_state.specs.Booked.{Booked, live_in, node_count, opened_one}
 use Rattle.framing.specs.Framed.{AreBelow, EdgesBelow, wanting_all}
 use Rattle.framing.proofs.Wanting.{live-on, all-version}
 use Rattle.framing.proofs.Frames.{frame_can, some_frame, book_live, book_nodes, list_entered, list_edges, static_below, frame_makes}
@@ -41,7 +41,7 @@ want_all-requires-clause-below c =
     let graph = c.args.graph.now in
     let can = frame_can graph k.state c.args.book.now c.args.node c.args.list.now c.args.version k.fits k.is_list k.allowed in
     let made = c.take_frame.ensures graph k.state can in
-    let n : nodes_in c.open.new.self ≡ length graph.nodes = ap nodes_in c.open.ensures ∙ book_nodes graph k.state c.args.book.now c.take_frame.new.book c.args.node c.args.list.now c.args.version can made.0 in
+    let n : node_count c.open.new.self ≡ length graph.nodes = ap node_count c.open.ensures ∙ book_nodes graph k.state c.args.book.now c.take_frame.new.book c.args.node c.args.list.now c.args.version can made.0 in
     subst (λ (m : ℕ). AreBelow m c.static_outs.result.now) (sym n) (subst (AreBelow (length graph.nodes)) (sym c.static_outs.ensures) (static_below graph c.args.node))
 
 pub want_active-requires-clause-live : goal.want_active-requires-clause-live
@@ -66,7 +66,7 @@ want_active-requires-clause-below c =
     let graph = c.args.graph.now in
     let can = frame_can graph k.state c.args.book.now c.args.node c.args.list.now c.args.version k.fits k.is_list k.allowed in
     let made = c.take_frame.ensures graph k.state can in
-    let n : nodes_in c.want_all.new.book ≡ length graph.nodes = ap nodes_in c.want_all.ensures ∙ ap nodes_in c.open.ensures ∙ book_nodes graph k.state c.args.book.now c.take_frame.new.book c.args.node c.args.list.now c.args.version can made.0 in
+    let n : node_count c.want_all.new.book ≡ length graph.nodes = ap node_count c.want_all.ensures ∙ ap node_count c.open.ensures ∙ book_nodes graph k.state c.args.book.now c.take_frame.new.book c.args.node c.args.list.now c.args.version can made.0 in
     subst (λ (m : ℕ). EdgesBelow m c.take_frame.new.list.outs) (sym n) (list_edges graph k.state c.args.book.now c.args.node c.args.list.now c.take_frame.new.list c.args.version can made.1)
 
 pub returns : goal.returns

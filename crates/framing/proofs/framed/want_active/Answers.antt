@@ -1,6 +1,6 @@
 use Rattle.std.proofs.Common.{◌∙◌, List, ap, sym, arith}
 use Rattle.node_versions.specs.Entries.{OutEdge, active_nodes}
-use Rattle.flow_state.specs.Flow.{nodes_in}
+use Rattle.flow_state.specs.Booked.{node_count}
 use Rattle.framing.proofs.Wanting.{wanting_begins, wanting_more, wanting_same, wanting_ends, drop_past, edge_in, active_taken, active_skip}
 use Rattle.framing.proofs.framed.want_active.Goals as goal
 use Rattle.framing.proofs.framed.want_active.Goals.{then-active, else-active}
@@ -10,7 +10,7 @@ loop-index-init c = wanting_begins c.args.book.now c.args.version _ c.requires.l
 
 pub want-requires-clause-node : goal.want-requires-clause-node
 want-requires-clause-node c =
-    let n = edge_in (nodes_in c.args.book.now) c.args.list.now.outs c.loop-index.index c.out-chooser.result c.out-chooser.ensures c.requires.below in
+    let n = edge_in (node_count c.args.book.now) c.args.list.now.outs c.loop-index.index c.out-chooser.result c.out-chooser.ensures c.requires.below in
     let same = c.loop-index.invariant.nodes in
     omega (arith, n, same)
 

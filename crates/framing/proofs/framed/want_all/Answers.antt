@@ -1,5 +1,5 @@
 use Rattle.std.proofs.Common.{arith}
-use Rattle.flow_state.specs.Flow.{nodes_in}
+use Rattle.flow_state.specs.Booked.{node_count}
 use Rattle.framing.proofs.Wanting.{wanting_begins, wanting_more, wanting_ends, rest_is, drop_past, below_at}
 use Rattle.framing.proofs.framed.want_all.Goals as goal
 
@@ -11,7 +11,7 @@ want-requires-clause-live c = c.loop-node.invariant.lives
 
 pub want-requires-clause-node : goal.want-requires-clause-node
 want-requires-clause-node c =
-    let n = below_at (nodes_in c.args.book.now) c.args.nodes.now c.loop-node.node-index 0 (omega arith) c.requires.below in
+    let n = below_at (node_count c.args.book.now) c.args.nodes.now c.loop-node.node-index 0 (omega arith) c.requires.below in
     let same = c.loop-node.invariant.nodes in
     omega (arith, n, same)
 

@@ -7,11 +7,11 @@ use Rattle.retrofit.proofs.helping.to_help.Goals as goal
 pub returns-clause-least : goal.returns-clause-least
 returns-clause-least c = λ s is.
     let over = c.loop-place-test.false in
-    let all = found-all (helped c.args.book.now c.args.version c.args.node) c.args.book.now.flow.calls c.loop-place.place c.loop-place.least _ (omega (arith, over)) c.loop-place.invariant in
+    let all = found-all (helped c.args.book.now c.args.version c.args.node) c.args.book.now.book.calls c.loop-place.place c.loop-place.least _ (omega (arith, over)) c.loop-place.invariant in
     all ∙ in-state c.args.book.now s c.args.version c.args.node is c.requires
 
 pub returns-clause-exact : goal.returns-clause-exact
 returns-clause-exact c = λ s is.
     let over = c.loop-place-test.false in
-    let all = found-all (helped c.args.book.now c.args.version c.args.node) c.args.book.now.flow.calls c.loop-place.place c.loop-place.least _ (omega (arith, over)) c.loop-place.invariant in
+    let all = found-all (helped c.args.book.now c.args.version c.args.node) c.args.book.now.book.calls c.loop-place.place c.loop-place.least _ (omega (arith, over)) c.loop-place.invariant in
     ap is_some (all ∙ in-state c.args.book.now s c.args.version c.args.node is c.requires) ∙ some-any (presses s c.args.version c.args.node) s.calls

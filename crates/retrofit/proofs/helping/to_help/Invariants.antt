@@ -4,4 +4,4 @@ use Rattle.retrofit.proofs.Helps.{helped, merged}
 use Rattle.retrofit.proofs.helping.to_help.Given as goal
 
 abbrev pub invariant-loop-place : goal.invariant-loop-place
-invariant-loop-place l = merged l.least (least_version (helped l.book l.version l.node) (drop l.place l.book.flow.calls)) ≡ least_version (helped l.book l.version l.node) l.book.flow.calls
+invariant-loop-place l = merged l.least (least_version (helped l.book l.version l.node) (drop l.place l.book.book.calls)) ≡ least_version (helped l.book l.version l.node) l.book.book.calls

@@ -1,7 +1,7 @@
 use Rattle.std.proofs.Common.{◌∙◌, ap, sym}
 use Rattle.flow_model.specs.Machine.Words.{value_or, pick_over}
 use Rattle.flow_state.specs.declared.found.Found.{Found}
-use Rattle.flow_state.specs.Flow.{work_in}
+use Rattle.flow_state.specs.Booked.{work_at}
 use Rattle.flow_state.specs.Found.{selection_of}
 use Rattle.sweep.specs.NewValues.{gathered_value}
 use Rattle.sweep.proofs.Picks.{first-is}
@@ -9,10 +9,10 @@ use Rattle.sweep.proofs.resolving.first_pick.Goals as goal
 
 pub returns-in-Candidate : goal.returns-in-Candidate
 returns-in-Candidate c =
-    let read = gathered_value (work_in c.args.book.now c.args.node) in
+    let read = gathered_value (work_at c.args.book.now c.args.node) in
     c.value_or.ensures ∙ ap value_or c.gathered.ensures ∙ sym (ap (λ (x : Found). pick_over read (selection_of x)) c.in-Candidate.is) ∙ first-is read c.args.list.now c.get.result.now c.get.ensures
 
 pub returns-in-Fault : goal.returns-in-Fault
 returns-in-Fault c =
-    let read = gathered_value (work_in c.args.book.now c.args.node) in
+    let read = gathered_value (work_at c.args.book.now c.args.node) in
     sym (ap (λ (x : Found). pick_over read (selection_of x)) c.in-Fault.is) ∙ first-is read c.args.list.now c.get.result.now c.get.ensures

@@ -1,5 +1,5 @@
 use Rattle.std.proofs.Common.{rules, not}
-use Rattle.flow_state.specs.Flow.{live_in}
+use Rattle.flow_state.specs.Booked.{live_in}
 use Rattle.version_gc.proofs.Collects.{ready, makes}
 use Rattle.version_gc.proofs.collecting.collect.Goals as goal
 

@@ -1,4 +1,4 @@
-use Rattle.flow_state.specs.Flow.{gather_work}
+use Rattle.flow_model.specs.Parts.Books.{with_gathered}
 use Rattle.flow_state.proofs.BookLemmas.{shelf_inside, kept_shelf, seen_shelf}
 use Rattle.flow_state.proofs.book.Book.gather.Goals as goal
 
@@ -9,4 +9,4 @@ pub returns : goal.returns
 returns c =
     let b = c.self.inside in
     let h = shelf_inside b.limit b.begun b.rooms b.spare b.calls b.shelves.items b.log c.args.node c.args.self.now c.self.view_is c.requires.node in
-    seen_shelf b.limit b.begun b.rooms b.calls b.shelves.items b.log c.args.node c.index_mut.result.now c.gather.new.self (gather_work c.args.input c.args.value) c.args.self.now c.self.view_is h c.index_mut.ensures.value c.gather.ensures
+    seen_shelf b.limit b.begun b.rooms b.calls b.shelves.items b.log c.args.node c.index_mut.result.now c.gather.new.self (with_gathered c.args.input c.args.value) c.args.self.now c.self.view_is h c.index_mut.ensures.value c.gather.ensures

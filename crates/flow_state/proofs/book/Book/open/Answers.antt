@@ -1,5 +1,5 @@
 use Rattle.std.proofs.Common.{refl}
-use Rattle.flow_state.specs.Flow.{opened_one}
+use Rattle.flow_state.specs.Booked.{opened_one}
 use Rattle.flow_state.proofs.BookLemmas.{kept_call}
 use Rattle.flow_state.proofs.book.Book.open.Goals as goal
 

@@ -1,5 +1,5 @@
 use Rattle.std.proofs.Common.{refl}
-use Rattle.flow_state.specs.Flow.{wanting}
+use Rattle.flow_state.specs.Booked.{wanting}
 use Rattle.flow_state.proofs.BookLemmas.{kept_call}
 use Rattle.flow_state.proofs.book.Book.want.Goals as goal
 

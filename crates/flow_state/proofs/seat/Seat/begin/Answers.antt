@@ -1,6 +1,6 @@
 use Rattle.std.proofs.Common.{ℕ, length, sym, ap, ◌∙◌, subst}
 use Rattle.node_set.specs.Members.{Members}
-use Rattle.flow_state.specs.Flow.{sets_by_node, AreInside}
+use Rattle.flow_state.specs.Booked.{sets_by_node, AreInside}
 use Rattle.flow_state.specs.Seats.{Seated}
 use Rattle.flow_state.proofs.Naming.{named_inside}
 use Rattle.flow_state.proofs.seat.Seat.begin.Goals as goal

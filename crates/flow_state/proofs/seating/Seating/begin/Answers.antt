@@ -2,7 +2,7 @@ use Rattle.std.proofs.Common.{◌≡◌, ◌<◌, false, sym, ap, ◌∙◌, ari
 use Rattle.std.specs.Vec.{vec_capacity}
 use Rattle.flow_model.specs.Machine.Steps.{uses_slot}
 use Rattle.flow_state.specs.declared.seating.Tenant.{Tenant}
-use Rattle.flow_state.specs.Flow.{begun_call}
+use Rattle.flow_state.specs.Booked.{begun_call}
 use Rattle.flow_state.specs.Seats.{Seated, LiveCalls, has_call, has_slot, has_version}
 use Rattle.flow_state.proofs.SeatLemmas.{calls-has}
 use Rattle.flow_state.proofs.Beginning.{slot_used, few_live, read_version, taken_by, begun_kept, begun_seen}

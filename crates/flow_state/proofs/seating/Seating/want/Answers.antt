@@ -1,6 +1,6 @@
 use Rattle.std.proofs.Common.{refl, arith}
 use Rattle.std.specs.Vec.{vec_capacity}
-use Rattle.flow_state.specs.Flow.{wanting}
+use Rattle.flow_state.specs.Booked.{wanting}
 use Rattle.flow_state.proofs.SeatLemmas.{slot_read, read_size, changed_kept, changed_seen}
 use Rattle.flow_state.proofs.seating.Seating.want.Goals as goal
 

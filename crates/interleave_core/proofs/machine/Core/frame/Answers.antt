@@ -12,7 +12,7 @@ pub index_mut-list-requires : goal.index_mut-list-requires
 index_mut-list-requires c =
     let m = c.self.inside in
     let graph = m.graph.now in
-    let s : Core = state_of m.book.flow m.lists.items in
+    let s : Core = state_of m.book.book m.lists.items in
     let lawful = seen_lawful graph m.book m.lists.items c.args.self.now c.self.view_is c.requires.lawful in
     let can = seen_allowed graph m.book m.lists.items c.args.self.now (step.Frame c.args.version c.args.node) c.self.view_is c.requires.allowed in
     let fit = fits graph m.book m.lists.items c.self.invariant lawful in
@@ -28,7 +28,7 @@ pub frame-requires : goal.frame-requires
 frame-requires c =
     let m = c.self.inside in
     let graph = m.graph.now in
-    let s : Core = state_of m.book.flow m.lists.items in
+    let s : Core = state_of m.book.book m.lists.items in
     let lawful = seen_lawful graph m.book m.lists.items c.args.self.now c.self.view_is c.requires.lawful in
     let can = seen_allowed graph m.book m.lists.items c.args.self.now (step.Frame c.args.version c.args.node) c.self.view_is c.requires.allowed in
     let fit = fits graph m.book m.lists.items c.self.invariant lawful in
@@ -45,7 +45,7 @@ pub invariant_of-self : goal.invariant_of-self
 invariant_of-self c =
     let m = c.self.inside in
     let graph = m.graph.now in
-    let s : Core = state_of m.book.flow m.lists.items in
+    let s : Core = state_of m.book.book m.lists.items in
     let lawful = seen_lawful graph m.book m.lists.items c.args.self.now c.self.view_is c.requires.lawful in
     let can = seen_allowed graph m.book m.lists.items c.args.self.now (step.Frame c.args.version c.args.node) c.self.view_is c.requires.allowed in
     let fit = fits graph m.book m.lists.items c.self.invariant lawful in
@@ -58,14 +58,14 @@ invariant_of-self c =
     let is = list_fits graph m.book m.lists.items c.args.node c.index_mut-list.result.now c.self.invariant below c.index_mut-list.ensures.value in
     let made = c.frame.ensures s fit is can in
     let x : Core = apply graph s (step.Frame c.args.version c.args.node) in
-    let longer : length x.cells ≡ length m.book.flow.works = ap length (frame_cells graph s c.args.version c.args.node) ∙ length-changed c.args.node (framed_cell s c.args.version c.args.node) s.cells ∙ cells in
+    let longer : length x.cells ≡ length m.book.book.works = ap length (frame_cells graph s c.args.version c.args.node) ∙ length-changed c.args.node (framed_cell s c.args.version c.args.node) s.cells ∙ cells in
     whole_with_list graph m.book c.frame.new.book m.lists.items c.args.node c.frame.new.list x c.self.invariant made.0 longer (frame_callers graph s c.args.version c.args.node) made.1
 
 pub returns : goal.returns
 returns c =
     let m = c.self.inside in
     let graph = m.graph.now in
-    let s : Core = state_of m.book.flow m.lists.items in
+    let s : Core = state_of m.book.book m.lists.items in
     let lawful = seen_lawful graph m.book m.lists.items c.args.self.now c.self.view_is c.requires.lawful in
     let can = seen_allowed graph m.book m.lists.items c.args.self.now (step.Frame c.args.version c.args.node) c.self.view_is c.requires.allowed in
     let fit = fits graph m.book m.lists.items c.self.invariant lawful in

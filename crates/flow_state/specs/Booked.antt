@@ -1,4 +1,4 @@
--- What a `Book` holds: a state of interleaved calls without its lists, and how many rooms are out.
+-- What a `Book` holds: a state of interleaved calls without its lists, with how many rooms are out.
 use Rattle.std.specs.Prelude.{◌≡◌, ℕ, zero, suc, ◌+◌, ◌-◌, ◌<◌, Bool, true, false, not, ◌||◌, ◌&&◌, List, [], ◌∷◌, ◌++◌, length, map, Option, Some, None, slice_get, slice_index_or}
 use Rattle.std.specs.List.{AllByRecursion, list_any}
 use Rattle.script_tree.specs.declared.limits.TheConstants.{SELECTORS}
@@ -16,37 +16,15 @@ use Rattle.flow_model.specs.Machine.Lists.{is_empty}
 use Rattle.flow_model.specs.Machine.State.{Core, Cell, LiveCall, Found, call_of, call_or, change_call, opening, no_call}
 use Rattle.std.specs.Prelude.{is_some}
 use Rattle.flow_model.specs.Machine.Words.{gathered_of}
+use Rattle.flow_model.specs.Parts.Books.{Book, Work, book_of, no_work}
+use Rattle.flow_model.specs.Machine.Lists.{change_at}
 use Rattle.flow_model.specs.Machine.Steps.{without_call, logged, sets_in, looks_in, nodes_set, free_slot}
-
--- what the first open call of a node has gathered, found and evaluated as a body
-pub record Work : Type 0 where
-  pub gathered : List (ℕ × Value)
-  pub found : Option Found
-  pub body : Option Value
-
--- a `Core` without its lists of entries and out-edges
-pub record Flow : Type 0 where
-  pub callers : ℕ
-  pub limit : ℕ
-  pub begun : ℕ
-  pub calls : List LiveCall
-  pub works : List Work
-  pub pairs : List Pair
-  pub log : List Logged
 
 -- what contracts see in a `Book`: `rooms` are out, and each node has room for so many gathered values
 pub record Booked : Type 0 where
-  pub flow : Flow
+  pub book : Book
   pub rooms : ℕ
   pub room_for : List ℕ
-
--- ---- the flow of a state
-
-abbrev pub work_of : Cell → Work
-work_of c = record { gathered = c.gathered; found = c.found; body = c.body }
-
-abbrev pub flow_of : Core → Flow
-flow_of s = record { callers = s.callers; limit = s.limit; begun = s.begun; calls = s.calls; works = map work_of s.cells; pairs = s.pairs; log = s.log }
 
 -- a value is gathered for each input and each pick
 abbrev pub room_at : Graph → ℕ → ℕ
@@ -57,15 +35,15 @@ rooms_for graph = map (room_at graph) (numbers graph)
 
 -- the book at opening
 abbrev pub opened_book : Graph → ℕ → ℕ → Booked
-opened_book graph callers limit = record { flow = flow_of (opening graph callers limit); rooms = 0; room_for = rooms_for graph }
+opened_book graph callers limit = record { book = book_of (opening graph callers limit); rooms = 0; room_for = rooms_for graph }
 
 -- ---- readings
 
 abbrev pub call_in : Booked → ℕ → LiveCall
-call_in book t = call_or (call_of book.flow.calls t)
+call_in book t = call_or (call_of book.book.calls t)
 
 abbrev pub live_in : Booked → ℕ → Bool
-live_in book t = is_some (call_of book.flow.calls t)
+live_in book t = is_some (call_of book.book.calls t)
 
 -- the node that a live call looks at next
 abbrev pub next_look_in : Booked → ℕ → Option ℕ
@@ -73,16 +51,13 @@ next_look_in book t = slice_get (call_in book t).looks (length (call_in book t).
 
 -- the live call at a place in the order of beginnings
 abbrev pub call_nth : Booked → ℕ → LiveCall
-call_nth book i = slice_index_or book.flow.calls i no_call
+call_nth book i = slice_index_or book.book.calls i no_call
 
-abbrev pub nodes_in : Booked → ℕ
-nodes_in book = length book.flow.works
+abbrev pub node_count : Booked → ℕ
+node_count book = length book.book.works
 
-abbrev pub no_work : Work
-no_work = record { gathered = []; found = None; body = None }
-
-abbrev pub work_in : Booked → ℕ → Work
-work_in book n = slice_index_or book.flow.works n no_work
+abbrev pub work_at : Booked → ℕ → Work
+work_at book n = slice_index_or book.book.works n no_work
 
 -- No two values are gathered of one node.
 abbrev pub AreApart : List (ℕ × Value) → Type 0
@@ -91,29 +66,24 @@ AreApart (p ∷ ps) = (gathered_of p.0 ps ≡ None) × AreApart ps
 
 -- Another call stops a live one: it comes behind that one, or frames while that one executes.
 abbrev pub stops_in : Booked → ℕ → ℕ → Bool
-stops_in book t u = reaches book.flow.pairs t u || ((call_in book t).executing && (live_in book u && not (call_in book u).executing))
+stops_in book t u = reaches book.book.pairs t u || ((call_in book t).executing && (live_in book u && not (call_in book u).executing))
 
 -- An executing call behind a live one wants the node.
 abbrev pub pressed_in : Booked → ℕ → ℕ → Bool
-pressed_in book t n = list_any (λ c. c.executing && (reaches book.flow.pairs t c.version && is_in n c.wanted)) book.flow.calls
+pressed_in book t n = list_any (λ c. c.executing && (reaches book.book.pairs t c.version && is_in n c.wanted)) book.book.calls
 
 -- ---- changes
 
-abbrev pub with_flow : Booked → Flow → Booked
-with_flow book flow = record book { flow = flow }
+abbrev pub with_book : Booked → Book → Booked
+with_book booked book = record booked { book = book }
 
 -- of one call
 abbrev pub on_call : Booked → ℕ → (LiveCall → LiveCall) → Booked
-on_call book t f = record book { flow = record book.flow { calls = change_call t f book.flow.calls } }
+on_call book t f = record book { book = record book.book { calls = change_call t f book.book.calls } }
 
 -- of the work at one node
-abbrev pub change_at : ℕ → (Work → Work) → List Work → List Work
-change_at n f [] = []
-change_at zero f (w ∷ ws) = f w ∷ ws
-change_at (suc n) f (w ∷ ws) = w ∷ change_at n f ws
-
 abbrev pub on_work : Booked → ℕ → (Work → Work) → Booked
-on_work book n f = record book { flow = record book.flow { works = change_at n f book.flow.works } }
+on_work book n f = record book { book = record book.book { works = change_at n f book.book.works } }
 
 -- The call has the node open, and wants it no more.
 abbrev pub opened_one : ℕ → LiveCall → LiveCall
@@ -123,18 +93,6 @@ opened_one n c = record c { wanted = take_out n c.wanted; open_nodes = put n c.o
 abbrev pub wanting : ℕ → LiveCall → LiveCall
 wanting n c = record c { wanted = elim (is_in n c.open_nodes) [ true ↦ c.wanted | false ↦ put n c.wanted ] }
 
-abbrev pub gather_work : ℕ → Value → Work → Work
-gather_work m v w = record w { gathered = w.gathered ++ (m, v) ∷ [] }
-
-abbrev pub find_work : Found → Work → Work
-find_work found w = record w { found = Some found }
-
-abbrev pub body_work : Value → Work → Work
-body_work v w = record w { body = Some v }
-
-abbrev pub clear_work : Work → Work
-clear_work w = record w { gathered = []; found = None; body = None }
-
 -- a call's reply from what it has changed, evaluated and looked at
 abbrev pub reply_with : ℕ → ℕ → List Value → Call → Reply
 reply_with changed evaluated looked (Fire sets looks) = Fired changed evaluated looked
@@ -142,15 +100,15 @@ reply_with changed evaluated looked (Read looks) = Seen looked
 
 -- the pairs with one of these two calls
 abbrev pub link_calls : Booked → ℕ → ℕ → ℕ → Booked
-link_calls book u v node = record book { flow = record book.flow { pairs = linked book.flow.pairs u v node } }
+link_calls book u v node = record book { book = record book.book { pairs = linked book.book.pairs u v node } }
 
 -- the call and its reply join the log, and its pairs go
 abbrev pub end_call : Booked → ℕ → Booked
 end_call book t = record book {
-  flow = record book.flow {
-    calls = without_call t book.flow.calls;
-    pairs = retired book.flow.pairs t;
-    log = book.flow.log ++ logged (call_in book t) ∷ [];
+  book = record book.book {
+    calls = without_call t book.book.calls;
+    pairs = retired book.book.pairs t;
+    log = book.book.log ++ logged (call_in book t) ∷ [];
   };
 }
 
@@ -188,11 +146,11 @@ begun_call graph caller version slot call = record {
 
 -- the call that begins next in a book
 abbrev pub next_call : Graph → Booked → ℕ → Call → LiveCall
-next_call graph book caller call = begun_call graph caller (suc book.flow.begun) (free_slot book.flow.callers 0 book.flow.calls) call
+next_call graph book caller call = begun_call graph caller (suc book.book.begun) (free_slot book.book.callers 0 book.book.calls) call
 
 -- a call begins, in a room
 abbrev pub begin_call : Graph → Booked → ℕ → Call → Booked
 begin_call graph book caller call = record book {
-  flow = record book.flow { begun = suc book.flow.begun; calls = book.flow.calls ++ next_call graph book caller call ∷ [] };
+  book = record book.book { begun = suc book.book.begun; calls = book.book.calls ++ next_call graph book caller call ∷ [] };
   rooms = book.rooms - 1;
 }
