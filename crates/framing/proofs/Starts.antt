@@ -12,11 +12,11 @@ first_of : (a b : Bool) → (a && b) ≡ true → a ≡ true
 first_of true b h = refl
 first_of false b h = h
 
-frames-live : (s : Core) (t : ℕ) → frames s t ≡ true → live s t ≡ true
+frames-live : (s : Core) (t : ℕ) → is_framing s t ≡ true → live s t ≡ true
 frames-live s t h = first_of (live s t) _ h
 
-start-frames : (graph : Graph) (s : Core) (t : ℕ) → allowed graph s (Start t) ≡ true → frames s t ≡ true
-start-frames graph s t h = first_of (frames s t) _ (first_of _ _ h)
+start-frames : (graph : Graph) (s : Core) (t : ℕ) → allowed graph s (Start t) ≡ true → is_framing s t ≡ true
+start-frames graph s t h = first_of (is_framing s t) _ (first_of _ _ h)
 
 pub start-live : (book : Booked) (t : ℕ) → (graph : Graph) × IsBookStep graph book (Start t) → live_in book t ≡ true
 start-live book t h = let s = h.1.state in subst (λ (f : Book). live_in (record book { book = f }) t ≡ true) (sym h.1.fits.parts) (frames-live s t (start-frames h.0 s t h.1.allowed))

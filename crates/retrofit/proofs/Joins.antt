@@ -16,7 +16,7 @@ joins graph s t n m book new list new_list fits is h made =
     record {
       lawful = fits.lawful;
       allowed = h;
-      flow = ap (λ (b : Booked). b.book) told.0;
+      parts = ap (λ (b : Booked). b.book) told.0;
       room_for = ap (λ (b : Booked). b.room_for) told.0 ∙ fits.room_for;
       is_list = told.1;
     }

@@ -72,7 +72,7 @@ pub calls-distinct : (s : Core) → VersionsAreFresh s → AreDistinct (map (λ 
 calls-distinct s h x = let r = h.distinct x in let e = times-append x (map (λ (c : LiveCall). c.version) s.calls) (versions_in s.log) in omega (arith, r, e)
 
 -- There are fewer live calls than callers.
-few-calls : (graph : Graph) (s : Core) → IsLawful graph s → (caller : ℕ) → 1 ≤ caller → caller ≤ s.callers → has_call caller s.calls ≡ false → length s.calls < s.callers
+pub few-calls : (graph : Graph) (s : Core) → IsLawful graph s → (caller : ℕ) → 1 ≤ caller → caller ≤ s.callers → has_call caller s.calls ≡ false → length s.calls < s.callers
 few-calls graph s h caller a b none =
     let cs = map (λ (c : LiveCall). c.caller) s.calls in
     let d = field-distinct (λ c. c.caller) s.calls (calls-distinct s h.versions_are_fresh) (λ u v k l e. h.room_is_kept.callers_apart u v k l e) in
@@ -92,7 +92,7 @@ few-calls graph s h caller a b none =
     inside : (x : ℕ) → Holder (λ c. c.caller) s.calls x → (1 ≤ x) × (x < 1 + s.callers)
     inside x p = let f = h.room_is_kept.callers_fit p.version p.known in subst (λ (k : ℕ). (1 ≤ k) × (k < 1 + s.callers)) p.value (f.0, (let g = f.1 in omega (arith, g)))
 
-slot-free : (graph : Graph) (s : Core) → IsLawful graph s → length s.calls < s.callers → IsFreeSlot s.callers 0 s.calls
+pub slot-free : (graph : Graph) (s : Core) → IsLawful graph s → length s.calls < s.callers → IsFreeSlot s.callers 0 s.calls
 slot-free graph s h few = go (find-slot s.callers 0 s.calls)
   where
     go : IsFreeSlot s.callers 0 s.calls ⊎ ((x : ℕ) → 0 ≤ x → x < 0 + s.callers → uses_slot x s.calls ≡ true) → IsFreeSlot s.callers 0 s.calls
