@@ -19,7 +19,7 @@ use Rattle.flow_model.proofs.OneStep.WhoMayStep.{due-can_work}
 use Rattle.flow_model.proofs.OneStep.WhoMayStep.{can_work-at_front}
 use Rattle.flow_model.proofs.OrderStays.OpenNodesHaveFrames.{entry-there}
 use Rattle.flow_model.proofs.Opening.OpeningLists.{nodes-at}
-use Rattle.flow_state.specs.Booked.{AreApart, Booked, nodes_in as nodes_of, work_at, on_work, room_at}
+use Rattle.flow_state.specs.Booked.{AreApart, Booked, node_count as nodes_of, work_at, on_work, room_at}
 use Rattle.flow_model.specs.Parts.Books.{Work, book_of, with_gathered, Book}
 use Rattle.flow_state.specs.Fitting.{IsBookOf, IsListStep, MakesRead}
 use Rattle.flow_state.proofs.Fits.{fits_node, same_work, works-change, lawful_up_to, heads_has}
