@@ -13,7 +13,7 @@ use Rattle.flow_model.proofs.OneStep.WhoMayStep.{can_work-at_front}
 use Rattle.flow_state.specs.Booked.{Booked, with_book}
 use Rattle.flow_state.specs.Fitting.{IsBookOf, IsListStep, MakesList, list_of, choosers}
 use Rattle.flow_state.specs.Joining.{MakesJoined}
-use Rattle.dynamic_edges.specs.Marking.{CanMark, SomeCanMark, Marks}
+use Rattle.entering.specs.Marking.{CanMark, SomeCanMark, Marks}
 use Rattle.dynamic_edges.proofs.Cells.{inside, changed-at, same-flow, marked-length, marked-outs}
 use Rattle.dynamic_edges.proofs.EdgeRoom.{edge-room, discover-no_edge}
 

@@ -6,7 +6,7 @@ ghost use Rattle.flow_model.specs.declared.step.Step.TheVariants as step;
 ghost use Rattle.flow_state.specs.Fitting.{IsListStep};
 ghost use Rattle.flow_state.specs.Joining.{MakesJoined};
 
-use crate::marking::ensure_mark;
+use entering::ensure_mark;
 use flow_state::Book;
 use node_versions::NodeList;
 

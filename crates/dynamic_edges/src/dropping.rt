@@ -8,7 +8,7 @@ ghost use Rattle.flow_model.specs.Machine.Changes.{remove_first};
 ghost use Rattle.flow_state.specs.Fitting.{IsListStep, MakesList};
 ghost use Rattle.dynamic_edges.specs.Edges.{first_since};
 
-use crate::marking::ensure_mark;
+use entering::ensure_mark;
 use flow_state::Book;
 use node_versions::NodeList;
 

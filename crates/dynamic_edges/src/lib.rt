@@ -6,4 +6,3 @@ pub use dropping::drop_choice;
 
 mod discovering;
 mod dropping;
-mod marking;

@@ -24,10 +24,10 @@ use Rattle.flow_model.proofs.OneList.OneEntryACall.{placed-has}
 use Rattle.flow_state.specs.Booked.{Booked, live_in, node_count, with_book, on_call, opened_one}
 use Rattle.flow_model.specs.Parts.Books.{Work, work_in, book_of, Book}
 use Rattle.flow_state.specs.Fitting.{IsBookOf, IsListStep, MakesList, list_of, choosers}
-use Rattle.framing.specs.Entering.{CanEnter, Enters}
+use Rattle.entering.specs.Entering.{CanEnter, Enters}
 use Rattle.framing.specs.Framed.{wanting_all, with_frame, CanFrame, SomeCanFrame, TakesFrame, AreBelow, EdgesBelow}
-use Rattle.framing.proofs.Places.{cell-changed}
-use Rattle.framing.proofs.Entrances.{works-kept}
+use Rattle.entering.proofs.Places.{cell-changed}
+use Rattle.entering.proofs.Entrances.{works-kept}
 use Rattle.framing.proofs.Wanting.{on-twice, all-append, opened-all, all-version}
 
 -- ---- where the step is allowed

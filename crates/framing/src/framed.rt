@@ -7,7 +7,7 @@ ghost use Rattle.flow_state.specs.Booked.{live_in, node_count, on_call};
 ghost use Rattle.flow_state.specs.Fitting.{IsListStep, MakesList};
 ghost use Rattle.framing.specs.Framed.{SomeCanFrame, TakesFrame, wanting_all, AreBelow, EdgesBelow};
 
-use crate::entry::enter;
+use entering::enter;
 use flow_state::Book;
 use node_versions::{NodeList, State};
 use signal_graph::graph::Graph;

@@ -2,11 +2,9 @@
 #![tactic(auto)]
 
 pub use beginning::begin;
-pub use entry::enter;
 pub use framed::frame;
 pub use starting::start;
 
 mod beginning;
-mod entry;
 mod framed;
 mod starting;

@@ -9,7 +9,7 @@ use Rattle.flow_model.specs.Machine.Steps.{allowed}
 use Rattle.flow_model.proofs.OneStep.WhoMayStep.{and_left, and_right, mark-executes, mark-no_entry, executes-live}
 use Rattle.flow_state.specs.Booked.{Booked}
 use Rattle.flow_state.specs.Fitting.{IsBookOf, IsListStep, MakesList, list_of}
-use Rattle.framing.specs.Entering.{CanEnter, SomeCanEnter, Enters}
+use Rattle.entering.specs.Entering.{CanEnter, SomeCanEnter, Enters}
 
 some_inside : (n : ℕ) (cs : List Cell) → 0 < length (slice_index_or cs n no_cell).entries → n < length cs
 some_inside n [] h = absurd (omega (arith, h))

@@ -4,7 +4,7 @@ use Rattle.flow_model.specs.Machine.State.{Core, no_cell}
 use Rattle.flow_model.specs.Machine.Steps.{apply}
 use Rattle.std.specs.Prelude.{slice_index_or}
 use Rattle.interleave_core.specs.Whole.{Whole, state_of}
-use Rattle.framing.proofs.Places.{cell-changed}
+use Rattle.entering.proofs.Places.{cell-changed}
 use Rattle.interleave_core.proofs.Fits.{fits, list_fits, made_by_list, whole_with_list, works-many, framed_cell, frame_cells, frame_callers, length-changed, seen_lawful, seen_allowed}
 use Rattle.interleave_core.proofs.machine.Core.frame.Goals as goal
 

@@ -21,8 +21,8 @@ use Rattle.flow_model.specs.Kept.Lawful.{ended_before}
 use Rattle.flow_state.specs.Booked.{Booked, live_in, call_in, stops_in}
 use Rattle.flow_model.specs.Parts.Books.{Work, work_in, book_of, Book}
 use Rattle.flow_state.specs.Fitting.{IsBookOf, choosers}
-use Rattle.framing.specs.Entering.{CanEnter, Enters, stops_entry, link_if, link_before, link_behind, CanLinkBefore, CanLinkBehind}
-use Rattle.framing.proofs.Places.{place-same, take-front, drop-rest, cell-changed}
+use Rattle.entering.specs.Entering.{CanEnter, Enters, stops_entry, link_if, link_before, link_behind, CanLinkBefore, CanLinkBehind}
+use Rattle.entering.proofs.Places.{place-same, take-front, drop-rest, cell-changed}
 
 -- ---- the same words of a book and of its state
 

@@ -1,5 +1,5 @@
-use Rattle.framing.proofs.Entrances.{place-is, can_link_left, can_link_right, enters}
-use Rattle.framing.proofs.entry.enter.Goals as goal
+use Rattle.entering.proofs.Entrances.{place-is, can_link_left, can_link_right, enters}
+use Rattle.entering.proofs.entry.enter.Goals as goal
 
 pub link_left-requires-clause-can : goal.link_left-requires-clause-can
 link_left-requires-clause-can c =

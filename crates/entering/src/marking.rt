@@ -1,13 +1,13 @@
 // A call has an entry in a list.
 
-ghost use Rattle.dynamic_edges.specs.Marking.{SomeCanMark, Marks};
+ghost use Rattle.entering.specs.Marking.{SomeCanMark, Marks};
 
 use flow_state::Book;
-use framing::enter;
+use crate::entry::enter;
 use node_versions::{NodeList, State};
 
 /// A live call enters a node's list as a Mark, unless it has an entry there. Takes no memory.
-pub(crate) fn ensure_mark(book: &mut Book, list: &mut NodeList, version: u32, node: u32)
+pub fn ensure_mark(book: &mut Book, list: &mut NodeList, version: u32, node: u32)
     requires { SomeCanMark book.old node list.old version }
     ensures { Marks book.old node list.old version book.new list.new }
 {

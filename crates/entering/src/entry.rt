@@ -4,7 +4,7 @@ ghost use Rattle.std.specs.Prelude.{◌≡◌, ◌≤◌, true, length, take, dr
 ghost use Rattle.std.specs.List.{position_or_len};
 ghost use Rattle.flow_model.specs.Machine.Changes.{first_version, last_version};
 ghost use Rattle.flow_state.specs.Booked.{live_in};
-ghost use Rattle.framing.specs.Entering.{SomeCanEnter, Enters, stops_entry, link_before, link_behind, CanLinkBefore, CanLinkBehind};
+ghost use Rattle.entering.specs.Entering.{SomeCanEnter, Enters, stops_entry, link_before, link_behind, CanLinkBefore, CanLinkBehind};
 
 use flow_state::Book;
 use node_versions::{Entry, NodeList, State};

@@ -9,8 +9,8 @@ use Rattle.flow_model.specs.Machine.Changes.{ensure_mark, enter}
 use Rattle.flow_state.specs.Booked.{Booked, with_book}
 use Rattle.flow_model.specs.Parts.Books.{book_of}
 use Rattle.flow_state.specs.Fitting.{list_of}
-use Rattle.framing.specs.Entering.{CanEnter, SomeCanEnter, Enters}
-use Rattle.dynamic_edges.specs.Marking.{CanMark, SomeCanMark, Marks}
+use Rattle.entering.specs.Entering.{CanEnter, SomeCanEnter, Enters}
+use Rattle.entering.specs.Marking.{CanMark, SomeCanMark, Marks}
 
 has-list : (graph : Graph) (s : Core) (n t : ℕ) (list : Versions) → list ≡ list_of graph s n → has list.entries t ≡ has (entries s n) t
 has-list graph s n t list is = ap (λ (l : Versions). has l.entries t) is
