@@ -6,7 +6,6 @@ pub use found::{Finding, Found, FoundList};
 pub use job::Job;
 pub use outcome::{Answer, Outcome};
 pub use room::Room;
-pub use same::is_same;
 
 mod asked;
 mod book;
@@ -15,7 +14,6 @@ mod job;
 mod outcome;
 mod room;
 mod row;
-mod same;
 mod seat;
 mod seating;
 mod shelf;

@@ -11,10 +11,11 @@ ghost use Rattle.flow_state.specs.Found.{found_of};
 ghost use Rattle.flow_state.specs.Fitting.{IsListStep, MakesList};
 ghost use Rattle.fold_nodes.specs.Given.{given_value, value_given};
 
-use flow_state::{Book, Finding, is_same};
+use flow_state::{Book, Finding};
 use node_versions::NodeList;
 use script_tree::picks::Picks;
 use script_tree::value::{Fault, Value};
+use signal_graph::compare::is_same;
 
 /// What a fold's script reads as `acc` for the call: the node's value before it. Takes no memory.
 pub fn fold_acc(list: &NodeList, version: u32) -> Value

@@ -4,39 +4,14 @@ ghost use Rattle.std.specs.Prelude.{◌≡◌, [], ◌∷◌};
 ghost use Rattle.std.specs.List.{list_any};
 ghost use Rattle.signal_graph.specs.Graph.{inputs_of, is_source};
 ghost use Rattle.signal_graph.specs.Values.{at, nodes_in, picks_of};
-ghost use Rattle.signal_graph.specs.Machine.{same, same_fault, differs};
+ghost use Rattle.signal_graph.specs.Machine.{differs};
 ghost use Rattle.serial_machine.specs.Between.{is_evaluated};
 
 use script_tree::picks::Picks;
-use script_tree::value::{Fault, Value};
+use script_tree::value::Value;
+use signal_graph::compare::is_same;
 use signal_graph::evaluate::value_at;
 use signal_graph::node::Node;
-
-fn is_same_fault(left: Fault, right: Fault) -> bool
-    ensures { result ≡ same_fault left right }
-{
-    left == right
-}
-
-/// Whether two values are equal. A fault is equal to one of its kind.
-pub fn is_same(left: Value, right: Value) -> bool
-    ensures { result ≡ same left right }
-{
-    match left {
-        Value::Int(x) => match right {
-            Value::Int(y) => x == y,
-            _ => false,
-        },
-        Value::Bool(a) => match right {
-            Value::Bool(b) => a == b,
-            _ => false,
-        },
-        Value::Fault(f) => match right {
-            Value::Fault(g) => is_same_fault(f, g),
-            _ => false,
-        },
-    }
-}
 
 fn differs(before: &[Value], now: &[Value], node: u32) -> bool
     ensures { result ≡ differs before.now now.now node }

@@ -10,9 +10,10 @@ ghost use Rattle.signal_graph.specs.OnePass.{new_value, new_from};
 ghost use Rattle.serial_machine.specs.State.{ArePicks};
 ghost use Rattle.serial_machine.specs.Between.{one_if, is_evaluated, count_changed, count_evaluated};
 
-use crate::compare::{is_evaluated, is_same};
+use crate::compare::is_evaluated;
 use script_tree::picks::Picks;
 use script_tree::value::Value;
+use signal_graph::compare::is_same;
 use signal_graph::evaluate::{Evaluated, run, value_at};
 use signal_graph::graph::Graph;
 use signal_graph::node::Node;

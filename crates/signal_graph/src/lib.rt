@@ -3,6 +3,7 @@
 
 pub mod builder;
 pub mod call;
+pub mod compare;
 pub mod evaluate;
 pub mod graph;
 pub mod laws;

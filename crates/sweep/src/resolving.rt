@@ -9,10 +9,11 @@ ghost use Rattle.flow_state.specs.Found.{found_of, selection_of};
 ghost use Rattle.flow_state.specs.Fitting.{IsListStep, MakesList};
 ghost use Rattle.sweep.specs.NewValues.{gathered_value, found_value, new_value};
 
-use flow_state::{Book, Finding, Found, FoundList, is_same};
+use flow_state::{Book, Finding, Found, FoundList};
 use node_versions::NodeList;
 use script_tree::picks::Picks;
 use script_tree::value::{Fault, Value};
+use signal_graph::compare::is_same;
 use signal_graph::graph::Graph;
 use signal_graph::node::Node;
 

@@ -1,4 +1,4 @@
-// Equal values.
+//! Whether two values are equal.
 
 ghost use Rattle.std.specs.Prelude.{◌≡◌};
 ghost use Rattle.signal_graph.specs.Machine.{same, same_fault};
@@ -11,7 +11,7 @@ fn is_same_fault(left: Fault, right: Fault) -> bool
     left == right
 }
 
-/// Whether two values are equal. A fault is equal to one of its kind.
+/// Whether two values are equal. A fault is equal to one of its kind alone.
 pub fn is_same(left: Value, right: Value) -> bool
     ensures { result ≡ same left right }
 {
