@@ -1,6 +1,10 @@
-use Rattle.std.proofs.Common.{◌≡◌, map, take, drop, ◌++◌}
+use Rattle.std.proofs.Common.{length, ◌-◌}
 use Rattle.std.specs.FinSet as set
+use Rattle.order_graph.proofs.KeptLemmas.{ChangedBelow}
 use Rattle.order_graph.proofs.order.take_out.Given as goal
 
-abbrev pub invariant-loop-set : goal.invariant-loop-set
-invariant-loop-set l = l.sets ≡ map (λ s. set.remove s l.slot) (take l.set-index l.initial.sets) ++ drop l.set-index l.initial.sets
+abbrev pub invariant-loop-member : goal.invariant-loop-member
+invariant-loop-member l = ChangedBelow l.from (λ s. set.remove s l.slot) l.members l.initial.sets l.sets
+
+abbrev pub decreases-loop-member : goal.decreases-loop-member
+decreases-loop-member l = length l.sets - l.from
