@@ -13,16 +13,11 @@ use Rattle.std.proofs.lemmas.List.Folds.{find-append, list_any-append}
 use Rattle.std.proofs.lemmas.Map.Views.{any-filter_same}
 use Rattle.std.proofs.lemmas.Map.Steps.{length-le_from_distinct_below}
 use Rattle.std.proofs.lemmas.Nat.{mul-add-lt, same_from_place}
-use Rattle.order_graph.specs.Slots.{Slots, IsLeastFrom, HasNoneFrom}
+use Rattle.order_graph.specs.Slots.{Slots, IsLeastFrom, HasNoneFrom, HasAllBelow, slots_at, changed}
 use Rattle.order_graph.specs.Order.{Pair, joins, is_recorded, node_of, Precedes, retired, AreApart, IsNextBefore}
 use Rattle.order_graph.specs.Order.Precedes.{by_pair, by_chain}
-use Rattle.order_graph.specs.Kept.{slots_at, has, AreOfSlots, AreMirrored, IsKept, IsPassedOn, HasAllBelow, changed}
+use Rattle.order_graph.specs.Kept.{has, AreOfSlots, AreMirrored, IsKept, IsPassedOn}
 use Rattle.order_graph.proofs.Closure.{Adds, Drops, Precedes-join, masks_added, masks_dropped, last_pair, Precedes-fewer, no_cycle-added}
-
--- the sets of the members below i have changed, and the rest are as they were
-pub record ChangedBelow (i : ℕ) (change : Slots → Slots) (members : Slots) (old new : List Slots) : Type 0 where
-  pub done : (y : ℕ) → y < i → slots_at new y ≡ changed change old members y
-  pub rest : (y : ℕ) → i ≤ y → slots_at new y ≡ slots_at old y
 
 -- what a list is after a loan of the whole of it
 pub whole_slice : {X : Type 0} (len : ℕ) (new old : List X) → length new ≡ length old → len ≡ length old → take len (new ++ drop (length new) old) ≡ new
@@ -68,42 +63,6 @@ or_pick false false false = refl
 cond_has : (c : Bool) (s t : Slots) (x : ℕ) → finset.contains (cond c s t) x ≡ cond c (finset.contains s x) (finset.contains t x)
 cond_has true s t x = refl
 cond_has false s t x = refl
-
--- ---- the sets of members change
-
-member_changed : (change : Slots → Slots) (members : Slots) (old : List Slots) (y : ℕ) → finset.contains members y ≡ true → changed change old members y ≡ change (slots_at old y)
-member_changed change members old y h = ap (λ t. cond t (change (slots_at old y)) (slots_at old y)) h
-
-other_stays : (change : Slots → Slots) (members : Slots) (old : List Slots) (y : ℕ) → finset.contains members y ≡ false → changed change old members y ≡ slots_at old y
-other_stays change members old y h = ap (λ t. cond t (change (slots_at old y)) (slots_at old y)) h
-
--- the next member's set changes
-pub change_more : (i q : ℕ) (change : Slots → Slots) (members : Slots) (old new : List Slots) (s : Slots) → q < length new → IsLeastFrom members i q → s ≡ change (slots_at new q) → ChangedBelow i change members old new → ChangedBelow (q + 1) change members old (set new q s)
-change_more i q change members old new s fits least is below =
-    let above = least.at_or_above in
-    record {
-      done = λ y h. elim (cases_eq y q) [
-        | inl same ↦
-            ap (slots_at (set new q s)) same
-            ∙ get_or-set_same new q s finset.empty fits
-            ∙ is
-            ∙ ap change (below.rest q above)
-            ∙ sym (member_changed change members old q least.found)
-            ∙ ap (changed change old members) (sym same)
-        | inr other ↦ get_or-set_other new q y s finset.empty other ∙ elim (cases_lt y i) [
-          | inl before ↦ below.done y before
-          | inr from ↦ below.rest y from ∙ sym (other_stays change members old y (least.least y from (omega arith)))
-        ]
-      ];
-      rest = λ y h. get_or-set_other new q y s finset.empty (λ e. omega arith) ∙ below.rest y (omega arith);
-    }
-
--- past the last member all sets have changed that do
-pub all_changed : (i : ℕ) (change : Slots → Slots) (members : Slots) (old new : List Slots) → HasNoneFrom members i → ChangedBelow i change members old new → (y : ℕ) → slots_at new y ≡ changed change old members y
-all_changed i change members old new none below y = elim (cases_lt y i) [
-  | inl before ↦ below.done y before
-  | inr from ↦ below.rest y from ∙ sym (other_stays change members old y (none y from))
-]
 
 -- ---- a pair joins
 

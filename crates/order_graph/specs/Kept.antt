@@ -1,13 +1,9 @@
 -- How an order is kept: the pairs, for each slot the set of its direct predecessors, a table of nodes, and the masks.
-use Rattle.std.specs.Prelude.{◌≡◌, ℕ, ◌+◌, ◌*◌, ◌<◌, ◌≤◌, if◌then◌else◌, Bool, ◌==◌, ◌&&◌, ◌||◌, List, length, Some, slice_index, slice_index_or, IsTrue}
+use Rattle.std.specs.Prelude.{◌≡◌, ℕ, ◌+◌, ◌*◌, ◌<◌, ◌≤◌, Bool, ◌==◌, ◌&&◌, ◌||◌, List, length, Some, slice_index, IsTrue}
 use Rattle.std.specs.List.{AllByRecursion}
 use Rattle.std.specs.FinSet as set
-use Rattle.order_graph.specs.Slots.{Slots}
+use Rattle.order_graph.specs.Slots.{Slots, slots_at}
 use Rattle.order_graph.specs.Order.{Pair, is_recorded, node_of, Order, Precedes, MasksAreClosure, AreApart}
-
--- the set of slot b
-abbrev pub slots_at : List Slots → ℕ → Slots
-slots_at sets b = slice_index_or sets b set.empty
 
 -- each pair is of slots
 abbrev pub AreOfSlots : ℕ → List Pair → Type 0
@@ -47,11 +43,3 @@ pub record IsKept (callers capacity : ℕ) (pairs : List Pair) (earlier : List S
 -- After a pair of a and b joins, x is in the mask of y where it was, or where x is a or precedes it and y is b or comes after it.
 abbrev pub IsPassedOn : List Slots → List Slots → ℕ → ℕ → Type 0
 IsPassedOn old new a b = (x y : ℕ) → has new x y ≡ (has old x y || (((x == a) || has old x a) && ((y == b) || has old b y)))
-
--- each member of the set is below n
-abbrev pub HasAllBelow : Slots → ℕ → Type 0
-HasAllBelow members n = (y : ℕ) → IsTrue (set.contains members y) → y < n
-
--- the set of y after the set of each member has changed
-abbrev pub changed : (Slots → Slots) → List Slots → Slots → ℕ → Slots
-changed change sets members y = if set.contains members y then change (slots_at sets y) else slots_at sets y

@@ -2,11 +2,11 @@
 ghost use Rattle.std.specs.Prelude.{◌≡◌, ◌≢◌, ℕ, ◌*◌, ◌<◌, ◌≤◌, ◌↔◌, map, replicate, length, vec_len, vec_capacity, IsTrue, IfOk, IfSome, IfNone};
 ghost use Rattle.std.specs.FinSet as set;
 ghost use Rattle.order_graph.specs.Order.{Precedes, reaches, is_recorded, node_of, linked, retired, mask_of, MasksAreClosure, without_pairs, AreApart, IsNextBefore};
-ghost use Rattle.order_graph.specs.Kept.{slots_at, AreOfSlots, AreMirrored, IsPassedOn, HasAllBelow, changed};
+ghost use Rattle.order_graph.specs.Kept.{AreOfSlots, AreMirrored, IsPassedOn};
 
 use crate::MAX_CALLERS;
 use crate::pair::Pair;
-use crate::slot_set::SlotSet;
+use crate::slot_set::{SlotSet, join_each, take_out};
 use script_tree::memory::OutOfMemory;
 use std::alloc::{AllocError, Global};
 use std::marker::Model;
@@ -136,8 +136,7 @@ impl OrderGraph {
         }
         let later = mem::replace(&mut self.after[a as usize], SlotSet::new());
         remove_pairs(&mut self.pairs, a);
-        take_out(self.direct.as_mut_slice(), &later, a);
-        take_out(self.before.as_mut_slice(), &later, a);
+        take_out(self.direct.as_mut_slice(), self.before.as_mut_slice(), &later, a);
     }
 
     /// What holds of every order: the number of callers is 1 to 256, the pairs are of slots and no two of the same
@@ -183,33 +182,6 @@ fn pass_on(before: &mut [SlotSet], after: &mut [SlotSet], a: u32, b: u32)
     later.insert(b);
     join_each(before, &later, &earlier);
     join_each(after, &earlier, &later);
-}
-
-// Adds all of `more` to the set of each member.
-fn join_each(sets: &mut [SlotSet], members: &SlotSet, more: &SlotSet)
-    requires few { length sets.old ≤ MAX_CALLERS }
-    requires inside { HasAllBelow members.now (length sets.old) }
-    ensures { (y : ℕ) → y < length sets.old → slots_at sets.new y ≡ changed (λ s. set.union s more.now) sets.old members.now y }
-{
-    let mut from = 0;
-    while let Some(member) = members.least_from(from) {
-        sets[member as usize].join(more);
-        from = member + 1;
-    }
-}
-
-// Takes the slot out of the set of each member.
-fn take_out(sets: &mut [SlotSet], members: &SlotSet, slot: u32)
-    requires few { length sets.old ≤ MAX_CALLERS }
-    requires inside { HasAllBelow members.now (length sets.old) }
-    requires slot { slot < MAX_CALLERS }
-    ensures { (y : ℕ) → y < length sets.old → slots_at sets.new y ≡ changed (λ s. set.remove s slot) sets.old members.now y }
-{
-    let mut from = 0;
-    while let Some(member) = members.least_from(from) {
-        sets[member as usize].remove(slot);
-        from = member + 1;
-    }
 }
 
 // Takes out the pairs of slot a. The others keep their order.

@@ -19,23 +19,16 @@ take_out-requires-clause-inside c = λ y h.
     c.args.a c.index_mut.result.now c.replace-later.result c.self.invariant few c.index_mut.ensures.value c.replace-later.ensures.value y h in
     omega (arith, below, c.self.invariant.sets)
 
-pub take_out-requires-2-clause-inside : goal.take_out-requires-2-clause-inside
-take_out-requires-2-clause-inside c = λ y h.
-    let few : c.args.a < c.self.inside.callers = omega (arith, ap (λ o. o.callers) c.self.view_is) in
-    let below = later_slots c.self.inside.callers (vec_capacity c.self.inside.pairs) c.self.inside.pairs.items c.self.inside.direct.items c.self.inside.nodes.items c.self.inside.before.items c.self.inside.after.items
-    c.args.a c.index_mut.result.now c.replace-later.result c.self.invariant few c.index_mut.ensures.value c.replace-later.ensures.value y h in
-    omega (arith, below, c.self.invariant.masks)
-
 pub invariant_of-self : goal.invariant_of-self
 invariant_of-self c =
     let few : c.args.a < c.self.inside.callers = omega (arith, ap (λ o. o.callers) c.self.view_is) in
     let P = λ (o : Order). (x : ℕ) → ¬ (Precedes o.pairs x c.args.a) in
     after_retire c.self.inside.callers (vec_capacity c.self.inside.pairs) (vec_capacity c.remove_pairs.new.pairs) c.self.inside.pairs.items c.remove_pairs.new.pairs.items c.self.inside.direct.items c.self.inside.nodes.items c.self.inside.before.items c.self.inside.after.items
-    c.as_mut_slice.result.now c.take_out.new.sets _ c.as_mut_slice-2.result.now c.take_out-2.new.sets _ c.args.a c.index_mut.result.now c.replace-later.result _
+    c.as_mut_slice.result.now c.take_out.new.sets _ c.as_mut_slice-2.result.now c.take_out.new.others _ c.args.a c.index_mut.result.now c.replace-later.result _
     c.self.invariant c.remove_pairs.ensures.capacity (subst P (sym c.self.view_is) c.requires.first) few c.remove_pairs.ensures.pairs
     c.index_mut.ensures.value c.replace-later.ensures.value (c.replace-later.ensures.after ∙ c.new.ensures)
-    c.as_mut_slice.ensures.value (omega arith) c.take_out.ensures (whole_slice c.self.inside.direct.len c.take_out.new.sets c.self.inside.direct.items (omega arith) (omega arith))
-    c.as_mut_slice-2.ensures.value (omega arith) c.take_out-2.ensures (whole_slice c.self.inside.before.len c.take_out-2.new.sets c.self.inside.before.items (omega arith) (omega arith))
+    c.as_mut_slice.ensures.value (omega arith) c.take_out.ensures.sets (whole_slice c.self.inside.direct.len c.take_out.new.sets c.self.inside.direct.items (omega arith) (omega arith))
+    c.as_mut_slice-2.ensures.value (omega arith) c.take_out.ensures.others (whole_slice c.self.inside.before.len c.take_out.new.others c.self.inside.before.items (omega arith) (omega arith))
 
 pub returns-clause-masks : goal.returns-clause-masks
 returns-clause-masks c = (invariant_of-self c).closure
