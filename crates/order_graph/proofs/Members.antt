@@ -1,11 +1,11 @@
 -- The sets of a set's members, which change one after the other.
-use Rattle.std.proofs.Common.{◌≡◌, ℕ, ◌+◌, ◌-◌, ◌*◌, inl, inr, ◌%◌, ◌^◌, ◌<◌, ◌≤◌, true, false, cond, List, length, get_or, set, bit_and, w64, refl, sym, ap, ◌∙◌, subst, arith}
+use Rattle.std.proofs.Common.{◌≡◌, ℕ, ◌+◌, ◌-◌, ◌*◌, inl, inr, ◌/◌, ◌%◌, ◌^◌, ◌<◌, ◌≤◌, true, false, cond, List, length, get_or, set, bit_and, w64, refl, sym, ap, ◌∙◌, subst, arith, zero, suc}
 use Rattle.std.specs.Int.{bit_at, trailing_zeros}
 use Rattle.std.specs.FinSet as finset
 use Rattle.std.proofs.lemmas.Bool.{cases_lt, cases_eq}
 use Rattle.std.proofs.lemmas.List.{get_or-set_same, get_or-set_other, get_or_default}
-use Rattle.std.proofs.lemmas.Nat.{and_le_l}
-use Rattle.std.proofs.lemmas.Nat.Bits.{bit_at_clear_same, bit_at_clear_other, bit_at-trailing_zeros, bit_at-zero}
+use Rattle.std.proofs.lemmas.Nat.{and_le_r}
+use Rattle.std.proofs.lemmas.Nat.Bits.{bit_at_and, bit_at_lowest, bit_at-suc, bit_at-trailing_zeros, bit_at-zero}
 use Rattle.order_graph.specs.Slots.{Slots, slots_of, IsLowestBit, IsLeastFrom, HasAllBelow, slots_at, changed}
 use Rattle.order_graph.proofs.SlotLemmas.{least_in_word, no_slot, clear_in_word}
 
@@ -49,7 +49,46 @@ pub record IsRest (word rest low : ℕ) : Type 0 where
 
 -- the word without its lowest bit
 abbrev cleared : ℕ → ℕ
-cleared rest = bit_and rest (2 ^ 64 - 1 - 1 * 2 ^ trailing_zeros w64 rest % 2 ^ 64)
+cleared rest = bit_and rest (rest - 1)
+
+-- one less has no bit at t, and above t the same bits
+abbrev SameAbove : ℕ → ℕ → Type 0
+SameAbove t n = (bit_at (n - 1) t ≡ 0) × ((i : ℕ) → t < i → bit_at (n - 1) i ≡ bit_at n i)
+
+odd_less : (n : ℕ) → n % 2 ≡ 1 → SameAbove 0 n
+odd_less n odd = (bit_at_lowest (n - 1) ∙ omega (arith, odd), above)
+  where
+    above : (i : ℕ) → 0 < i → bit_at (n - 1) i ≡ bit_at n i
+    above zero h = absurd (omega arith)
+    above (suc i) h = let half : (n - 1) / 2 ≡ n / 2 = omega (arith, odd) in bit_at-suc (n - 1) i ∙ ap (λ m. bit_at m i) half ∙ sym (bit_at-suc n i)
+
+even_less : (t n : ℕ) → n % 2 ≡ 0 → SameAbove t (n / 2) → SameAbove (suc t) n
+even_less t n even less = (bit_at-suc (n - 1) t ∙ ap (λ m. bit_at m t) half ∙ less.0, above)
+  where
+    half : (n - 1) / 2 ≡ n / 2 - 1
+    half = omega (arith, even)
+
+    above : (i : ℕ) → suc t < i → bit_at (n - 1) i ≡ bit_at n i
+    above zero h = absurd (omega arith)
+    above (suc i) h = bit_at-suc (n - 1) i ∙ ap (λ m. bit_at m i) half ∙ less.1 i (omega arith) ∙ sym (bit_at-suc n i)
+
+-- where t is the lowest bit
+one_less : (t n : ℕ) → bit_at n t ≡ 1 → ((i : ℕ) → i < t → bit_at n i ≡ 0) → SameAbove t n
+one_less zero n one none = odd_less n (sym (bit_at_lowest n) ∙ one)
+one_less (suc t) n one none = even_less t n (sym (bit_at_lowest n) ∙ none 0 (omega arith)) (one_less t (n / 2) (sym (bit_at-suc n t) ∙ one) (λ i h. sym (bit_at-suc n i) ∙ none (suc i) (omega arith)))
+
+-- the bits when the lowest is cleared
+cleared_bits : (n t : ℕ) → bit_at n t ≡ 1 → ((i : ℕ) → i < t → bit_at n i ≡ 0) → ((i : ℕ) → i < t + 1 → bit_at (cleared n) i ≡ 0) × ((i : ℕ) → t < i → bit_at (cleared n) i ≡ bit_at n i)
+cleared_bits n t one none = (gone, stays)
+  where
+    gone : (i : ℕ) → i < t + 1 → bit_at (cleared n) i ≡ 0
+    gone i h = bit_at_and n (n - 1) i ∙ elim (cases_eq i t) [
+      | inl at ↦ let z : bit_at (n - 1) i ≡ 0 = ap (bit_at (n - 1)) at ∙ (one_less t n one none).0 in omega arith
+      | inr other ↦ let z = none i (omega arith) in omega arith
+    ]
+
+    stays : (i : ℕ) → t < i → bit_at (cleared n) i ≡ bit_at n i
+    stays i h = let same = (one_less t n one none).1 i h in bit_at_and n (n - 1) i ∙ omega arith
 
 pub all_left : (word : ℕ) → IsRest word word 0
 all_left word = record { within = omega arith; gone = λ i h. absurd (omega arith); same = λ i h k. refl }
@@ -73,28 +112,15 @@ less_left word rest low some fits left =
     let least = bit_at-trailing_zeros w64 rest some fits in
     let t = trailing_zeros w64 rest in
     let lowest = lowest_left word rest low some fits left in
+    let bits = cleared_bits rest t least.1 least.2 in
     record {
       within = omega (arith, least.0);
-      gone = λ i h. elim (cases_eq i t) [
-        | inl at ↦ ap (bit_at (cleared rest)) at ∙ bit_at_clear_same w64 rest t least.0
-        | inr other ↦ bit_at_clear_other w64 rest t least.0 i (omega (arith, least.0)) other ∙ least.2 i (omega arith)
-      ];
-      same = λ i h k. bit_at_clear_other w64 rest t least.0 i k (λ e. omega arith) ∙ left.same i (omega (arith, lowest.at_or_above)) k;
+      gone = bits.0;
+      same = λ i h k. bits.1 i (omega arith) ∙ left.same i (omega (arith, lowest.at_or_above)) k;
     }
 
-pub smaller : (rest : ℕ) → 0 < rest → rest < 2 ^ 64 → cleared rest < rest
-smaller rest some fits =
-    let least = bit_at-trailing_zeros w64 rest some fits in
-    let t = trailing_zeros w64 rest in
-    let most = and_le_l rest (2 ^ 64 - 1 - 1 * 2 ^ t % 2 ^ 64) in
-    elim (cases_lt (cleared rest) rest) [
-      | inl below ↦ below
-      | inr not_below ↦
-          let same : cleared rest ≡ rest = omega arith in
-          let one : bit_at rest t ≡ 1 = least.1 in
-          let none : bit_at rest t ≡ 0 = sym (ap (λ x. bit_at x t) same) ∙ bit_at_clear_same w64 rest t least.0 in
-          absurd (omega arith)
-    ]
+pub smaller : (rest : ℕ) → 0 < rest → cleared rest < rest
+smaller rest some = let most = and_le_r rest (rest - 1) in omega arith
 
 -- The members below the lowest bit that is left of this word have changed.
 abbrev pub Changing : (index : ℕ) (change : Slots → Slots) (words : List ℕ) (word rest : ℕ) (old new : List Slots) → Type 0

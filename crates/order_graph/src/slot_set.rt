@@ -100,7 +100,7 @@ pub(crate) fn join_each(sets: &mut [SlotSet], members: &SlotSet, more: &SlotSet)
         while rest != 0 {
             let bit = rest.trailing_zeros();
             sets[index * WORD_BITS as usize + bit as usize].join(more);
-            rest &= !(1 << bit);
+            rest &= rest - 1;
         }
     }
 }
@@ -121,7 +121,7 @@ pub(crate) fn take_out(sets: &mut [SlotSet], others: &mut [SlotSet], members: &S
             let member = index * WORD_BITS as usize + bit as usize;
             sets[member].remove(slot);
             others[member].remove(slot);
-            rest &= !(1 << bit);
+            rest &= rest - 1;
         }
     }
 }

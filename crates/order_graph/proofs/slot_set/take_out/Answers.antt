@@ -10,7 +10,7 @@ pub bounds-others-member : goal.bounds-others-member
 bounds-others-member c = member_inside c.loop-index.index _ c.members.inside.words (slice_index c.members.inside.words c.loop-index.index) c.loop-rest.rest _ _ _ (omega arith) refl (omega arith) (omega arith) (inside_words c.members.inside.words c.args.members.now (length c.args.sets.now) _ c.members.view_is c.requires.inside (omega arith)) c.loop-rest.invariant.1
 
 pub loop-rest-smaller : goal.loop-rest-smaller
-loop-rest-smaller c = smaller c.loop-rest.rest (omega arith) (omega arith)
+loop-rest-smaller c = smaller c.loop-rest.rest (omega arith)
 
 pub loop-rest-preserved : goal.loop-rest-preserved
 loop-rest-preserved c =
