@@ -108,7 +108,8 @@ impl OrderGraph {
         ensures pairs { self.new.pairs ≡ linked self.old.pairs a b node }
         ensures masks { MasksAreClosure self.new }
     {
-        if self.direct[b as usize].contains(a) {
+        let recorded = self.direct[b as usize].contains(a);
+        if recorded {
             return;
         }
         self.pairs.push_reserved(Pair {
