@@ -95,11 +95,13 @@ pub(crate) fn join_each(sets: &mut [SlotSet], members: &SlotSet, more: &SlotSet)
     requires inside { HasAllBelow members.now (length sets.old) }
     ensures { (y : ℕ) → y < length sets.old → slots_at sets.new y ≡ changed (λ s. set.union s more.now) sets.old members.now y }
 {
+    // Its own copy, which no write to a set can change: the compiler need not read it again for each member.
+    let added = more.copied();
     for (index, word) in members.words.iter().enumerate() {
         let mut rest = *word;
         while rest != 0 {
             let bit = rest.trailing_zeros();
-            sets[index * WORD_BITS as usize + bit as usize].join(more);
+            sets[index * WORD_BITS as usize + bit as usize].join(&added);
             rest &= rest - 1;
         }
     }

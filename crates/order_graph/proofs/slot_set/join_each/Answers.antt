@@ -1,4 +1,4 @@
-use Rattle.std.proofs.Common.{length, slice_index, refl, arith}
+use Rattle.std.proofs.Common.{length, slice_index, refl, ap, ◌∙◌, arith}
 use Rattle.std.specs.FinSet as set
 use Rattle.order_graph.proofs.Members.{inside_words, member_inside, smaller, change_next, word_begins, word_ends, words_end}
 use Rattle.order_graph.proofs.slot_set.join_each.Goals as goal
@@ -11,7 +11,7 @@ loop-rest-smaller c = smaller c.loop-rest.rest (omega arith)
 
 pub loop-rest-preserved : goal.loop-rest-preserved
 loop-rest-preserved c =
-    change_next c.loop-index.index (λ s. set.union s c.args.more.now) c.members.inside.words (slice_index c.members.inside.words c.loop-index.index) c.loop-rest.rest _ _ _ c.index-sets-index.result (omega arith) refl (omega arith) (omega arith) (inside_words c.members.inside.words c.args.members.now (length c.args.sets.now) _ c.members.view_is c.requires.inside (omega arith)) c.join.ensures c.loop-rest.invariant
+    change_next c.loop-index.index (λ s. set.union s c.args.more.now) c.members.inside.words (slice_index c.members.inside.words c.loop-index.index) c.loop-rest.rest _ _ _ c.index-sets-index.result (omega arith) refl (omega arith) (omega arith) (inside_words c.members.inside.words c.args.members.now (length c.args.sets.now) _ c.members.view_is c.requires.inside (omega arith)) (c.join.ensures ∙ ap (set.union _) c.copied-added.ensures) c.loop-rest.invariant
 
 pub loop-rest-init : goal.loop-rest-init
 loop-rest-init c =
