@@ -1,6 +1,6 @@
 -- What is kept of an order through its calls.
 use Rattle.std.proofs.Common.{◌≡◌, ◌≢◌, ℕ, ◌+◌, ◌*◌, ◌<◌, ◌≤◌, ◌⊎◌, inl, inr, Bool, true, false, not, ◌&&◌, ◌||◌, ◌==◌, eqb, cond, List, [], ◌∷◌, ◌++◌, length, get_or, set, map, take, drop, replicate, Option, Some, None, refl, sym, ap, ◌∙◌, subst, arith}
-use Rattle.std.specs.Prelude.{IsTrue, IfSome, IfNone}
+use Rattle.std.specs.Prelude.{IsTrue, IfSome, IfNone, ◌↔◌}
 use Rattle.std.specs.Option.{is_some, option_map, option_or}
 use Rattle.std.specs.List.{list_any, filter, find, AllByRecursion, IsDistinct}
 use Rattle.std.specs.Ordering.{nat_cmp, eq_by_cmp}
@@ -13,18 +13,11 @@ use Rattle.std.proofs.lemmas.List.Folds.{find-append, list_any-append}
 use Rattle.std.proofs.lemmas.Map.Views.{any-filter_same}
 use Rattle.std.proofs.lemmas.Map.Steps.{length-le_from_distinct_below}
 use Rattle.std.proofs.lemmas.Nat.{mul-add-lt, same_from_place}
-use Rattle.order_graph.specs.Slots.{Slots, IsLeastFrom, HasNoneFrom}
+use Rattle.order_graph.specs.Slots.{Slots, IsLeastFrom, HasNoneFrom, HasAllBelow, slots_at, changed}
 use Rattle.order_graph.specs.Order.{Pair, joins, is_recorded, node_of, Precedes, retired, AreApart, IsNextBefore}
 use Rattle.order_graph.specs.Order.Precedes.{by_pair, by_chain}
-use Rattle.order_graph.specs.Kept.{slots_at, AreOfSlots, IsKept, passed_on}
-use Rattle.order_graph.proofs.Closure.{Adds, Drops, masks_added, masks_dropped, last_pair, Precedes-fewer, no_cycle-added}
-
--- the masks below i have taken in what a pair of a and b passes on, and the rest are as they were
-pub record PassedBelow (i : ℕ) (old new : List Slots) (a b : ℕ) (passed : Slots) : Type 0 where
-  pub given : passed ≡ finset.insert (slots_at old a) a
-  pub len : length new ≡ length old
-  pub done : (y : ℕ) → y < i → slots_at new y ≡ passed_on old a b y
-  pub rest : (y : ℕ) → i ≤ y → slots_at new y ≡ slots_at old y
+use Rattle.order_graph.specs.Kept.{has, AreOfSlots, AreMirrored, IsKept, IsPassedOn}
+use Rattle.order_graph.proofs.Closure.{Adds, Drops, Precedes-join, masks_added, masks_dropped, last_pair, Precedes-fewer, no_cycle-added}
 
 -- what a list is after a loan of the whole of it
 pub whole_slice : {X : Type 0} (len : ℕ) (new old : List X) → length new ≡ length old → len ≡ length old → take len (new ++ drop (length new) old) ≡ new
@@ -71,43 +64,136 @@ cond_has : (c : Bool) (s t : Slots) (x : ℕ) → finset.contains (cond c s t) x
 cond_has true s t x = refl
 cond_has false s t x = refl
 
--- what a mask has after a pair joins
-pub has-passed_on : (masks : List Slots) (a b x y : ℕ) → finset.contains (passed_on masks a b y) x
-    ≡ (finset.contains (slots_at masks y) x || (((x == a) || finset.contains (slots_at masks a) x) && ((y == b) || finset.contains (slots_at masks y) b)))
-has-passed_on masks a b x y =
-    let c = (y == b) || finset.contains (slots_at masks y) b in
-    let m = finset.contains (slots_at masks y) x in
-    let j = (x == a) || finset.contains (slots_at masks a) x in
-    cond_has c (finset.union (slots_at masks y) (finset.insert (slots_at masks a) a)) (slots_at masks y) x
-    ∙ ap (λ t. cond c t m) (has-union (slots_at masks y) (finset.insert (slots_at masks a) a) x ∙ ap (λ t. m || t) (has-insert (slots_at masks a) a x))
-    ∙ sym (or_pick c m j)
+-- ---- a pair joins
 
-past_pass : (m n : Bool) (j : Bool) → m ≡ false → n ≡ false → (m || (j && (false || n))) ≡ false
-past_pass m n j h k = or_from m (j && n) h (and_right j n k)
+not_member : (members : Slots) (n y : ℕ) → HasAllBelow members n → n ≤ y → finset.contains members y ≡ false
+not_member members n y inside past = false_from_ne_true _ (λ h. let below = inside y h in absurd (omega arith))
 
--- the masks as a test
-abbrev pub mask_test : List Slots → ℕ → ℕ → Bool
-mask_test masks x y = finset.contains (slots_at masks y) x
+past_pass : (m j c : Bool) → m ≡ false → c ≡ false → (m || (j && c)) ≡ false
+past_pass m j c h k = or_from m (j && c) h (and_right j c k)
 
-passed_test : (old new : List Slots) (a b : ℕ) → b < length old → length new ≡ length old → ((y : ℕ) → y < length old → slots_at new y ≡ passed_on old a b y) → (x y : ℕ) → mask_test new x y
-    ≡ (mask_test old x y || (((x == a) || mask_test old x a) && ((y == b) || mask_test old b y)))
-passed_test old new a b h len passed x y = elim (cases_lt y (length old)) [
-  | inl below ↦ ap (λ s. finset.contains s x) (passed y below) ∙ has-passed_on old a b x y
-  | inr past ↦
-      none_past new x y (omega arith)
-      ∙ sym (ap (λ t. mask_test old x y || (((x == a) || mask_test old x a) && (t || mask_test old b y))) (ne_eqb y b (λ e. omega arith)) ∙ past_pass (mask_test old x y) (mask_test old b y) ((x == a) || mask_test old x a) (none_past old x y past) (none_past old b y past))
+-- what the sets have after each member's took in more
+joined_test : (old new : List Slots) (members more : Slots) → length new ≡ length old → HasAllBelow members (length old) → ((y : ℕ) → y < length old → slots_at new y ≡ changed (λ s. finset.union s more) old members y) → (x y : ℕ) → has new x y ≡ (has old x y || (finset.contains more x && finset.contains members y))
+joined_test old new members more len inside joined x y = elim (cases_lt y (length old)) [
+  | inl below ↦
+      let c = finset.contains members y in
+      let m = has old x y in
+      ap (λ s. finset.contains s x) (joined y below)
+      ∙ cond_has c (finset.union (slots_at old y) more) (slots_at old y) x
+      ∙ ap (λ t. cond c t m) (has-union (slots_at old y) more x)
+      ∙ sym (or_pick c m (finset.contains more x))
+  | inr past ↦ none_past new x y (omega arith) ∙ sym (past_pass (has old x y) (finset.contains more x) (finset.contains members y) (none_past old x y past) (not_member members (length old) y inside past))
 ]
+
+inside_none : (sets : List Slots) (x y : ℕ) → has sets x y ≡ true → y < length sets
+inside_none sets x y h = elim (cases_lt y (length sets)) [ inl below ↦ below | inr past ↦ absurd (both_ways _ (none_past sets x y past) h) ]
+
+-- slot a and all that precede it are slots
+pub earlier_inside : (before after : List Slots) (a : ℕ) (earlier : Slots) → AreMirrored before after → a < length after → earlier ≡ finset.insert (slots_at before a) a → HasAllBelow earlier (length after)
+earlier_inside before after a earlier mirror fits is x h = elim (or_cases _ _ (sym (ap (λ s. finset.contains s x) is ∙ has-insert (slots_at before a) a x) ∙ h)) [
+  | inl same ↦ subst (λ (k : ℕ). k < length after) (sym (eqb-true x a same)) fits
+  | inr there ↦ inside_none after a x (mirror x a ∙ there)
+]
+
+-- slot b and all that it precedes are slots
+pub later_inside : (before after : List Slots) (b : ℕ) (later : Slots) → AreMirrored before after → b < length before → later ≡ finset.insert (slots_at after b) b → HasAllBelow later (length before)
+later_inside before after b later mirror fits is y h = elim (or_cases _ _ (sym (ap (λ s. finset.contains s y) is ∙ has-insert (slots_at after b) b y) ∙ h)) [
+  | inl same ↦ subst (λ (k : ℕ). k < length before) (sym (eqb-true y b same)) fits
+  | inr there ↦ inside_none before b y (sym (mirror b y) ∙ there)
+]
+
+and-swap : (a b : Bool) → (a && b) ≡ (b && a)
+and-swap true true = refl
+and-swap true false = refl
+and-swap false true = refl
+and-swap false false = refl
+
+-- the sets when the slots before a and those after b know of each other
+pub passed_test : (before after newer given : List Slots) (a b : ℕ) (earlier later : Slots) → AreMirrored before after → a < length before → b < length before → length after ≡ length before → length newer ≡ length before → length given ≡ length after
+    → earlier ≡ finset.insert (slots_at before a) a → later ≡ finset.insert (slots_at after b) b
+    → ((y : ℕ) → y < length before → slots_at newer y ≡ changed (λ s. finset.union s earlier) before later y)
+    → ((x : ℕ) → x < length after → slots_at given x ≡ changed (λ s. finset.union s later) after earlier x)
+    → IsPassedOn before newer a b × AreMirrored newer given
+passed_test before after newer given a b earlier later mirror few fits same len more is_earlier is_later joined joined_after = (passed, mirrored)
+  where
+    ahead : (x y : ℕ) → has newer x y ≡ (has before x y || (finset.contains earlier x && finset.contains later y))
+    ahead = joined_test before newer later earlier len (later_inside before after b later mirror fits is_later) joined
+
+    behind : (y x : ℕ) → has given y x ≡ (has after y x || (finset.contains later y && finset.contains earlier x))
+    behind = joined_test after given earlier later more (earlier_inside before after a earlier mirror (omega arith) is_earlier) joined_after
+
+    to_a : (x : ℕ) → finset.contains earlier x ≡ ((x == a) || has before x a)
+    to_a x = ap (λ s. finset.contains s x) is_earlier ∙ has-insert (slots_at before a) a x
+
+    from_b : (y : ℕ) → finset.contains later y ≡ ((y == b) || has before b y)
+    from_b y = ap (λ s. finset.contains s y) is_later ∙ has-insert (slots_at after b) b y ∙ ap (λ t. (y == b) || t) (mirror b y)
+
+    passed : IsPassedOn before newer a b
+    passed x y =
+        ahead x y
+        ∙ ap (λ t. has before x y || (t && finset.contains later y)) (to_a x)
+        ∙ ap (λ t. has before x y || (((x == a) || has before x a) && t)) (from_b y)
+
+    mirrored : AreMirrored newer given
+    mirrored x y =
+        behind y x
+        ∙ ap (λ t. t || (finset.contains later y && finset.contains earlier x)) (mirror x y)
+        ∙ ap (λ t. has before x y || t) (and-swap (finset.contains later y) (finset.contains earlier x))
+        ∙ sym (ahead x y)
+
+kept_or : (r t : Bool) → (t ≡ true → r ≡ true) → r ≡ (r || t)
+kept_or true t h = refl
+kept_or false true h = h refl
+kept_or false false h = refl
+
+-- where a precedes b already the masks have all that is passed on
+pub known_passes : (pairs : List Pair) (before : List Slots) (a b : ℕ) → ((x y : ℕ) → IsTrue (has before x y) ↔ Precedes pairs x y) → has before a b ≡ true → IsPassedOn before before a b
+known_passes pairs before a b closure known x y = kept_or _ _ (λ h. let parts = and_parts _ _ h in (closure x y).1 (from_x (or_cases _ _ parts.0) (to_y (or_cases _ _ parts.1))))
+  where
+    to_y : ((y == b) ≡ true) ⊎ (has before b y ≡ true) → Precedes pairs a y
+    to_y (inl e) = subst (λ (k : ℕ). Precedes pairs a k) (sym (eqb-true y b e)) ((closure a b).0 known)
+    to_y (inr k) = Precedes-join ((closure a b).0 known) ((closure b y).0 k)
+
+    from_x : ((x == a) ≡ true) ⊎ (has before x a ≡ true) → Precedes pairs a y → Precedes pairs x y
+    from_x (inl e) k = subst (λ (w : ℕ). Precedes pairs w y) (sym (eqb-true x a e)) k
+    from_x (inr h) k = Precedes-join ((closure x a).0 h) k
 
 -- ---- the pairs of a slot go
 
--- the sets without a slot
-abbrev pub without : List Slots → ℕ → List Slots
-without sets a = map (λ s. finset.remove s a) sets
+-- slot a is in no set any more, and the sets are else as they were
+abbrev pub IsLost : List Slots → List Slots → ℕ → Type 0
+IsLost old new a = (x y : ℕ) → has new x y ≡ (not (x == a) && has old x y)
 
-has-without : (sets : List Slots) (a x y : ℕ) → finset.contains (slots_at (without sets a) y) x ≡ (not (x == a) && finset.contains (slots_at sets y) x)
-has-without sets a x y = elim (cases_lt y (length sets)) [
-  | inl below ↦ ap (λ s. finset.contains s x) (get_or-map (λ s. finset.remove s a) sets y finset.empty finset.empty below) ∙ has-remove (slots_at sets y) a x
-  | inr past ↦ none_past (without sets a) x y (omega (arith, length-map sets (λ s. finset.remove s a))) ∙ sym (and_right (not (x == a)) (finset.contains (slots_at sets y) x) (none_past sets x y past))
+lost_pick : (t c m : Bool) → (t ≡ true → c ≡ false → m ≡ false) → cond c (not t && m) m ≡ (not t && m)
+lost_pick t true m h = refl
+lost_pick true false m h = h refl refl
+lost_pick false false m h = refl
+
+-- where all sets with slot a are of members, none has it when each member's lost it
+pub lost_test : (old new : List Slots) (members : Slots) (a : ℕ) → length new ≡ length old → ((y : ℕ) → has old a y ≡ true → finset.contains members y ≡ true) → ((y : ℕ) → y < length old → slots_at new y ≡ changed (λ s. finset.remove s a) old members y) → IsLost old new a
+lost_test old new members a len all lost x y = elim (cases_lt y (length old)) [
+  | inl below ↦
+      let c = finset.contains members y in
+      let m = has old x y in
+      ap (λ s. finset.contains s x) (lost y below)
+      ∙ cond_has c (finset.remove (slots_at old y) a) (slots_at old y) x
+      ∙ ap (λ t. cond c t m) (has-remove (slots_at old y) a x)
+      ∙ lost_pick (x == a) c m (λ same out. ap (λ k. has old k y) (eqb-true x a same) ∙ false_from_ne_true _ (λ there. both_ways _ out (all y there)))
+  | inr past ↦ none_past new x y (omega arith) ∙ sym (and_right (not (x == a)) (has old x y) (none_past old x y past))
+]
+
+-- the slots that a precedes are none any more
+pub mirror_lost : (before newer after : List Slots) (a : ℕ) → a < length after → AreMirrored before after → IsLost before newer a → AreMirrored newer (set after a finset.empty)
+mirror_lost before newer after a fits mirror lost x y = elim (cases_eq x a) [
+  | inl same ↦
+      ap (λ k. has (set after a finset.empty) y k) same
+      ∙ ap (λ s. finset.contains s y) (get_or-set_same after a finset.empty finset.empty fits)
+      ∙ finset.contains-empty nat_cmp y
+      ∙ sym (lost x y ∙ ap (λ t. not t && has before x y) (eq-eqb x a same))
+  | inr other ↦
+      ap (λ s. finset.contains s y) (get_or-set_other after a x finset.empty finset.empty other)
+      ∙ mirror x y
+      ∙ sym (lost x y ∙ ap (λ t. not t && has before x y) (ne_eqb x a other))
 ]
 
 -- ---- pairs of slots, no two the same
@@ -275,12 +361,27 @@ NoneRecorded pairs a = (x : ℕ) → is_recorded pairs x a ≡ false
 none_recorded : (pairs : List Pair) (a : ℕ) → ((x : ℕ) → ¬ (Precedes pairs x a)) → NoneRecorded pairs a
 none_recorded pairs a none x = false_from_ne_true _ (λ h. none x (by_pair h))
 
-direct-retired : (pairs : List Pair) (sets : List Slots) (a : ℕ) → ((x y : ℕ) → finset.contains (slots_at sets y) x ≡ is_recorded pairs x y) → NoneRecorded pairs a → (x y : ℕ) → finset.contains (slots_at (without sets a) y) x ≡ is_recorded (retired pairs a) x y
-direct-retired pairs sets a same none x y =
-    has-without sets a x y
+direct-retired : (pairs : List Pair) (old new : List Slots) (a : ℕ) → ((x y : ℕ) → has old x y ≡ is_recorded pairs x y) → NoneRecorded pairs a → IsLost old new a → (x y : ℕ) → has new x y ≡ is_recorded (retired pairs a) x y
+direct-retired pairs old new a same none lost x y =
+    lost x y
     ∙ ap (λ t. not (x == a) && t) (same x y)
     ∙ drop_test (x == a) (y == a) (is_recorded pairs x y) (λ e. ap (is_recorded pairs x) (eqb-true y a e) ∙ none x)
     ∙ sym (drops-retired pairs a x y)
+
+-- where no pair is of a, all stay
+all_stay : (pairs : List Pair) (a : ℕ) → NoneRecorded pairs a → ((y : ℕ) → is_recorded pairs a y ≡ false) → retired pairs a ≡ pairs
+all_stay [] a none first = refl
+all_stay (p ∷ pairs) a none first =
+    let own = eq-eqb p.from p.from refl in
+    let from : (p.from == a) ≡ false = false_from_ne_true _ (λ e. both_ways _ (or_parts _ _ (first p.to)).0 (and_from _ _ e (eq-eqb p.to p.to refl))) in
+    let to : (p.to == a) ≡ false = false_from_ne_true _ (λ e. both_ways _ (or_parts _ _ (none p.from)).0 (and_from _ _ own e)) in
+    let rest = all_stay pairs a (λ x. (or_parts _ _ (none x)).1) (λ y. (or_parts _ _ (first y)).1) in
+    rw (from, to) (ap (λ ps. p ∷ ps) rest)
+
+-- the pairs of a slot that precedes none, and that none precedes
+pub none_retired : (pairs : List Pair) (before after : List Slots) (a : ℕ) → ((x y : ℕ) → IsTrue (has before x y) ↔ Precedes pairs x y) → AreMirrored before after → HasNoneFrom (slots_at after a) 0 → ((x : ℕ) → ¬ (Precedes pairs x a)) → retired pairs a ≡ pairs
+none_retired pairs before after a closure mirror empty none = all_stay pairs a (none_recorded pairs a none)
+    (λ y. false_from_ne_true _ (λ h. both_ways _ (sym (mirror a y) ∙ empty y (omega arith)) ((closure a y).1 (by_pair h))))
 
 -- ---- what each call keeps
 
@@ -299,10 +400,10 @@ nodes_linked n pairs cells a b node few fits all place nodes new x y (inr was) =
     both_ways _ new (ap (λ k. is_recorded pairs k b) (sym same.1) ∙ ap (is_recorded pairs x) (sym same.0) ∙ was) in
     node_kept pairs a b node x y was ∙ nodes x y was ∙ ap Some (sym (get_or-set_other cells (b * n + a) (y * n + x) node 0 other))
 
-pub kept-link : (n room more : ℕ) (pairs : List Pair) (earlier : List Slots) (cells : List ℕ) (before after : List Slots) (a b node : ℕ) → IsKept n room pairs earlier cells before → n * n ≤ more → a < n → b < n → a ≢ b → ¬ (Precedes pairs b a) → is_recorded pairs a b ≡ false
-    → length after ≡ length before → ((y : ℕ) → y < length before → slots_at after y ≡ passed_on before a b y)
-    → IsKept n more (with_pair pairs a b node) (set earlier b (finset.insert (slots_at earlier b) a)) (set cells (b * n + a) node) after
-kept-link n room more pairs earlier cells before after a b node kept enough few fits apart forward new len passed =
+pub kept-link : (n room more : ℕ) (pairs : List Pair) (earlier : List Slots) (cells : List ℕ) (before after newer later : List Slots) (a b node : ℕ) → IsKept n room pairs earlier cells before after → n * n ≤ more → a < n → b < n → a ≢ b → ¬ (Precedes pairs b a) → is_recorded pairs a b ≡ false
+    → length newer ≡ length before → length later ≡ length after → IsPassedOn before newer a b → AreMirrored newer later
+    → IsKept n more (with_pair pairs a b node) (set earlier b (finset.insert (slots_at earlier b) a)) (set cells (b * n + a) node) newer later
+kept-link n room more pairs earlier cells before after newer later a b node kept enough few fits apart forward new len len_later passed mirror =
     let adds = adds-with_pair pairs a b node in
     let in_sets : b < length earlier = omega (arith, kept.sets) in
     let place : b * n + a < length cells = subst (λ (m : ℕ). b * n + a < m) (sym kept.table) (mul-add-lt b n a n fits few) in
@@ -313,29 +414,34 @@ kept-link n room more pairs earlier cells before after a b node kept enough few 
       sets = length-set earlier b _ ∙ kept.sets;
       table = length-set cells (b * n + a) node ∙ kept.table;
       masks = len ∙ kept.masks;
+      mirrors = len_later ∙ kept.mirrors;
       slots = slots-with_pair n pairs a b node kept.slots few fits;
       apart = apart-with_pair pairs a b node kept.apart new;
       direct = λ x y. has-direct earlier a b in_sets x y ∙ ap (λ t. ((x == a) && (y == b)) || t) (kept.direct x y) ∙ sym (adds x y);
       nodes = λ x y h. nodes_linked n pairs cells a b node few fits kept.slots place kept.nodes new x y (or_cases _ _ (sym (adds x y) ∙ h));
-      closure = masks_added pairs (with_pair pairs a b node) a b adds (mask_test before) (mask_test after) kept.closure (passed_test before after a b (omega (arith, kept.masks)) len passed);
+      closure = masks_added pairs (with_pair pairs a b node) a b adds (has before) (has newer) kept.closure passed;
+      mirror = mirror;
       no_cycle = no_cycle-added pairs (with_pair pairs a b node) a b adds apart forward kept.no_cycle;
     }
 
-pub kept-retire : (n room more : ℕ) (pairs : List Pair) (earlier : List Slots) (cells : List ℕ) (before : List Slots) (a : ℕ) → IsKept n room pairs earlier cells before → n * n ≤ more → ((x : ℕ) → ¬ (Precedes pairs x a)) → IsKept n more (retired pairs a) (without earlier a) cells (without before a)
-kept-retire n room more pairs earlier cells before a kept enough none =
+pub kept-retire : (n room more : ℕ) (pairs : List Pair) (earlier : List Slots) (cells : List ℕ) (before after smaller newer : List Slots) (a : ℕ) → IsKept n room pairs earlier cells before after → n * n ≤ more → ((x : ℕ) → ¬ (Precedes pairs x a)) → a < n
+    → length smaller ≡ length earlier → length newer ≡ length before → IsLost earlier smaller a → IsLost before newer a → IsKept n more (retired pairs a) smaller cells newer (set after a finset.empty)
+kept-retire n room more pairs earlier cells before after smaller newer a kept enough none few len len_newer gone lost =
     let drops = drops-retired pairs a in
     record {
       some = kept.some;
       few = kept.few;
       room = enough;
-      sets = length-map earlier (λ s. finset.remove s a) ∙ kept.sets;
+      sets = len ∙ kept.sets;
       table = kept.table;
-      masks = length-map before (λ s. finset.remove s a) ∙ kept.masks;
+      masks = len_newer ∙ kept.masks;
+      mirrors = length-set after a finset.empty ∙ kept.mirrors;
       slots = filter_slots n (stays a) pairs kept.slots;
       apart = filter_apart (stays a) pairs kept.apart;
-      direct = direct-retired pairs earlier a kept.direct (none_recorded pairs a none);
+      direct = direct-retired pairs earlier smaller a kept.direct (none_recorded pairs a none) gone;
       nodes = λ x y h. let parts = and_parts _ _ (sym (drops x y) ∙ h) in node_stays pairs a x y parts.0 ∙ kept.nodes x y parts.1;
-      closure = masks_dropped pairs (retired pairs a) a drops (λ x h. none x (by_pair h)) (mask_test before) (mask_test (without before a)) kept.closure (λ x y. has-without before a x y);
+      closure = masks_dropped pairs (retired pairs a) a drops (λ x h. none x (by_pair h)) (has before) (has newer) kept.closure lost;
+      mirror = mirror_lost before newer after a (omega (arith, kept.mirrors)) kept.mirror lost;
       no_cycle = λ x h. kept.no_cycle x (Precedes-fewer pairs (retired pairs a) a drops h);
     }
 
@@ -354,7 +460,7 @@ no_chain : {a b : ℕ} → Precedes [] a b → ⊥
 no_chain (by_pair h) = false≢true h
 no_chain (by_chain h k) = false≢true h
 
-pub kept_at_first : (n room : ℕ) (cells : List ℕ) → 0 < n → n ≤ 256 → n * n ≤ room → length cells ≡ n * n → IsKept n room [] (replicate n finset.empty) cells (replicate n finset.empty)
+pub kept_at_first : (n room : ℕ) (cells : List ℕ) → 0 < n → n ≤ 256 → n * n ≤ room → length cells ≡ n * n → IsKept n room [] (replicate n finset.empty) cells (replicate n finset.empty) (replicate n finset.empty)
 kept_at_first n room cells some few enough table = record {
   some = some;
   few = few;
@@ -362,11 +468,13 @@ kept_at_first n room cells some few enough table = record {
   sets = length-replicate n (finset.empty {R = nat_cmp});
   table = table;
   masks = length-replicate n (finset.empty {R = nat_cmp});
+  mirrors = length-replicate n (finset.empty {R = nat_cmp});
   slots = tt;
   apart = tt;
   direct = λ x y. none_at_first n x y;
   nodes = λ x y h. absurd (false≢true h);
   closure = λ x y. ((λ h. absurd (both_ways _ (none_at_first n x y) h)), (λ h. absurd (no_chain h)));
+  mirror = λ x y. none_at_first n y x ∙ sym (none_at_first n x y);
   no_cycle = λ x h. no_chain h;
 }
 
@@ -376,58 +484,107 @@ kept_at_first n room cells some few enough table = record {
 pub read_set : (sets : List Slots) (b : ℕ) (s : Slots) → b < length sets → s ≡ get_or sets b s → s ≡ slots_at sets b
 read_set sets b s h e = e ∙ get_or_default sets b s finset.empty h
 
+-- a copy of a set that was read, with one slot more
+pub grown : (sets : List Slots) (a : ℕ) (read copied larger : Slots) → a < length sets → copied ≡ get_or sets a read → larger ≡ finset.insert copied a → larger ≡ finset.insert (slots_at sets a) a
+grown sets a read copied larger h same more = more ∙ ap (λ s. finset.insert s a) (same ∙ get_or_default sets a read finset.empty h)
+
 -- what a set that was read has is recorded
-pub recorded_there : (n room : ℕ) (pairs : List Pair) (earlier : List Slots) (cells : List ℕ) (before : List Slots) (b x : ℕ) (s : Slots) (t : Bool) → IsKept n room pairs earlier cells before → b < n → s ≡ get_or earlier b s → finset.contains s x ≡ t → is_recorded pairs x b ≡ t
-recorded_there n room pairs earlier cells before b x s t kept fits read e = sym (kept.direct x b) ∙ sym (ap (λ m. finset.contains m x) (read_set earlier b s (omega (arith, kept.sets)) read)) ∙ e
+pub recorded_there : (n room : ℕ) (pairs : List Pair) (earlier : List Slots) (cells : List ℕ) (before after : List Slots) (b x : ℕ) (s : Slots) (t : Bool) → IsKept n room pairs earlier cells before after → b < n → s ≡ get_or earlier b s → finset.contains s x ≡ t → is_recorded pairs x b ≡ t
+recorded_there n room pairs earlier cells before after b x s t kept fits read e = sym (kept.direct x b) ∙ sym (ap (λ m. finset.contains m x) (read_set earlier b s (omega (arith, kept.sets)) read)) ∙ e
 
--- a list after a loan, in which each set lost a slot
-pub lost_slot : (len : ℕ) (sets lent new : List Slots) (a : ℕ) → lent ≡ sets → new ≡ without lent a → len ≡ length sets → take len (new ++ drop (length new) sets) ≡ without sets a
-lost_slot len sets lent new a is lost size =
-    let gone : new ≡ without sets a = lost ∙ ap (λ l. without l a) is in
-    whole_slice len new sets (ap length gone ∙ length-map sets (λ s. finset.remove s a)) size ∙ gone
+-- ---- from what link says
 
-pub after_link : (n room more : ℕ) (pairs : List Pair) (earlier : List Slots) (cells : List ℕ) (before : List Slots) (a b node : ℕ) (was s larger : Slots) (longer : List Pair) (old new after : List Slots)
-    → IsKept n room pairs earlier cells before → more ≡ room → a < n → b < n → a ≢ b → ¬ (Precedes pairs b a)
+-- the masks that come back of a loan of all of them
+pub after_pass : (before after lent given new_before new_after newer later : List Slots) (a b : ℕ) → lent ≡ before → given ≡ after → length new_before ≡ length lent → length new_after ≡ length given → IsPassedOn lent new_before a b → AreMirrored new_before new_after → newer ≡ new_before → later ≡ new_after
+    → ((length newer ≡ length before) × (length later ≡ length after)) × (IsPassedOn before newer a b × AreMirrored newer later)
+after_pass before after lent given new_before new_after newer later a b is_before is_after len len_after passed mirror is js =
+    ((ap length is ∙ len ∙ ap length is_before, ap length js ∙ len_after ∙ ap length is_after),
+    (subst (λ (m : List Slots). IsPassedOn before m a b) (sym is) (subst (λ (o : List Slots). IsPassedOn o new_before a b) is_before passed),
+    subst (λ (m : List Slots). AreMirrored newer m) (sym js) (subst (λ (m : List Slots). AreMirrored m new_after) (sym is) mirror)))
+
+pub after_link : (n room more : ℕ) (pairs : List Pair) (earlier : List Slots) (cells : List ℕ) (before after : List Slots) (a b node : ℕ) (was s larger : Slots) (longer : List Pair) (newer later : List Slots)
+    → IsKept n room pairs earlier cells before after → more ≡ room → a < n → b < n → a ≢ b → ¬ (Precedes pairs b a)
     → was ≡ get_or earlier b was → finset.contains was a ≡ false → longer ≡ with_pair pairs a b node
-    → s ≡ get_or earlier b s → larger ≡ finset.insert s a → old ≡ before → length new ≡ length old → ((y : ℕ) → y < length old → slots_at new y ≡ passed_on old a b y) → after ≡ new
-    → IsKept n more longer (set earlier b larger) (set cells (b * n + a) node) after
-after_link n room more pairs earlier cells before a b node was s larger longer old new after kept enough few fits apart forward first lacks one_more read added lent len passed is =
+    → s ≡ get_or earlier b s → larger ≡ finset.insert s a
+    → ((length newer ≡ length before) × (length later ≡ length after)) × (IsPassedOn before newer a b × AreMirrored newer later)
+    → IsKept n more longer (set earlier b larger) (set cells (b * n + a) node) newer later
+after_link n room more pairs earlier cells before after a b node was s larger longer newer later kept enough few fits apart forward first lacks one_more read added passed =
     let in_place : b < length earlier = omega (arith, kept.sets) in
-    let unrecorded : is_recorded pairs a b ≡ false = recorded_there n room pairs earlier cells before b a was false kept fits first lacks in
+    let unrecorded : is_recorded pairs a b ≡ false = recorded_there n room pairs earlier cells before after b a was false kept fits first lacks in
     let added_there : larger ≡ finset.insert (slots_at earlier b) a = added ∙ ap (λ t. finset.insert t a) (read_set earlier b s in_place read) in
-    let there : (length new ≡ length before) × ((y : ℕ) → y < length before → slots_at new y ≡ passed_on before a b y) =
-    subst (λ (m : List Slots). (length new ≡ length m) × ((y : ℕ) → y < length m → slots_at new y ≡ passed_on m a b y)) lent (len, passed) in
-    subst (λ (m : List Slots). IsKept n more longer (set earlier b larger) (set cells (b * n + a) node) m) (sym is)
-    (subst (λ (t : Slots). IsKept n more longer (set earlier b t) (set cells (b * n + a) node) new) (sym added_there)
-    (subst (λ (ps : List Pair). IsKept n more ps (set earlier b (finset.insert (slots_at earlier b) a)) (set cells (b * n + a) node) new) (sym one_more)
-    (kept-link n room more pairs earlier cells before new a b node kept (omega (arith, kept.room)) few fits apart forward unrecorded there.0 there.1)))
+    subst (λ (t : Slots). IsKept n more longer (set earlier b t) (set cells (b * n + a) node) newer later) (sym added_there)
+    (subst (λ (ps : List Pair). IsKept n more ps (set earlier b (finset.insert (slots_at earlier b) a)) (set cells (b * n + a) node) newer later) (sym one_more)
+    (kept-link n room more pairs earlier cells before after newer later a b node kept (omega (arith, kept.room)) few fits apart forward unrecorded passed.0.0 passed.0.1 passed.1.0 passed.1.1))
 
-pub after_retire : (n room more : ℕ) (pairs fewer : List Pair) (earlier smaller : List Slots) (cells : List ℕ) (before after : List Slots) (a : ℕ)
-    → IsKept n room pairs earlier cells before → more ≡ room → ((x : ℕ) → ¬ (Precedes pairs x a)) → fewer ≡ retired pairs a → smaller ≡ without earlier a → after ≡ without before a → IsKept n more fewer smaller cells after
-after_retire n room more pairs fewer earlier smaller cells before after a kept enough none gone is js =
-    subst (λ (m : List Slots). IsKept n more fewer smaller cells m) (sym js)
-    (subst (λ (d : List Slots). IsKept n more fewer d cells (without before a)) (sym is)
-    (subst (λ (ps : List Pair). IsKept n more ps (without earlier a) cells (without before a)) (sym gone)
-    (kept-retire n room more pairs earlier cells before a kept (omega (arith, kept.room)) none)))
+-- where a precedes b already the masks stay
+pub known_stays : (n room : ℕ) (pairs : List Pair) (earlier : List Slots) (cells : List ℕ) (before after : List Slots) (a b : ℕ) (s : Slots) → IsKept n room pairs earlier cells before after → b < n → s ≡ get_or before b s → finset.contains s a ≡ true
+    → ((length before ≡ length before) × (length after ≡ length after)) × (IsPassedOn before before a b × AreMirrored before after)
+known_stays n room pairs earlier cells before after a b s kept fits read there =
+    let known : has before a b ≡ true = sym (ap (λ m. finset.contains m a) (read_set before b s (omega (arith, kept.masks)) read)) ∙ there in
+    ((refl, refl), (known_passes pairs before a b kept.closure known, kept.mirror))
 
-pub next_is_slot : (n room : ℕ) (pairs : List Pair) (earlier : List Slots) (cells : List ℕ) (before : List Slots) (b from : ℕ) (s : Slots) (r : Option ℕ) → IsKept n room pairs earlier cells before → b < n → s ≡ get_or earlier b s → IfSome r (IsLeastFrom s from) → IfSome r (λ a. a < n)
-next_is_slot n room pairs earlier cells before b from s None kept fits read h = h
-next_is_slot n room pairs earlier cells before b from s (Some a) kept fits read h = (slots_of_recorded n pairs kept.slots a b (recorded_there n room pairs earlier cells before b a s true kept fits read h.found)).0
+-- ---- from what retire says
 
-pub next_is_least : (n room : ℕ) (pairs : List Pair) (earlier : List Slots) (cells : List ℕ) (before : List Slots) (b from : ℕ) (s : Slots) (r : Option ℕ) → IsKept n room pairs earlier cells before → b < n → s ≡ get_or earlier b s → IfSome r (IsLeastFrom s from) → IfSome r (IsNextBefore pairs b from)
-next_is_least n room pairs earlier cells before b from s None kept fits read h = h
-next_is_least n room pairs earlier cells before b from s (Some a) kept fits read h = record {
-  recorded = recorded_there n room pairs earlier cells before b a s true kept fits read h.found;
+is_none : {P : Type 0} (r : Option ℕ) → is_some r ≡ false → IfNone r P → P
+is_none None h p = p
+is_none (Some a) h p = absurd (false≢true (sym h))
+
+-- where a precedes nothing all pairs stay
+pub retired_alone : (n room : ℕ) (pairs : List Pair) (earlier : List Slots) (cells : List ℕ) (before after : List Slots) (a : ℕ) (s : Slots) (r : Option ℕ) → IsKept n room pairs earlier cells before after → a < n → s ≡ get_or after a s → IfNone r (HasNoneFrom s 0) → is_some r ≡ false → ((x : ℕ) → ¬ (Precedes pairs x a)) → pairs ≡ retired pairs a
+retired_alone n room pairs earlier cells before after a s r kept few read none empty first =
+    let is = read_set after a s (omega (arith, kept.mirrors)) read in
+    sym (none_retired pairs before after a kept.closure kept.mirror (subst (λ (t : Slots). HasNoneFrom t 0) is (is_none r empty none)) first)
+
+-- the slots that a precedes are slots
+pub later_slots : (n room : ℕ) (pairs : List Pair) (earlier : List Slots) (cells : List ℕ) (before after : List Slots) (a : ℕ) (s members : Slots) → IsKept n room pairs earlier cells before after → a < n → s ≡ get_or after a s → members ≡ s → HasAllBelow members n
+later_slots n room pairs earlier cells before after a s members kept few read is y h =
+    let there : has before a y ≡ true = sym (kept.mirror a y) ∙ sym (ap (λ t. finset.contains t y) (is ∙ read_set after a s (omega (arith, kept.mirrors)) read)) ∙ h in
+    let below = inside_none before a y there in
+    omega (arith, below, kept.masks)
+
+-- the sets that come back of a loan of all of them, in which those of members lost a slot
+lost_sets : (old lent new newer : List Slots) (members : Slots) (a : ℕ) → lent ≡ old → length new ≡ length lent → ((y : ℕ) → y < length lent → slots_at new y ≡ changed (λ s. finset.remove s a) lent members y) → newer ≡ new → ((y : ℕ) → has old a y ≡ true → finset.contains members y ≡ true)
+    → (length newer ≡ length old) × IsLost old newer a
+lost_sets old lent new newer members a lent_is len lost is all =
+    let same : (length new ≡ length old) × ((y : ℕ) → y < length old → slots_at new y ≡ changed (λ s. finset.remove s a) old members y) =
+    subst (λ (o : List Slots). (length new ≡ length o) × ((y : ℕ) → y < length o → slots_at new y ≡ changed (λ s. finset.remove s a) o members y)) lent_is (len, lost) in
+    subst (λ (m : List Slots). (length m ≡ length old) × IsLost old m a) (sym is) (same.0, lost_test old new members a same.0 all same.1)
+
+pub after_retire : (n room more : ℕ) (pairs fewer : List Pair) (earlier : List Slots) (cells : List ℕ) (before after lent new smaller given changed_before newer : List Slots) (a : ℕ) (s members last : Slots)
+    → IsKept n room pairs earlier cells before after → more ≡ room → ((x : ℕ) → ¬ (Precedes pairs x a)) → a < n → fewer ≡ retired pairs a
+    → s ≡ get_or after a s → members ≡ s → last ≡ finset.empty
+    → lent ≡ earlier → length new ≡ length lent → ((y : ℕ) → y < length lent → slots_at new y ≡ changed (λ s. finset.remove s a) lent members y) → smaller ≡ new
+    → given ≡ before → length changed_before ≡ length given → ((y : ℕ) → y < length given → slots_at changed_before y ≡ changed (λ s. finset.remove s a) given members y) → newer ≡ changed_before
+    → IsKept n more fewer smaller cells newer (set after a last)
+after_retire n room more pairs fewer earlier cells before after lent new smaller given changed_before newer a s members last kept enough none few gone read is emptied lent_is len lost smaller_is given_is len_before lost_before newer_is =
+    let members_are : members ≡ slots_at after a = is ∙ read_set after a s (omega (arith, kept.mirrors)) read in
+    let all : (y : ℕ) → has before a y ≡ true → finset.contains members y ≡ true = λ y h. ap (λ t. finset.contains t y) members_are ∙ kept.mirror a y ∙ h in
+    let direct = lost_sets earlier lent new smaller members a lent_is len lost smaller_is (λ y h. all y ((kept.closure a y).1 (by_pair (sym (kept.direct a y) ∙ h)))) in
+    let masks = lost_sets before given changed_before newer members a given_is len_before lost_before newer_is all in
+    subst (λ (t : Slots). IsKept n more fewer smaller cells newer (set after a t)) (sym emptied)
+    (subst (λ (ps : List Pair). IsKept n more ps smaller cells newer (set after a finset.empty)) (sym gone)
+    (kept-retire n room more pairs earlier cells before after smaller newer a kept (omega (arith, kept.room)) none few direct.0 masks.0 direct.1 masks.1))
+
+-- ---- from what next_before says
+
+pub next_is_slot : (n room : ℕ) (pairs : List Pair) (earlier : List Slots) (cells : List ℕ) (before after : List Slots) (b from : ℕ) (s : Slots) (r : Option ℕ) → IsKept n room pairs earlier cells before after → b < n → s ≡ get_or earlier b s → IfSome r (IsLeastFrom s from) → IfSome r (λ a. a < n)
+next_is_slot n room pairs earlier cells before after b from s None kept fits read h = h
+next_is_slot n room pairs earlier cells before after b from s (Some a) kept fits read h = (slots_of_recorded n pairs kept.slots a b (recorded_there n room pairs earlier cells before after b a s true kept fits read h.found)).0
+
+pub next_is_least : (n room : ℕ) (pairs : List Pair) (earlier : List Slots) (cells : List ℕ) (before after : List Slots) (b from : ℕ) (s : Slots) (r : Option ℕ) → IsKept n room pairs earlier cells before after → b < n → s ≡ get_or earlier b s → IfSome r (IsLeastFrom s from) → IfSome r (IsNextBefore pairs b from)
+next_is_least n room pairs earlier cells before after b from s None kept fits read h = h
+next_is_least n room pairs earlier cells before after b from s (Some a) kept fits read h = record {
+  recorded = recorded_there n room pairs earlier cells before after b a s true kept fits read h.found;
   at_or_above = h.at_or_above;
   least = λ x at there. elim (cases_lt x a) [
-    | inl below ↦ absurd (both_ways _ (recorded_there n room pairs earlier cells before b x s false kept fits read (h.least x at below)) there)
+    | inl below ↦ absurd (both_ways _ (recorded_there n room pairs earlier cells before after b x s false kept fits read (h.least x at below)) there)
     | inr above ↦ above
   ];
 }
 
-pub none_is_next : (n room : ℕ) (pairs : List Pair) (earlier : List Slots) (cells : List ℕ) (before : List Slots) (b from : ℕ) (s : Slots) (r : Option ℕ) → IsKept n room pairs earlier cells before → b < n → s ≡ get_or earlier b s → IfNone r (HasNoneFrom s from) → IfNone r ((x : ℕ) → from ≤ x → ¬ (IsTrue (is_recorded pairs x b)))
-none_is_next n room pairs earlier cells before b from s None kept fits read h = λ x at there. both_ways _ (recorded_there n room pairs earlier cells before b x s false kept fits read (h x at)) there
-none_is_next n room pairs earlier cells before b from s (Some a) kept fits read h = h
+pub none_is_next : (n room : ℕ) (pairs : List Pair) (earlier : List Slots) (cells : List ℕ) (before after : List Slots) (b from : ℕ) (s : Slots) (r : Option ℕ) → IsKept n room pairs earlier cells before after → b < n → s ≡ get_or earlier b s → IfNone r (HasNoneFrom s from) → IfNone r ((x : ℕ) → from ≤ x → ¬ (IsTrue (is_recorded pairs x b)))
+none_is_next n room pairs earlier cells before after b from s None kept fits read h = λ x at there. both_ways _ (recorded_there n room pairs earlier cells before after b x s false kept fits read (h x at)) there
+none_is_next n room pairs earlier cells before after b from s (Some a) kept fits read h = h
 
 -- Where nothing is recorded before a slot, nothing precedes it.
 pub none_precedes : (pairs : List Pair) (b from : ℕ) (r : Option ℕ) → from ≡ 0 → IfNone r ((x : ℕ) → from ≤ x → ¬ (IsTrue (is_recorded pairs x b))) → IfNone r ((x : ℕ) → ¬ (Precedes pairs x b))

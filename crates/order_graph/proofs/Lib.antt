@@ -1,4 +1,5 @@
 pub mod Closure
 pub mod KeptLemmas
+pub mod Members
 pub mod Reaching
 pub mod SlotLemmas

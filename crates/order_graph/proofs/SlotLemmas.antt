@@ -229,10 +229,10 @@ joined_word i old other new h j joined k = elim (cases_lt k i) [
 pub joined_all : (i : ℕ) (old other new : List ℕ) → length old ≤ i → length other ≤ i → JoinedBelow i old other new → slots_of new ≡ finset.union (slots_of old) (slots_of other)
 joined_all i old other new h j joined = slots_of-union new old other (joined_word i old other new h j joined)
 
-no_slot : (words : List ℕ) (p : ℕ) → is_set words p ≡ false → finset.contains (slots_of words) p ≡ false
+pub no_slot : (words : List ℕ) (p : ℕ) → is_set words p ≡ false → finset.contains (slots_of words) p ≡ false
 no_slot words p e = contains-slots_of words p ∙ ap (λ b. ltb p 256 && b) e ∙ and-false (ltb p 256)
 
-clear_in_word : (words : List ℕ) (i p : ℕ) → p / 64 ≡ i → bit_at (get_or words i 0) (p % 64) ≡ 0 → is_set words p ≡ false
+pub clear_in_word : (words : List ℕ) (i p : ℕ) → p / 64 ≡ i → bit_at (get_or words i 0) (p % 64) ≡ 0 → is_set words p ≡ false
 clear_in_word words i p e z = is_set-word words i p e ∙ ap (λ b. b == 1) z
 
 -- the lowest bit of a word where all before it is clear is the least slot

@@ -1,13 +1,9 @@
 -- How an order is kept: the pairs, for each slot the set of its direct predecessors, a table of nodes, and the masks.
-use Rattle.std.specs.Prelude.{◌≡◌, ℕ, ◌+◌, ◌*◌, ◌<◌, ◌≤◌, if◌then◌else◌, ◌==◌, ◌||◌, List, length, Some, slice_index, slice_index_or, IsTrue}
+use Rattle.std.specs.Prelude.{◌≡◌, ℕ, ◌+◌, ◌*◌, ◌<◌, ◌≤◌, Bool, ◌==◌, ◌&&◌, ◌||◌, List, length, Some, slice_index, IsTrue}
 use Rattle.std.specs.List.{AllByRecursion}
 use Rattle.std.specs.FinSet as set
-use Rattle.order_graph.specs.Slots.{Slots}
+use Rattle.order_graph.specs.Slots.{Slots, slots_at}
 use Rattle.order_graph.specs.Order.{Pair, is_recorded, node_of, Order, Precedes, MasksAreClosure, AreApart}
-
--- the set of slot b
-abbrev pub slots_at : List Slots → ℕ → Slots
-slots_at sets b = slice_index_or sets b set.empty
 
 -- each pair is of slots
 abbrev pub AreOfSlots : ℕ → List Pair → Type 0
@@ -17,22 +13,33 @@ AreOfSlots callers pairs = AllByRecursion (λ p. (p.from < callers) × (p.to < c
 abbrev pub order_of : ℕ → List Pair → List Slots → Order
 order_of callers pairs before = record { callers = callers; pairs = pairs; masks = before }
 
+-- x is in the set of y
+abbrev pub has : List Slots → ℕ → ℕ → Bool
+has sets x y = set.contains (slots_at sets y) x
+
+-- b is in the `after` of a exactly where a is in the `before` of b.
+abbrev pub AreMirrored : List Slots → List Slots → Type 0
+AreMirrored before after = (a b : ℕ) → has after b a ≡ has before a b
+
 -- There is room for a pair of each two slots. The sets and the table say what the pairs say, where the row of b in the
--- table has a cell for each slot. The masks are the closure of the pairs, and no slot precedes itself.
-pub record IsKept (callers capacity : ℕ) (pairs : List Pair) (earlier : List Slots) (cells : List ℕ) (before : List Slots) : Type 0 where
+-- table has a cell for each slot. The masks are the closure of the pairs, `after` is their mirror, and no slot precedes
+-- itself.
+pub record IsKept (callers capacity : ℕ) (pairs : List Pair) (earlier : List Slots) (cells : List ℕ) (before after : List Slots) : Type 0 where
   pub some : 0 < callers
   pub few : callers ≤ 256
   pub room : callers * callers ≤ capacity
   pub sets : length earlier ≡ callers
   pub table : length cells ≡ callers * callers
   pub masks : length before ≡ callers
+  pub mirrors : length after ≡ callers
   pub slots : AreOfSlots callers pairs
   pub apart : AreApart pairs
-  pub direct : (a b : ℕ) → set.contains (slots_at earlier b) a ≡ is_recorded pairs a b
+  pub direct : (a b : ℕ) → has earlier a b ≡ is_recorded pairs a b
   pub nodes : (a b : ℕ) → IsTrue (is_recorded pairs a b) → node_of pairs a b ≡ Some (slice_index cells (b * callers + a))
   pub closure : MasksAreClosure (order_of callers pairs before)
+  pub mirror : AreMirrored before after
   pub no_cycle : (a : ℕ) → ¬ (Precedes pairs a a)
 
--- The mask of y after a pair of a and b joins: where y is b, or b precedes it, a and all that precede a join it.
-abbrev pub passed_on : List Slots → ℕ → ℕ → ℕ → Slots
-passed_on masks a b y = if (y == b) || set.contains (slots_at masks y) b then set.union (slots_at masks y) (set.insert (slots_at masks a) a) else slots_at masks y
+-- After a pair of a and b joins, x is in the mask of y where it was, or where x is a or precedes it and y is b or comes after it.
+abbrev pub IsPassedOn : List Slots → List Slots → ℕ → ℕ → Type 0
+IsPassedOn old new a b = (x y : ℕ) → has new x y ≡ (has old x y || (((x == a) || has old x a) && ((y == b) || has old b y)))

@@ -2,14 +2,15 @@
 ghost use Rattle.std.specs.Prelude.{◌≡◌, ◌≢◌, ℕ, ◌*◌, ◌<◌, ◌≤◌, ◌↔◌, map, replicate, length, vec_len, vec_capacity, IsTrue, IfOk, IfSome, IfNone};
 ghost use Rattle.std.specs.FinSet as set;
 ghost use Rattle.order_graph.specs.Order.{Precedes, reaches, is_recorded, node_of, linked, retired, mask_of, MasksAreClosure, without_pairs, AreApart, IsNextBefore};
-ghost use Rattle.order_graph.specs.Kept.{slots_at, AreOfSlots, passed_on};
+ghost use Rattle.order_graph.specs.Kept.{AreOfSlots, AreMirrored, IsPassedOn};
 
 use crate::MAX_CALLERS;
 use crate::pair::Pair;
-use crate::slot_set::SlotSet;
+use crate::slot_set::{SlotSet, join_each, take_out};
 use script_tree::memory::OutOfMemory;
 use std::alloc::{AllocError, Global};
 use std::marker::Model;
+use std::mem;
 
 /// The recorded order between the slots of live calls: pairs of slots, each with the node that it was first recorded
 /// for, and for each slot the set of all slots that precede it.
@@ -25,6 +26,7 @@ pub struct OrderGraph {
     direct: Vec<SlotSet>,
     nodes: Vec<u32>,
     before: Vec<SlotSet>,
+    after: Vec<SlotSet>,
 }
 
 impl Model for OrderGraph {
@@ -38,7 +40,7 @@ impl Model for OrderGraph {
 
     ghost view = { λ g. order_of g.callers g.pairs.items g.before.items };
 
-    ghost invariant = { λ g. IsKept g.callers (vec_capacity g.pairs) g.pairs.items g.direct.items g.nodes.items g.before.items };
+    ghost invariant = { λ g. IsKept g.callers (vec_capacity g.pairs) g.pairs.items g.direct.items g.nodes.items g.before.items g.after.items };
 }
 
 impl OrderGraph {
@@ -55,6 +57,7 @@ impl OrderGraph {
             direct: empty_sets(alloc, callers)?,
             nodes: vec![in alloc; 0; cells]?,
             before: empty_sets(alloc, callers)?,
+            after: empty_sets(alloc, callers)?,
         })
     }
 
@@ -105,7 +108,8 @@ impl OrderGraph {
         ensures pairs { self.new.pairs ≡ linked self.old.pairs a b node }
         ensures masks { MasksAreClosure self.new }
     {
-        if self.direct[b as usize].contains(a) {
+        let recorded = self.direct[b as usize].contains(a);
+        if recorded {
             return;
         }
         self.pairs.push_reserved(Pair {
@@ -115,7 +119,9 @@ impl OrderGraph {
         });
         self.direct[b as usize].insert(a);
         self.nodes[(b * self.callers + a) as usize] = node;
-        pass_on(self.before.as_mut_slice(), a, b);
+        if !self.before[b as usize].contains(a) {
+            pass_on(self.before.as_mut_slice(), self.after.as_mut_slice(), a, b);
+        }
     }
 
     /// Takes out all pairs of slot a, which no slot precedes. All other pairs stay.
@@ -126,9 +132,12 @@ impl OrderGraph {
         ensures pairs { self.new.pairs ≡ retired self.old.pairs a }
         ensures masks { MasksAreClosure self.new }
     {
+        if self.after[a as usize].least_from(0).is_none() {
+            return;
+        }
+        let later = mem::replace(&mut self.after[a as usize], SlotSet::new());
         remove_pairs(&mut self.pairs, a);
-        take_out(self.direct.as_mut_slice(), a);
-        take_out(self.before.as_mut_slice(), a);
+        take_out(self.direct.as_mut_slice(), self.before.as_mut_slice(), &later, a);
     }
 
     /// What holds of every order: the number of callers is 1 to 256, the pairs are of slots and no two of the same
@@ -159,29 +168,21 @@ fn empty_sets(alloc: Global, count: u32) -> Result<Vec<SlotSet>, AllocError>
 }
 
 // Slot a, and all that precede it, now precede slot b, and all that b precedes.
-fn pass_on(masks: &mut [SlotSet], a: u32, b: u32)
-    requires a_is_slot { a < length masks.old }
-    requires b_is_slot { b < length masks.old }
-    requires few { length masks.old ≤ MAX_CALLERS }
-    ensures { (y : ℕ) → y < length masks.old → slots_at masks.new y ≡ passed_on masks.old a b y }
+fn pass_on(before: &mut [SlotSet], after: &mut [SlotSet], a: u32, b: u32)
+    requires few { length before.old ≤ MAX_CALLERS }
+    requires as_many { length after.old ≡ length before.old }
+    requires mirror { AreMirrored before.old after.old }
+    requires a_is_slot { a < length before.old }
+    requires b_is_slot { b < length before.old }
+    ensures passed { IsPassedOn before.old before.new a b }
+    ensures mirror { AreMirrored before.new after.new }
 {
-    let mut passed = masks[a as usize].copied();
-    passed.insert(a);
-    for (slot, mask) in masks.iter_mut().enumerate() {
-        if slot == b as usize || mask.contains(b) {
-            mask.join(&passed);
-        }
-    }
-}
-
-// Takes the slot out of each set.
-fn take_out(sets: &mut [SlotSet], slot: u32)
-    requires { slot < MAX_CALLERS }
-    ensures { sets.new ≡ map (λ s. set.remove s slot) sets.old }
-{
-    for set in sets.iter_mut() {
-        set.remove(slot);
-    }
+    let mut earlier = before[a as usize].copied();
+    earlier.insert(a);
+    let mut later = after[b as usize].copied();
+    later.insert(b);
+    join_each(before, &later, &earlier);
+    join_each(after, &earlier, &later);
 }
 
 // Takes out the pairs of slot a. The others keep their order.

@@ -1,6 +1,6 @@
 // A set of slots as four words of 64 bits.
-ghost use Rattle.std.specs.Prelude.{◌≡◌, ◌<◌, IfSome, IfNone};
-ghost use Rattle.order_graph.specs.Slots.{HasNoBit, IsLowestBit, IsLeastFrom, HasNoneFrom};
+ghost use Rattle.std.specs.Prelude.{◌≡◌, ◌<◌, ◌≤◌, ℕ, length, IfSome, IfNone};
+ghost use Rattle.order_graph.specs.Slots.{HasNoBit, IsLowestBit, IsLeastFrom, HasNoneFrom, HasAllBelow, slots_at, changed};
 ghost use Rattle.std.specs.FinSet as set;
 
 use std::marker::Model;
@@ -86,6 +86,45 @@ impl SlotSet {
             low = 0;
         }
         None
+    }
+}
+
+/// Adds all of `more` to the set of each member.
+pub(crate) fn join_each(sets: &mut [SlotSet], members: &SlotSet, more: &SlotSet)
+    requires few { length sets.old ≤ 256 }
+    requires inside { HasAllBelow members.now (length sets.old) }
+    ensures { (y : ℕ) → y < length sets.old → slots_at sets.new y ≡ changed (λ s. set.union s more.now) sets.old members.now y }
+{
+    // Its own copy, which no write to a set can change: the compiler need not read it again for each member.
+    let added = more.copied();
+    for (index, word) in members.words.iter().enumerate() {
+        let mut rest = *word;
+        while rest != 0 {
+            let bit = rest.trailing_zeros();
+            sets[index * WORD_BITS as usize + bit as usize].join(&added);
+            rest &= rest - 1;
+        }
+    }
+}
+
+/// Takes the slot out of the set of each member, in both lists of sets.
+pub(crate) fn take_out(sets: &mut [SlotSet], others: &mut [SlotSet], members: &SlotSet, slot: u32)
+    requires few { length sets.old ≤ 256 }
+    requires as_many { length others.old ≡ length sets.old }
+    requires inside { HasAllBelow members.now (length sets.old) }
+    requires slot { slot < 256 }
+    ensures sets { (y : ℕ) → y < length sets.old → slots_at sets.new y ≡ changed (λ s. set.remove s slot) sets.old members.now y }
+    ensures others { (y : ℕ) → y < length others.old → slots_at others.new y ≡ changed (λ s. set.remove s slot) others.old members.now y }
+{
+    for (index, word) in members.words.iter().enumerate() {
+        let mut rest = *word;
+        while rest != 0 {
+            let bit = rest.trailing_zeros();
+            let member = index * WORD_BITS as usize + bit as usize;
+            sets[member].remove(slot);
+            others[member].remove(slot);
+            rest &= rest - 1;
+        }
     }
 }
 

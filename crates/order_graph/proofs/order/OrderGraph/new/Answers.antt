@@ -12,8 +12,11 @@ invariant_of-result c =
     let n = c.args.callers in
     let room = vec_capacity c.in_ok-with_capacity.field-0 in
     let nodes = c.in_ok-vec.field-0.items in
-    let P = λ (d : List Slots). IsKept n room [] d nodes (replicate n set.empty) in
-    let Q = λ (m : List Slots). IsKept n room [] c.in_ok-empty_sets.field-0.items nodes m in
-    let R = λ (ps : List Pair). IsKept n room ps c.in_ok-empty_sets.field-0.items nodes c.in_ok-empty_sets-2.field-0.items in
-    subst R (sym c.in_ok-with_capacity.ensures.items) (subst Q (sym c.in_ok-empty_sets-2.ensures) (subst P (sym c.in_ok-empty_sets.ensures)
-    (kept_at_first n room nodes c.requires.some c.requires.few (omega (arith, c.in_ok-with_capacity.ensures.exact)) (omega (arith, c.in_ok-vec.ensures.len)))))
+    let direct = c.in_ok-empty_sets.field-0.items in
+    let before = c.in_ok-empty_sets-2.field-0.items in
+    let P = λ (d : List Slots). IsKept n room [] d nodes (replicate n set.empty) (replicate n set.empty) in
+    let Q = λ (m : List Slots). IsKept n room [] direct nodes m (replicate n set.empty) in
+    let R = λ (m : List Slots). IsKept n room [] direct nodes before m in
+    let S = λ (ps : List Pair). IsKept n room ps direct nodes before c.in_ok-empty_sets-3.field-0.items in
+    subst S (sym c.in_ok-with_capacity.ensures.items) (subst R (sym c.in_ok-empty_sets-3.ensures) (subst Q (sym c.in_ok-empty_sets-2.ensures) (subst P (sym c.in_ok-empty_sets.ensures)
+    (kept_at_first n room nodes c.requires.some c.requires.few (omega (arith, c.in_ok-with_capacity.ensures.exact)) (omega (arith, c.in_ok-vec.ensures.len))))))
