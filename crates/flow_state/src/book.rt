@@ -11,7 +11,7 @@ ghost use Rattle.signal_graph.specs.Machine.{sets_of, looks_of, misnamed};
 ghost use Rattle.order_graph.specs.Order.{reaches, is_recorded};
 ghost use Rattle.flow_model.specs.Machine.Sets.{least};
 ghost use Rattle.flow_model.specs.Machine.State.{call_of};
-ghost use Rattle.flow_model.specs.Machine.Words.{gathered_of, set_value};
+ghost use Rattle.flow_model.specs.Machine.Words.{gathered_of, set_value, presses};
 ghost use Rattle.flow_model.specs.Machine.Changes.{closed};
 ghost use Rattle.flow_model.specs.Machine.Steps.{started, counted, with_look, free_slot, is_framing_before};
 ghost use Rattle.flow_model.specs.Machine.Next.{least_version};
@@ -364,6 +364,15 @@ impl Book {
         ensures { result ≡ pressed_in self.now version node }
     {
         self.calls.pressed(version, node)
+    }
+
+    /// The least version among the executing calls behind a live one that want the node.
+    pub fn first_pressing(&self, version: u32, node: u32) -> Option<u32>
+        requires live { live_in self.now version ≡ true }
+        requires node { node < node_count self.now }
+        ensures { result ≡ least_version (presses (bare self.now.book) version node) self.now.book.calls }
+    {
+        self.calls.first_pressing(version, node)
     }
 
     /// The value that is gathered of an input for a node.

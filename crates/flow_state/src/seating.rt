@@ -310,6 +310,22 @@ impl Seating {
         false
     }
 
+    /// The least version among the executing calls behind a live one that want the node.
+    pub(crate) fn first_pressing(&self, version: u32, node: u32) -> Option<u32>
+        requires live { has_call self.now version ≡ true }
+        requires node { node < self.now.nodes }
+        ensures { result ≡ least_version (presses_live self.now version node) self.now.calls }
+    {
+        for index in 0..self.live.len() {
+            let tenant = self.live[index];
+            let seat = &self.seats[tenant.slot as usize];
+            if self.presses(version, tenant.version, seat, node) {
+                return Some(tenant.version);
+            }
+        }
+        None
+    }
+
     // Whether a call, in its seat, executes, comes behind a live one and wants the node.
     fn presses(&self, version: u32, other: u32, seat: &Seat, node: u32) -> bool
         requires live { has_call self.now version ≡ true }
