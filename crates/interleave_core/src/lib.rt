@@ -1,6 +1,6 @@
 //! The machine of interleaved calls as a value: a book, and a list for each node.
 #![tactic(auto)]
 
-pub use machine::Core;
+pub use core_state::Core;
 
-mod machine;
+mod core_state;
