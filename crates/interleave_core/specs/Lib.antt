@@ -1,1 +1,2 @@
+pub mod Choosers
 pub mod Whole

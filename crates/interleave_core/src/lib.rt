@@ -3,4 +3,5 @@
 
 pub use machine::Core;
 
+mod choosers;
 mod machine;
