@@ -1,32 +1,46 @@
--- The machine's state fits its book and its lists.
-use Rattle.std.proofs.Common.{◌≡◌, ℕ, zero, suc, ◌+◌, ◌<◌, Bool, true, false, List, [], ◌∷◌, length, map, get_or, set, refl, sym, ap, ◌∙◌, subst, arith, length-set}
+-- The state of a book and lists fits them, and what steps make of these is the state after the step.
+use Rattle.std.proofs.Common.{◌≡◌, ℕ, zero, suc, ◌+◌, ◌<◌, ◌==◌, ◌≢◌, Bool, true, false, List, [], ◌∷◌, length, map, Option, Some, None, get_or, set, refl, sym, ap, ◌∙◌, subst, arith, length-set}
 use Rattle.std.specs.Prelude.{slice_index_or}
-use Rattle.signal_graph.specs.Graph.{Graph}
+use Rattle.signal_graph.specs.Graph.{Graph, IsGraph}
 use Rattle.node_versions.specs.Entries.{Versions}
 use Rattle.flow_model.specs.declared.step.Step.{Step}
-use Rattle.flow_model.specs.declared.step.Step.TheVariants as step
-use Rattle.node_versions.specs.declared.entry.State.TheVariants as state
-use Rattle.node_versions.specs.Entries.{is_mark, at}
-use Rattle.flow_model.specs.Machine.State.{Core, Cell, no_cell, entries}
-use Rattle.flow_model.specs.Machine.Lists.{change_at}
-use Rattle.flow_model.specs.Machine.Changes.{set_state, place_entry, raise, enter}
-use Rattle.flow_model.specs.Machine.Steps.{allowed, apply, open_node}
+use Rattle.flow_model.specs.Machine.State.{Core, Cell, no_cell}
+use Rattle.flow_model.specs.Machine.Words.{is_some_of}
+use Rattle.flow_model.specs.Machine.Keys.{list_of_step}
+use Rattle.flow_model.specs.Machine.Steps.{allowed, apply}
 use Rattle.flow_model.specs.Kept.Lawful.{IsLawful}
+use Rattle.flow_model.specs.Parts.Books.{Work, work_in, Listing, listing, listing_in, book_of, Book}
+use Rattle.flow_model.proofs.OneStep.SameLengths.{step-parts}
+use Rattle.flow_model.proofs.Books.StepsChangeOneListing.{changed-node, other-listings}
+use Rattle.flow_model.proofs.Books.StatesAreBooks.{state-whole}
 use Rattle.flow_state.specs.Booked.{Booked, with_book}
-use Rattle.flow_model.specs.Parts.Books.{Work, work_in, book_of, Book}
-use Rattle.flow_state.specs.Fitting.{IsBookOf, list_of, choosers, book_after}
+use Rattle.flow_state.specs.Fitting.{IsBookOf, IsBookStep, IsListStep, list_of, choosers, book_after}
 use Rattle.interleave_core.specs.Whole.{Whole, after, cells_of, state_of, whole_of, HaveRooms, IsWhole}
+
+-- ---- a state, its book and its lists
 
 works-back : (ws : List Work) (ls : List Versions) → length ls ≡ length ws → map work_in (cells_of ws ls) ≡ ws
 works-back [] ls h = refl
 works-back (w ∷ ws) [] h = absurd (omega (arith, h))
 works-back (w ∷ ws) (l ∷ ls) h = ap (λ (xs : List Work). w ∷ xs) (works-back ws ls (omega (arith, h)))
 
-pub flow-back : (graph : Graph) (book : Booked) (lists : List Versions) → IsWhole graph book lists → book.book ≡ book_of (state_of book.book lists)
-flow-back graph book lists kept = ap (λ (ws : List Work). record book.book { works = ws }) (sym (works-back book.book.works lists kept.many))
+cells-many : (ws : List Work) (ls : List Versions) → length ls ≡ length ws → length (cells_of ws ls) ≡ length ls
+cells-many [] [] h = refl
+cells-many [] (l ∷ ls) h = absurd (omega (arith, h))
+cells-many (w ∷ ws) [] h = refl
+cells-many (w ∷ ws) (l ∷ ls) h = ap suc (cells-many ws ls (omega (arith, h)))
 
-pub fits : (graph : Graph) (book : Booked) (lists : List Versions) → IsWhole graph book lists → IsLawful graph (state_of book.book lists) → IsBookOf graph (state_of book.book lists) book
-fits graph book lists kept lawful = record { is_graph = kept.is_graph; lawful = lawful; parts = flow-back graph book lists kept; room_for = kept.room_for }
+length-works : (cs : List Cell) → length (map work_in cs) ≡ length cs
+length-works [] = refl
+length-works (c ∷ cs) = ap suc (length-works cs)
+
+pub fits : (graph : Graph) (book : Booked) (lists : List Versions) → IsWhole graph book lists → IsBookOf graph (state_of book.book lists) book
+fits graph book lists kept = record {
+  is_graph = kept.is_graph;
+  lawful = kept.lawful;
+  parts = ap (λ (ws : List Work). record book.book { works = ws }) (sym (works-back book.book.works lists kept.many));
+  room_for = kept.room_for;
+}
 
 list-back : (graph : Graph) (callers k : ℕ) (ws : List Work) (ls : List Versions) (n : ℕ) (was : Versions) → length ls ≡ length ws → HaveRooms graph callers k ls → n < length ls → was ≡ get_or ls n was
     → was ≡ record { entries = (slice_index_or (cells_of ws ls) n no_cell).entries; outs = (slice_index_or (cells_of ws ls) n no_cell).outs; room = callers + 9; outs_room = choosers graph (k + n) }
@@ -47,103 +61,152 @@ list_fits graph book lists n was kept h e =
     list-back graph book.book.callers 0 book.book.works lists n was kept.many kept.rooms h e
     ∙ ap (λ (m : ℕ). record { entries = (slice_index_or (cells_of book.book.works lists) n no_cell).entries; outs = (slice_index_or (cells_of book.book.works lists) n no_cell).outs; room = book.book.callers + 9; outs_room = choosers graph m }) z
 
--- ---- a step on the book
+-- There are as many lists as nodes.
+pub all_nodes : (graph : Graph) (book : Booked) (lists : List Versions) → IsWhole graph book lists → length lists ≡ length graph.nodes
+all_nodes graph book lists kept = sym (cells-many book.book.works lists kept.many) ∙ kept.lawful.lists
 
-cells-same : (cs : List Cell) (ls : List Versions) (ws : List Work) → map work_in cs ≡ ws → cells_of ws ls ≡ cs → cells_of (map work_in cs) ls ≡ cs
-cells-same cs ls ws e so = ap (λ (xs : List Work). cells_of xs ls) e ∙ so
+-- ---- where a step may be made
 
--- a step that changes no cell
-pub made_by_book : (graph : Graph) (book new : Booked) (lists : List Versions) (step : Step) (seen : Whole) → IsWhole graph book lists → whole_of graph book lists ≡ seen
-    → (apply graph (state_of book.book lists) step).cells ≡ cells_of book.book.works lists → new ≡ book_after graph (state_of book.book lists) step book → whole_of graph new lists ≡ after seen step
-made_by_book graph book new lists step seen kept view same is =
+-- The law that each allowed step keeps states lawful.
+abbrev pub StaysLawful : Type 0
+StaysLawful = (graph : Graph) → IsGraph graph → (s : Core) (step : Step) → IsLawful graph s → allowed graph s step ≡ true → IsLawful graph (apply graph s step)
+
+pub record CanMake (graph : Graph) (book : Booked) (lists : List Versions) (seen : Whole) (step : Step) : Type 0 where
+  pub kept : IsWhole graph book lists
+  pub view : whole_of graph book lists ≡ seen
+  pub allowed : allowed seen.graph seen.state step ≡ true
+
+pub can-here : (graph : Graph) (book : Booked) (lists : List Versions) (seen : Whole) (step : Step) → CanMake graph book lists seen step → allowed graph (state_of book.book lists) step ≡ true
+can-here graph book lists seen step h = ap (λ (w : Whole). allowed w.graph w.state step) h.view ∙ h.allowed
+
+-- The node of a step's list is one of the lists.
+pub list_there : (graph : Graph) (book : Booked) (lists : List Versions) (seen : Whole) (step : Step) (n : ℕ) → CanMake graph book lists seen step → list_of_step step ≡ Some n → n < length lists
+list_there graph book lists seen step n h e = subst (λ (k : ℕ). n < k) (sym (all_nodes graph book lists h.kept)) (changed-node graph h.kept.is_graph (state_of book.book lists) h.kept.lawful step (can-here graph book lists seen step h) n e)
+
+-- A step on the book alone may be made of the book.
+pub can_book : (graph : Graph) (book : Booked) (lists : List Versions) (seen : Whole) (step : Step) → CanMake graph book lists seen step → IsBookStep graph book step
+can_book graph book lists seen step h = record { state = state_of book.book lists; fits = fits graph book lists h.kept; allowed = can-here graph book lists seen step h }
+
+-- A step on the book and a list may be made of the book and the node's list.
+pub can_list : (graph : Graph) (book : Booked) (lists : List Versions) (seen : Whole) (step : Step) (n : ℕ) (was : Versions) → CanMake graph book lists seen step → n < length lists → was ≡ get_or lists n was → IsListStep graph book n was step
+can_list graph book lists seen step n was h below e = record {
+  state = state_of book.book lists;
+  fits = fits graph book lists h.kept;
+  is_list = list_fits graph book lists n was h.kept below e;
+  allowed = can-here graph book lists seen step h;
+}
+
+-- ---- what a step makes
+
+pub record IsMade (graph : Graph) (new : Booked) (lists : List Versions) (seen : Whole) (step : Step) : Type 0 where
+  pub kept : IsWhole graph new lists
+  pub view : whole_of graph new lists ≡ after seen step
+
+-- The new lists have the listings of the state after the step, and the rooms.
+record AreAfter (graph : Graph) (s : Core) (lists : List Versions) : Type 0 where
+  many : length lists ≡ length s.cells
+  rooms : HaveRooms graph s.callers 0 lists
+  alike : (m : ℕ) → listing (state_of (book_of s) lists) m ≡ listing s m
+
+made : (graph : Graph) (book new : Booked) (lists news : List Versions) (seen : Whole) (step : Step) → StaysLawful → CanMake graph book lists seen step
+    → new ≡ book_after graph (state_of book.book lists) step book → AreAfter graph (apply graph (state_of book.book lists) step) news → IsMade graph new news seen step
+made graph book new lists news seen step law h is new_lists =
     let s : Core = state_of book.book lists in
-    let W : List Cell → Whole = λ cs. record { graph = graph; state = record (apply graph s step) { cells = cs }; rooms = book.rooms } in
-    ap (λ (b : Booked). whole_of graph b lists) is
-    ∙ ap W (cells-same (apply graph s step).cells lists book.book.works (ap (map work_in) same ∙ works-back book.book.works lists kept.many) (sym same))
-    ∙ ap (λ (x : Whole). after x step) view
+    let q : Core = apply graph s step in
+    let whole : state_of (book_of q) news ≡ q = state-whole (state_of (book_of q) news) q (ap (λ (ws : List Work). record (book_of q) { works = ws }) (works-back (map work_in q.cells) news (new_lists.many ∙ sym (length-works q.cells)))) new_lists.alike in
+    let lawful : IsLawful graph q = law graph h.kept.is_graph s step h.kept.lawful (can-here graph book lists seen step h) in
+    record {
+      kept = subst (λ (b : Booked). IsWhole graph b news) (sym is) (record {
+        is_graph = h.kept.is_graph;
+        many = new_lists.many ∙ sym (length-works q.cells);
+        room_for = h.kept.room_for;
+        rooms = new_lists.rooms;
+        lawful = subst (IsLawful graph) (sym whole) lawful;
+      });
+      view = ap (λ (b : Booked). whole_of graph b news) is ∙ ap (λ (x : Core). record { graph = graph; state = x; rooms = book.rooms }) whole ∙ ap (λ (w : Whole). after w step) h.view;
+    }
 
-pub whole_stays : (graph : Graph) (book new : Booked) (lists : List Versions) (flow : Book) → IsWhole graph book lists → new ≡ with_book book flow → length flow.works ≡ length book.book.works → flow.callers ≡ book.book.callers → IsWhole graph new lists
-whole_stays graph book new lists flow kept is many callers = subst (λ (b : Booked). IsWhole graph b lists) (sym is) (record { is_graph = kept.is_graph; many = kept.many ∙ sym many; room_for = kept.room_for; rooms = subst (λ (k : ℕ). HaveRooms graph k 0 lists) (sym callers) kept.rooms })
+kept-listings : (ws vs : List Work) (ls : List Versions) (m : ℕ) → length ls ≡ length ws → length ls ≡ length vs → listing_in (slice_index_or (cells_of vs ls) m no_cell) ≡ listing_in (slice_index_or (cells_of ws ls) m no_cell)
+kept-listings [] [] ls m h k = refl
+kept-listings [] (v ∷ vs) ls m h k = absurd (omega (arith, h, k))
+kept-listings (w ∷ ws) [] ls m h k = absurd (omega (arith, h, k))
+kept-listings (w ∷ ws) (v ∷ vs) [] m h k = refl
+kept-listings (w ∷ ws) (v ∷ vs) (l ∷ ls) zero h k = refl
+kept-listings (w ∷ ws) (v ∷ vs) (l ∷ ls) (suc m) h k = kept-listings ws vs ls m (omega (arith, h)) (omega (arith, k))
 
--- ---- a step on the book and a list
+same-many : (graph : Graph) (book : Booked) (lists : List Versions) (step : Step) → IsWhole graph book lists → length lists ≡ length (apply graph (state_of book.book lists) step).cells
+same-many graph book lists step kept = sym ((step-parts graph (state_of book.book lists) step).cells ∙ cells-many book.book.works lists kept.many)
 
-rebuilt : (ws : List Work) (ls : List Versions) (n : ℕ) (f : Cell → Cell) (new : Versions) → length ls ≡ length ws → n < length ls
-    → new.entries ≡ (f (slice_index_or (cells_of ws ls) n no_cell)).entries → new.outs ≡ (f (slice_index_or (cells_of ws ls) n no_cell)).outs
-    → cells_of (map work_in (change_at n f (cells_of ws ls))) (set ls n new) ≡ change_at n f (cells_of ws ls)
-rebuilt [] [] n f new same h e o = absurd (omega (arith, h))
-rebuilt [] (l ∷ ls) n f new same h e o = absurd (omega (arith, same))
-rebuilt (w ∷ ws) [] n f new same h e o = absurd (omega (arith, h))
-rebuilt (w ∷ ws) (l ∷ ls) zero f new same h e o =
-    let c : Cell = f (record { entries = l.entries; outs = l.outs; gathered = w.gathered; found = w.found; body = w.body }) in
-    ap (λ es. record { entries = es; outs = new.outs; gathered = c.gathered; found = c.found; body = c.body } ∷ cells_of (map work_in (cells_of ws ls)) ls) e
-    ∙ ap (λ os. record { entries = c.entries; outs = os; gathered = c.gathered; found = c.found; body = c.body } ∷ cells_of (map work_in (cells_of ws ls)) ls) o
-    ∙ ap (λ (cs : List Cell). c ∷ cs) (ap (λ (xs : List Work). cells_of xs ls) (works-back ws ls (omega (arith, same))))
-rebuilt (w ∷ ws) (l ∷ ls) (suc n) f new same h e o = ap (λ (cs : List Cell). record { entries = l.entries; outs = l.outs; gathered = w.gathered; found = w.found; body = w.body } ∷ cs) (rebuilt ws ls n f new (omega (arith, same)) (omega (arith, h)) e o)
+same-rooms : (graph : Graph) (book : Booked) (lists : List Versions) (step : Step) → IsWhole graph book lists → HaveRooms graph (apply graph (state_of book.book lists) step).callers 0 lists
+same-rooms graph book lists step kept = subst (λ (k : ℕ). HaveRooms graph k 0 lists) (sym (step-parts graph (state_of book.book lists) step).callers) kept.rooms
 
-pub made_by_list : (graph : Graph) (book new : Booked) (lists : List Versions) (n : ℕ) (f : Cell → Cell) (list : Versions) (step : Step) (seen : Whole) → IsWhole graph book lists → whole_of graph book lists ≡ seen → n < length lists
-    → (apply graph (state_of book.book lists) step).cells ≡ change_at n f (cells_of book.book.works lists)
-    → (slice_index_or (apply graph (state_of book.book lists) step).cells n no_cell) ≡ f (slice_index_or (cells_of book.book.works lists) n no_cell)
-    → new ≡ book_after graph (state_of book.book lists) step book → list ≡ list_of graph (apply graph (state_of book.book lists) step) n → whole_of graph new (set lists n list) ≡ after seen step
-made_by_list graph book new lists n f list step seen kept view h cells at is l_is =
+-- a step that changes no list
+pub made_by_book : (graph : Graph) (book new : Booked) (lists : List Versions) (seen : Whole) (step : Step) → StaysLawful → CanMake graph book lists seen step
+    → list_of_step step ≡ None → new ≡ book_after graph (state_of book.book lists) step book → IsMade graph new lists seen step
+made_by_book graph book new lists seen step law h quiet is =
     let s : Core = state_of book.book lists in
-    let W : List Cell → Whole = λ cs. record { graph = graph; state = record (apply graph s step) { cells = cs }; rooms = book.rooms } in
-    ap (λ (b : Booked). whole_of graph b (set lists n list)) is
-    ∙ ap W (ap (λ (cs : List Cell). cells_of (map work_in cs) (set lists n list)) cells
-    ∙ rebuilt book.book.works lists n f list kept.many h (ap (λ (v : Versions). v.entries) l_is ∙ ap (λ (c : Cell). c.entries) at) (ap (λ (v : Versions). v.outs) l_is ∙ ap (λ (c : Cell). c.outs) at)
-    ∙ sym cells)
-    ∙ ap (λ (x : Whole). after x step) view
+    let q : Core = apply graph s step in
+    let many = same-many graph book lists step h.kept in
+    made graph book new lists lists seen step law h is (record {
+      many = many;
+      rooms = same-rooms graph book lists step h.kept;
+      alike = λ m. kept-listings book.book.works (map work_in q.cells) lists m h.kept.many (many ∙ sym (length-works q.cells)) ∙ sym (other-listings graph s step m (ap (λ o. is_some_of o m) quiet));
+    })
+
+-- ---- one list changes
+
+new-listing : (vs : List Work) (ls : List Versions) (n : ℕ) (new : Versions) → length ls ≡ length vs → n < length ls → listing_in (slice_index_or (cells_of vs (set ls n new)) n no_cell) ≡ record { entries = new.entries; outs = new.outs }
+new-listing vs [] n new h below = absurd (omega (arith, below))
+new-listing [] (l ∷ ls) n new h below = absurd (omega (arith, h))
+new-listing (v ∷ vs) (l ∷ ls) zero new h below = refl
+new-listing (v ∷ vs) (l ∷ ls) (suc n) new h below = new-listing vs ls n new (omega (arith, h)) (omega (arith, below))
+
+other-listing : (vs : List Work) (ls : List Versions) (n m : ℕ) (new : Versions) → n ≢ m → listing_in (slice_index_or (cells_of vs (set ls n new)) m no_cell) ≡ listing_in (slice_index_or (cells_of vs ls) m no_cell)
+other-listing vs [] n m new d = refl
+other-listing [] (l ∷ ls) zero m new d = refl
+other-listing [] (l ∷ ls) (suc n) m new d = refl
+other-listing (v ∷ vs) (l ∷ ls) zero zero new d = absurd (d refl)
+other-listing (v ∷ vs) (l ∷ ls) zero (suc m) new d = refl
+other-listing (v ∷ vs) (l ∷ ls) (suc n) zero new d = refl
+other-listing (v ∷ vs) (l ∷ ls) (suc n) (suc m) new d = other-listing vs ls n m new (λ e. d (ap suc e))
 
 set-rooms : (graph : Graph) (callers k : ℕ) (ls : List Versions) (n : ℕ) (new : Versions) → HaveRooms graph callers k ls → new.room ≡ callers + 9 → new.outs_room ≡ choosers graph (k + n) → HaveRooms graph callers k (set ls n new)
 set-rooms graph callers k [] n new rooms a b = tt
 set-rooms graph callers k (l ∷ ls) zero new rooms a b = let z : k + 0 ≡ k = omega arith in (a, b ∙ ap (choosers graph) z, rooms.2)
 set-rooms graph callers k (l ∷ ls) (suc n) new rooms a b = let z : k + suc n ≡ k + 1 + n = omega arith in (rooms.0, rooms.1, set-rooms graph callers (k + 1) ls n new rooms.2 a (b ∙ ap (choosers graph) z))
 
-pub whole_with_list : (graph : Graph) (book new : Booked) (lists : List Versions) (n : ℕ) (list : Versions) (s : Core) → IsWhole graph book lists → new ≡ with_book book (book_of s) → length s.cells ≡ length book.book.works → s.callers ≡ book.book.callers → list ≡ list_of graph s n → IsWhole graph new (set lists n list)
-whole_with_list graph book new lists n list s kept is many callers l_is = subst (λ (b : Booked). IsWhole graph b (set lists n list)) (sym is) (record {
-  is_graph = kept.is_graph;
-  many = length-set lists n list ∙ kept.many ∙ sym many ∙ sym (length-works s.cells);
-  room_for = kept.room_for;
-  rooms = let z : n ≡ 0 + n = omega arith in set-rooms graph s.callers 0 lists n list (subst (λ (k : ℕ). HaveRooms graph k 0 lists) (sym callers) kept.rooms) (ap (λ (v : Versions). v.room) l_is) (ap (λ (v : Versions). v.outs_room) l_is ∙ ap (choosers graph) z);
-})
+-- a step that changes one list
+pub made_by_list : (graph : Graph) (book new : Booked) (lists : List Versions) (seen : Whole) (step : Step) (n : ℕ) (list : Versions) → StaysLawful → CanMake graph book lists seen step
+    → list_of_step step ≡ Some n → (new ≡ book_after graph (state_of book.book lists) step book) × (list ≡ list_of graph (apply graph (state_of book.book lists) step) n)
+    → IsMade graph new (set lists n list) seen step
+made_by_list graph book new lists seen step n list law h one made_so =
+    made graph book new lists (set lists n list) seen step law h made_so.0 (record {
+      many = length-set lists n list ∙ many;
+      rooms = let z : n ≡ 0 + n = omega arith in set-rooms graph q.callers 0 lists n list (same-rooms graph book lists step h.kept) (ap (λ (v : Versions). v.room) made_so.1) (ap (λ (v : Versions). v.outs_room) made_so.1 ∙ ap (choosers graph) z);
+      alike = λ m. alike m (n == m) refl;
+    })
   where
-    length-works : (cs : List Cell) → length (map work_in cs) ≡ length cs
-    length-works [] = refl
-    length-works (c ∷ cs) = ap suc (length-works cs)
+    s : Core
+    s = state_of book.book lists
 
--- ---- one step and another
+    q : Core
+    q = apply graph s step
 
-pub works-many : (graph : Graph) (book : Booked) (lists : List Versions) → IsWhole graph book lists → length (cells_of book.book.works lists) ≡ length book.book.works
-works-many graph book lists kept = sym (length-works (cells_of book.book.works lists)) ∙ ap length (works-back book.book.works lists kept.many)
-  where
-    length-works : (cs : List Cell) → length (map work_in cs) ≡ length cs
-    length-works [] = refl
-    length-works (c ∷ cs) = ap suc (length-works cs)
+    many : length lists ≡ length q.cells
+    many = same-many graph book lists step h.kept
 
--- how framing a node changes its cell
-abbrev pub framed_cell : Core → ℕ → ℕ → Cell → Cell
-framed_cell s t n c = elim (at is_mark (entries s n) t) [ true ↦ set_state t state.Frame c | false ↦ place_entry s t state.Frame c ]
+    works : List Work
+    works = map work_in q.cells
 
-pub frame_cells : (graph : Graph) (s : Core) (t n : ℕ) → (apply graph s (step.Frame t n)).cells ≡ change_at n (framed_cell s t n) s.cells
-frame_cells graph s t n = go (at is_mark (entries s n) t)
-  where
-    go : (b : Bool) → (elim b as (λ _. Core) [ true ↦ open_node graph (raise s t n) t n | false ↦ open_node graph (enter s t n state.Frame) t n ]).cells ≡ change_at n (λ c. elim b as (λ _. Cell) [ true ↦ set_state t state.Frame c | false ↦ place_entry s t state.Frame c ]) s.cells
-    go true = refl
-    go false = refl
+    works_many : length lists ≡ length works
+    works_many = many ∙ sym (length-works q.cells)
 
-pub frame_callers : (graph : Graph) (s : Core) (t n : ℕ) → (apply graph s (step.Frame t n)).callers ≡ s.callers
-frame_callers graph s t n = go (at is_mark (entries s n) t)
-  where
-    go : (b : Bool) → (elim b as (λ _. Core) [ true ↦ open_node graph (raise s t n) t n | false ↦ open_node graph (enter s t n state.Frame) t n ]).callers ≡ s.callers
-    go true = refl
-    go false = refl
+    below : n < length lists
+    below = list_there graph book lists seen step n h one
 
-pub length-changed : (n : ℕ) (f : Cell → Cell) (cs : List Cell) → length (change_at n f cs) ≡ length cs
-length-changed n f [] = refl
-length-changed zero f (c ∷ cs) = refl
-length-changed (suc n) f (c ∷ cs) = ap suc (length-changed n f cs)
+    there : listing (state_of (book_of q) (set lists n list)) n ≡ listing q n
+    there = new-listing works lists n list works_many below ∙ ap (λ (v : Versions). record { entries = v.entries; outs = v.outs }) made_so.1
 
-pub seen_lawful : (graph : Graph) (book : Booked) (lists : List Versions) (seen : Whole) → whole_of graph book lists ≡ seen → IsLawful seen.graph seen.state → IsLawful graph (state_of book.book lists)
-seen_lawful graph book lists seen view h = subst (λ (w : Whole). IsLawful w.graph w.state) (sym view) h
-
-pub seen_allowed : (graph : Graph) (book : Booked) (lists : List Versions) (seen : Whole) (x : Step) → whole_of graph book lists ≡ seen → allowed seen.graph seen.state x ≡ true → allowed graph (state_of book.book lists) x ≡ true
-seen_allowed graph book lists seen x view h = ap (λ (w : Whole). allowed w.graph w.state x) view ∙ h
+    alike : (m : ℕ) (same : Bool) → (n == m) ≡ same → listing (state_of (book_of q) (set lists n list)) m ≡ listing q m
+    alike m true e = let same : n ≡ m = grind (arith, e) in subst (λ (k : ℕ). listing (state_of (book_of q) (set lists n list)) k ≡ listing q k) same there
+    alike m false e = other-listing works lists n m list (λ x. grind (arith, e, x)) ∙ kept-listings book.book.works works lists m h.kept.many works_many ∙ sym (other-listings graph s step m (ap (λ o. is_some_of o m) one ∙ e))

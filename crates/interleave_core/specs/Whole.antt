@@ -5,6 +5,7 @@ use Rattle.node_versions.specs.Entries.{Versions}
 use Rattle.flow_model.specs.Machine.State.{Core, Cell}
 use Rattle.flow_model.specs.declared.step.Step.{Step}
 use Rattle.flow_model.specs.Machine.Steps.{apply}
+use Rattle.flow_model.specs.Kept.Lawful.{IsLawful}
 use Rattle.flow_state.specs.Booked.{Booked, rooms_for}
 use Rattle.flow_model.specs.Parts.Books.{Work, Book}
 use Rattle.flow_state.specs.Fitting.{choosers}
@@ -37,9 +38,10 @@ abbrev pub HaveRooms : Graph → ℕ → ℕ → List Versions → Type 0
 HaveRooms graph callers n [] = Unit {0}
 HaveRooms graph callers n (l ∷ ls) = (l.room ≡ callers + 9) × (l.outs_room ≡ choosers graph n) × HaveRooms graph callers (n + 1) ls
 
--- There is a list for each node, and all rooms are those of the graph.
+-- There is a list for each node, all rooms are those of the graph, and the state is a lawful one.
 pub record IsWhole (graph : Graph) (book : Booked) (lists : List Versions) : Type 0 where
   pub is_graph : IsGraph graph
   pub many : length lists ≡ length book.book.works
   pub room_for : book.room_for ≡ rooms_for graph
   pub rooms : HaveRooms graph book.book.callers 0 lists
+  pub lawful : IsLawful graph (state_of book.book lists)

@@ -1,7 +1,7 @@
 //! The machine of interleaved calls as a value: a book, and a list for each node.
 #![tactic(auto)]
 
-pub use machine::Core;
+pub use core_state::Core;
 
 mod choosers;
-mod machine;
+mod core_state;

@@ -1,23 +1,24 @@
-// The machine.
+// What the machine is made of.
 
-ghost use Rattle.std.specs.Prelude.{◌≡◌, ◌<◌, true, length};
+ghost use Rattle.std.specs.Prelude.{◌≡◌, true};
 ghost use Rattle.flow_model.specs.declared.step.Step.TheVariants as step;
 ghost use Rattle.flow_model.specs.Machine.Steps.{allowed};
-ghost use Rattle.flow_model.specs.Kept.Lawful.{IsLawful};
 ghost use Rattle.interleave_core.specs.Whole.{after};
 
+use flow_model::laws::lawful_stays;
 use flow_state::Book;
 use framing::{frame, start};
 use node_versions::NodeList;
 use signal_graph::graph::Graph;
 use std::marker::Model;
 
-/// The machine of a graph. Contracts see the graph, the state, and how many rooms are out.
+/// The machine of a graph. Contracts see the graph, the state, and how many rooms are out. The state is a lawful one of the graph:
+/// what it starts as is, and steps and beginnings keep it so.
 #[derive(Drop)]
 pub struct Core<'g> {
-    graph: &'g Graph,
-    book: Book,
-    lists: Vec<NodeList>,
+    pub(crate) graph: &'g Graph,
+    pub(crate) book: Book,
+    pub(crate) lists: Vec<NodeList>,
 }
 
 impl<'g> Model for Core<'g> {
@@ -37,20 +38,19 @@ impl<'g> Model for Core<'g> {
 impl Core<'_> {
     /// The step Start.
     pub fn start(&mut self, version: u32)
-        requires lawful { IsLawful self.old.graph self.old.state }
         requires allowed { allowed self.old.graph self.old.state (step.Start version) ≡ true }
         ensures { self.new ≡ after self.old (step.Start version) }
     {
+        lawful_stays();
         start(&mut self.book, version);
     }
 
     /// The step Frame.
     pub fn frame(&mut self, version: u32, node: u32)
-        requires lawful { IsLawful self.old.graph self.old.state }
         requires allowed { allowed self.old.graph self.old.state (step.Frame version node) ≡ true }
-        requires node { node < length self.old.graph.nodes }
         ensures { self.new ≡ after self.old (step.Frame version node) }
     {
+        lawful_stays();
         let list = &mut self.lists[node as usize];
         frame(&mut self.book, list, self.graph, version, node);
     }
