@@ -147,7 +147,7 @@ selectors_fit : (names : List (List ℕ)) (n : ℕ) (node : Node) → IsNode nam
 selectors_fit names n (Source v) h = tt
 selectors_fit names n (Signal script inputs) h = tt
 selectors_fit names n (Fold v script inputs) h = tt
-selectors_fit names n (Choose selectors body inputs) h = h.2.2.0
+selectors_fit names n (Choose selectors body inputs) h = h.2
 
 selector_at : (P : Selector → Type 0) (ss : List Selector) (i : ℕ) (s : Selector) → AllByRecursion P ss → i < length ss → s ≡ get_or ss i s → P s
 selector_at P [] i s all h is = absurd (omega (arith, h))
