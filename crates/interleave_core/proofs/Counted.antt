@@ -160,3 +160,11 @@ below_all n size (c ∷ cs) h all = let b = all.0 in (omega (arith, h, b), below
 
 pub candidates_below : (names : List (List ℕ)) (n size : ℕ) (node : Node) (i : ℕ) (s : Selector) → IsNode names n node → n < size → i < length (selectors_of node) → s ≡ get_or (selectors_of node) i s → AllByRecursion (λ c. c < size) s.candidates
 candidates_below names n size node i s kept h inside is = below_all n size s.candidates h (selector_at (IsSelector names n) (selectors_of node) i s (selectors_fit names n node kept) inside is).candidates_earlier
+
+-- ---- reading counts
+
+pub choosers_many : (graph : Graph) (counts : List ℕ) → counts ≡ map (choosers graph) (numbers graph) → length counts ≡ length graph.nodes
+choosers_many graph counts e = ap length e ∙ ap (λ (ns : List ℕ). length (map (choosers graph) ns)) (numbers_are graph) ∙ length-map-range_with_len (choosers graph) 0 (length graph.nodes)
+
+pub chooser_at : (graph : Graph) (counts : List ℕ) (n k : ℕ) → counts ≡ map (choosers graph) (numbers graph) → n < length graph.nodes → k ≡ get_or counts n k → k ≡ choosers graph n
+chooser_at graph counts n k e h is = is ∙ ap (λ (ns : List ℕ). get_or ns n k) (e ∙ ap (map (choosers graph)) (numbers_are graph)) ∙ get_or-map-range_with_len (choosers graph) 0 (length graph.nodes) n n k h (omega arith)

@@ -5,3 +5,4 @@ pub use core_state::Core;
 
 mod choosers;
 mod core_state;
+mod opening;
