@@ -1,0 +1,77 @@
+use Rattle.std.proofs.Common.{◌<◌, length, sym, ap, ◌∙◌, arith}
+use Rattle.flow_state.specs.Seats.{Seated, LiveCalls, has_call, presses_live}
+use Rattle.flow_state.proofs.SeatLemmas.{calls-has, seat_read}
+use Rattle.flow_state.proofs.Leaving.{tenant_at}
+use Rattle.flow_state.proofs.Firsts.{first_found, first_more, first_ends}
+use Rattle.flow_state.proofs.seating.Seating.first_pressing.Goals as goal
+
+pub index-seat-requires : goal.index-seat-requires
+index-seat-requires c =
+    let s = c.self.inside in
+    let len = c.len-index-end.ensures in
+    let x = c.index-tenant.result.now in
+    let below : c.loop-index.index < length s.live.items = omega (arith, len) in
+    let at = tenant_at s.seats.items s.live.items c.loop-index.index x c.self.invariant.tenants below c.index-tenant.ensures in
+    let inside = at.0.inside in
+    omega (arith, inside)
+
+pub presses-requires-clause-other : goal.presses-requires-clause-other
+presses-requires-clause-other c =
+    let s = c.self.inside in
+    let len = c.len-index-end.ensures in
+    let x = c.index-tenant.result.now in
+    let below : c.loop-index.index < length s.live.items = omega (arith, len) in
+    let at = tenant_at s.seats.items s.live.items c.loop-index.index x c.self.invariant.tenants below c.index-tenant.ensures in
+    sym (ap (λ (l : LiveCalls). has_call l x.version) c.self.view_is) ∙ calls-has s.seats.items s.live.items x.version c.self.invariant.tenants ∙ at.1
+
+pub presses-requires-clause-seat : goal.presses-requires-clause-seat
+presses-requires-clause-seat c =
+    let s = c.self.inside in
+    let len = c.len-index-end.ensures in
+    let x = c.index-tenant.result.now in
+    let below : c.loop-index.index < length s.live.items = omega (arith, len) in
+    let at = tenant_at s.seats.items s.live.items c.loop-index.index x c.self.invariant.tenants below c.index-tenant.ensures in
+    let inside = at.0.inside in
+    let read = seat_read s.seats.items x.slot c.index-seat.result.now inside c.index-seat.ensures in
+    ap (λ (y : Seated). y.call.version) read ∙ at.0.version
+
+pub presses-requires-clause-node : goal.presses-requires-clause-node
+presses-requires-clause-node c =
+    let s = c.self.inside in
+    let len = c.len-index-end.ensures in
+    let x = c.index-tenant.result.now in
+    let below : c.loop-index.index < length s.live.items = omega (arith, len) in
+    let at = tenant_at s.seats.items s.live.items c.loop-index.index x c.self.invariant.tenants below c.index-tenant.ensures in
+    let inside = at.0.inside in
+    let read = seat_read s.seats.items x.slot c.index-seat.result.now inside c.index-seat.ensures in
+    let count = c.self.invariant.count in
+    let size = ap (λ (y : Seated). y.size) read ∙ c.self.invariant.sizes x.slot (omega (arith, inside, count)) ∙ ap (λ (l : LiveCalls). l.nodes) c.self.view_is in
+    let node = c.requires.node in
+    omega (arith, size, node)
+
+pub returns-then-presses : goal.returns-then-presses
+returns-then-presses c =
+    let s = c.self.inside in
+    let len = c.len-index-end.ensures in
+    let x = c.index-tenant.result.now in
+    let below : c.loop-index.index < length s.live.items = omega (arith, len) in
+    let at = tenant_at s.seats.items s.live.items c.loop-index.index x c.self.invariant.tenants below c.index-tenant.ensures in
+    let inside = at.0.inside in
+    let read = seat_read s.seats.items x.slot c.index-seat.result.now inside c.index-seat.ensures in
+    first_found (presses_live c.args.self.now c.args.version c.args.node) s.seats.items s.live.items c.loop-index.index x _ c.self.invariant.tenants c.self.invariant.ascending below c.index-tenant.ensures c.loop-index.invariant
+    (ap (λ (y : Seated). presses_live c.args.self.now c.args.version c.args.node y.call) (sym read) ∙ sym c.presses.ensures ∙ c.if-presses.true)
+
+pub loop-index-preserved : goal.loop-index-preserved
+loop-index-preserved c =
+    let s = c.self.inside in
+    let len = c.len-index-end.ensures in
+    let x = c.index-tenant.result.now in
+    let below : c.loop-index.index < length s.live.items = omega (arith, len) in
+    let at = tenant_at s.seats.items s.live.items c.loop-index.index x c.self.invariant.tenants below c.index-tenant.ensures in
+    let inside = at.0.inside in
+    let read = seat_read s.seats.items x.slot c.index-seat.result.now inside c.index-seat.ensures in
+    first_more (presses_live c.args.self.now c.args.version c.args.node) s.seats.items s.live.items c.loop-index.index x _ below c.index-tenant.ensures c.loop-index.invariant
+    (ap (λ (y : Seated). presses_live c.args.self.now c.args.version c.args.node y.call) (sym read) ∙ sym c.presses.ensures ∙ c.if-presses.false)
+
+pub returns : goal.returns
+returns c = first_ends (presses_live c.args.self.now c.args.version c.args.node) c.self.inside.seats.items c.self.inside.live.items c.loop-index.index _ (let len = c.len-index-end.ensures in omega (arith, len)) c.loop-index.invariant
