@@ -1,1 +1,4 @@
+pub mod Counted
 pub mod Fits
+pub mod StartEdges
+pub mod Telling

@@ -1,1 +1,3 @@
+pub mod Choosers
+pub mod Opening
 pub mod Whole

@@ -1,6 +1,6 @@
 // What the machine is made of.
 
-ghost use Rattle.std.specs.Prelude.{◌≡◌, true};
+ghost use Rattle.std.specs.Prelude.{◌≡◌, ◌≤◌, [], true, length, vec_capacity};
 ghost use Rattle.flow_model.specs.declared.step.Step.TheVariants as step;
 ghost use Rattle.flow_model.specs.Machine.Steps.{allowed};
 ghost use Rattle.interleave_core.specs.Whole.{after};
@@ -9,6 +9,7 @@ use flow_model::laws::lawful_stays;
 use flow_state::Book;
 use framing::{frame, start};
 use node_versions::NodeList;
+use script_tree::value::Value;
 use signal_graph::graph::Graph;
 use std::marker::Model;
 
@@ -19,6 +20,9 @@ pub struct Core<'g> {
     pub(crate) graph: &'g Graph,
     pub(crate) book: Book,
     pub(crate) lists: Vec<NodeList>,
+    pub(crate) finals: Vec<Value>,
+    ghost finals_empty: { finals.items ≡ [] },
+    ghost finals_room: { length lists.items ≤ vec_capacity finals },
 }
 
 impl<'g> Model for Core<'g> {

@@ -3,4 +3,6 @@
 
 pub use core_state::Core;
 
+mod choosers;
 mod core_state;
+mod opening;
