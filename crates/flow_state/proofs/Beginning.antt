@@ -1,5 +1,6 @@
 -- A call takes a seat.
 use Rattle.std.proofs.Common.{◌≡◌, ◌≢◌, ℕ, zero, suc, ◌+◌, ◌-◌, ◌<◌, ◌≤◌, inl, inr, Bool, true, false, ◌==◌, ◌||◌, List, [], ◌∷◌, ◌++◌, length, map, get_or, set, refl, sym, ap, ◌∙◌, subst, arith, length-set}
+use Rattle.std.specs.List.{AllByRecursion}
 use Rattle.std.proofs.lemmas.Bool.{eq-eqb, ne_eqb, eqb-true, cases_eq, true≢false, false≢true}
 use Rattle.std.proofs.lemmas.List.{get_or-set_same, get_or-set_other, map-append, length-map}
 use Rattle.signal_graph.specs.declared.call.Call.{Call}
@@ -15,7 +16,7 @@ use Rattle.flow_model.specs.Kept.Lawful.{times, AreDistinct}
 use Rattle.flow_model.proofs.General.Pigeons.{times-it, times-other, total-all, total-missing}
 use Rattle.flow_state.specs.declared.seating.Tenant.{Tenant}
 use Rattle.flow_state.specs.Booked.{begun_call}
-use Rattle.flow_state.specs.Seats.{Seated, LiveCalls, Shelved, no_seat, has_call, one_call_more, seat_at, call_at, version_at, calls_of, versions_of, pairs_of, live_calls, has_version, has_slot, AreTenants, AreLinked, AreSeats}
+use Rattle.flow_state.specs.Seats.{Seated, LiveCalls, Shelved, no_seat, has_call, one_call_more, seat_at, call_at, version_at, calls_of, versions_of, pairs_of, live_calls, has_version, has_slot, AreTenants, AreAscending, AreLinked, AreSeats}
 use Rattle.flow_state.specs.Kept.{IsKept}
 use Rattle.flow_state.proofs.SeatLemmas.{calls-away}
 use Rattle.flow_state.proofs.Leaving.{at_seat, tenant-away, not_true}
@@ -177,9 +178,21 @@ linked-more : (live : List Tenant) (n : Tenant) (pairs : List Pair) → AreLinke
 linked-more live n [] l = tt
 linked-more live n (p ∷ ps) l = ((slot-more live n p.from ∙ ap (λ b. b || (n.slot == p.from)) l.0.0, slot-more live n p.to ∙ ap (λ b. b || (n.slot == p.to)) l.0.1), linked-more live n ps l.1)
 
-pub begun_kept : (callers nodes capacity cap : ℕ) (seats : List Seated) (live more : List Tenant) (order : Order) (n : Tenant) (new : Seated) → AreSeats callers nodes capacity seats live order → n.slot < callers → IsTaken nodes n.version n.slot new → has_version live n.version ≡ false → has_slot live n.slot ≡ false → more ≡ live ++ n ∷ [] → cap ≡ capacity → AreSeats callers nodes cap (set seats n.slot new) more order
-begun_kept callers nodes capacity cap seats live more order n new kept below taken nv ns is same =
+above-more : (v : ℕ) (xs : List Tenant) (n : Tenant) → v < n.version → AllByRecursion (λ (y : Tenant). v < y.version) xs → AllByRecursion (λ (y : Tenant). v < y.version) (xs ++ n ∷ [])
+above-more v [] n h a = (h, tt)
+above-more v (x ∷ xs) n h a = (a.0, above-more v xs n h a.1)
+
+ascending-more : (xs : List Tenant) (n : Tenant) → ((t : ℕ) → has_version xs t ≡ true → t < n.version) → AreAscending xs → AreAscending (xs ++ n ∷ [])
+ascending-more [] n newest a = (tt, tt)
+ascending-more (x ∷ xs) n newest a = (
+  above-more x.version xs n (newest x.version (ap (λ b. b || has_version xs x.version) (eq-eqb x.version x.version refl))) a.0,
+  ascending-more xs n (λ t h. newest t (or_there (x.version == t) (has_version xs t) h)) a.1,
+)
+
+pub begun_kept : (callers nodes capacity cap : ℕ) (seats : List Seated) (live more : List Tenant) (order : Order) (n : Tenant) (new : Seated) → AreSeats callers nodes capacity seats live order → n.slot < callers → IsTaken nodes n.version n.slot new → ((t : ℕ) → has_version live t ≡ true → t < n.version) → has_slot live n.slot ≡ false → more ≡ live ++ n ∷ [] → cap ≡ capacity → AreSeats callers nodes cap (set seats n.slot new) more order
+begun_kept callers nodes capacity cap seats live more order n new kept below taken newest ns is same =
     let count = kept.count in
+    let nv : has_version live n.version ≡ false = not_true (has_version live n.version) (λ h. let k = newest n.version h in absurd (omega (arith, k))) in
     let inside : n.slot < length seats = omega (arith, below, count) in
     subst (λ (xs : List Tenant). AreSeats callers nodes cap (set seats n.slot new) xs order) (sym is) (record {
       some = kept.some;
@@ -187,6 +200,7 @@ begun_kept callers nodes capacity cap seats live more order n new kept below tak
       few_nodes = kept.few_nodes;
       count = length-set seats n.slot new ∙ kept.count;
       tenants = tenants-more seats live n nodes new inside taken nv ns kept.tenants;
+      ascending = ascending-more live n newest kept.ascending;
       free = λ j none.
           let both = neither (has_slot live j) (n.slot == j) (sym (slot-more live n j) ∙ none) in
           ap (λ (s : Seated). s.call.version) (get_or-set_other seats n.slot j new no_seat (λ e. true≢false (sym (eq-eqb n.slot j (sym e)) ∙ both.1))) ∙ kept.free j both.0;
@@ -257,5 +271,5 @@ kept_begin limit begun rooms spare live new shelves log call kept is version lef
     go t h true e = let k = kept.known t e in omega (arith, k)
     go t h false e = let v = has-more call live.calls t h e in omega (arith, v, version)
 
-pub new_version : (limit begun rooms spare : ℕ) (live : LiveCalls) (shelves : List Shelved) (log : Record) → IsKept limit begun rooms spare live shelves log → has_call live (begun + 1) ≡ false
-new_version limit begun rooms spare live shelves log kept = not_true (has_call live (begun + 1)) (λ h. let k = kept.known (begun + 1) h in absurd (omega (arith, k)))
+pub newest_version : (limit begun rooms spare : ℕ) (live : LiveCalls) (shelves : List Shelved) (log : Record) → IsKept limit begun rooms spare live shelves log → (t : ℕ) → has_call live t ≡ true → t < begun + 1
+newest_version limit begun rooms spare live shelves log kept t h = let k = kept.known t h in omega (arith, k)

@@ -1,15 +1,12 @@
 -- A node at the front for a call: what a list may be asked there, and what it is after the call has finished.
 use Rattle.std.proofs.Common.{◌≡◌, ℕ, ◌<◌, ◌+◌, true, length, sym, ap, ◌∙◌, subst}
 use Rattle.std.specs.Option.{IsSome}
-
 use Rattle.signal_graph.specs.Graph.{Graph}
 use Rattle.node_versions.specs.declared.entry.State.{State}
-
 use Rattle.node_versions.specs.Entries.{Versions, is_frame, has, at, before, last_done, with_state, with_entries}
 use Rattle.flow_model.specs.Machine.State.{Core, Cell, entries, live, with_cell}
 use Rattle.flow_model.specs.Machine.Words.{at_front}
 use Rattle.flow_model.specs.Machine.Changes.{set_state}
-
 use Rattle.flow_model.proofs.OneStep.WhoMayStep.{at_front-heads, at_front-executes, executes-live}
 use Rattle.flow_model.proofs.OrderStays.OpenNodesHaveFrames.{cell-there, entry-there}
 use Rattle.flow_state.specs.Booked.{Booked, live_in, node_count}

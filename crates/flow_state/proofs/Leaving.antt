@@ -12,7 +12,7 @@ use Rattle.flow_model.specs.Machine.State.{LiveCall}
 use Rattle.flow_model.specs.Machine.Steps.{without_call}
 use Rattle.flow_model.proofs.OneList.Chains.{none-reaches, last_pair}
 use Rattle.flow_state.specs.declared.seating.Tenant.{Tenant}
-use Rattle.flow_state.specs.Seats.{Seated, LiveCalls, no_seat, has_call, left_calls, without_tenant, seat_at, call_at, version_at, calls_of, versions_of, pairs_of, live_calls, has_version, has_slot, IsTenant, AreTenants, AreLinked, AreSeats, LeadsToLive}
+use Rattle.flow_state.specs.Seats.{Seated, LiveCalls, no_seat, has_call, left_calls, without_tenant, AreAscending, seat_at, call_at, version_at, calls_of, versions_of, pairs_of, live_calls, has_version, has_slot, IsTenant, AreTenants, AreLinked, AreSeats, LeadsToLive}
 use Rattle.flow_state.proofs.SeatLemmas.{IsSlotOf, calls-away, calls-has}
 use Rattle.flow_state.proofs.PairLemmas.{Tells, tells, slot-version, recorded-versions, retired-versions, not_reached}
 
@@ -76,6 +76,22 @@ tenants-left seats k t new (x ∷ xs) a ok = subst (AreTenants (set seats k new)
     go (inr other) r s = subst (λ (b : Bool). AreTenants (set seats k new) (cond (not b) (x ∷ without_tenant xs t) (without_tenant xs t))) (sym (ne_eqb x.slot k other))
         (tenant-away seats k new x other ok.0, version-left xs t x.version ok.1, s ∙ ap (λ b. b && not (x.slot == k)) ok.2, r)
 
+above-left : (v : ℕ) (xs : List Tenant) (t : ℕ) → AllByRecursion (λ (y : Tenant). v < y.version) xs → AllByRecursion (λ (y : Tenant). v < y.version) (without_tenant xs t)
+above-left v [] t h = tt
+above-left v (x ∷ xs) t h = go (x.version == t) (above-left v xs t h.1)
+  where
+    go : (b : Bool) → AllByRecursion (λ (y : Tenant). v < y.version) (without_tenant xs t) → AllByRecursion (λ (y : Tenant). v < y.version) (cond (not b) (x ∷ without_tenant xs t) (without_tenant xs t))
+    go true r = r
+    go false r = (h.0, r)
+
+ascending-left : (xs : List Tenant) (t : ℕ) → AreAscending xs → AreAscending (without_tenant xs t)
+ascending-left [] t h = tt
+ascending-left (x ∷ xs) t h = go (x.version == t) (ascending-left xs t h.1)
+  where
+    go : (b : Bool) → AreAscending (without_tenant xs t) → AreAscending (cond (not b) (x ∷ without_tenant xs t) (without_tenant xs t))
+    go true r = r
+    go false r = (above-left x.version xs t h.0, r)
+
 keeps-pair : (live : List Tenant) (t k : ℕ) (p : Pair) → Agree t k live → (has_slot live p.from ≡ true) × (has_slot live p.to ≡ true) → ((p.from == k) || (p.to == k)) ≡ false → (has_slot (without_tenant live t) p.from ≡ true) × (has_slot (without_tenant live t) p.to ≡ true)
 keeps-pair live t k p a both none = (slot-left live t k p.from a ∙ first (p.from == k) (p.to == k) (has_slot live p.from) none both.0, slot-left live t k p.to a ∙ second (p.from == k) (p.to == k) (has_slot live p.to) none both.1)
   where
@@ -127,6 +143,7 @@ left_kept callers nodes capacity seats live order after t k was new kept at read
       few_nodes = kept.few_nodes;
       count = length-set seats k new ∙ kept.count;
       tenants = tenants-left seats k t new live a kept.tenants;
+      ascending = ascending-left live t kept.ascending;
       free = free-left seats live t k new a i freed.version kept.free;
       slots = λ j below. at_seat (λ (i : ℕ) (s : Seated). s.call.slot ≡ i) seats k new i (freed.slot ∙ ap (λ (s : Seated). s.call.slot) read ∙ kept.slots k (omega (arith, i, n))) j (kept.slots j below);
       sizes = λ j below. at_seat (λ (i : ℕ) (s : Seated). s.size ≡ nodes) seats k new i (freed.size ∙ ap (λ (s : Seated). s.size) read ∙ kept.sizes k (omega (arith, i, n))) j (kept.sizes j below);

@@ -3,6 +3,7 @@ pub mod Gathered
 pub mod SeatLemmas
 pub mod PairLemmas
 pub mod Leaving
+pub mod Firsts
 pub mod Openings
 pub mod Naming
 pub mod Beginning

@@ -32,6 +32,7 @@ free_kept callers nodes capacity seats live order some few few_nodes e none new 
   few_nodes = few_nodes;
   count = length-free callers nodes seats e;
   tenants = tt;
+  ascending = tt;
   free = λ k h. elim (cases_lt k callers) [
     | inl below ↦ free_at (λ (j : ℕ) (s : Seated). s.call.version ≡ 0) callers nodes seats e (λ _. refl) k below
     | inr past ↦ ap (λ (s : Seated). s.call.version) (get_or_past seats k no_seat (let n = length-free callers nodes seats e in omega (arith, n, past)))

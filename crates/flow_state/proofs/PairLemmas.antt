@@ -2,8 +2,10 @@
 use Rattle.std.proofs.Common.{◌≡◌, ◌≢◌, ℕ, ◌<◌, inl, inr, ◌⊎◌, Bool, true, false, not, ◌==◌, ◌||◌, ◌&&◌, cond, List, [], ◌∷◌, ◌++◌, filter, refl, sym, ap, ◌∙◌, subst, arith}
 use Rattle.std.proofs.lemmas.Bool.{eq-eqb, ne_eqb, cases_eq, true≢false, false≢true}
 use Rattle.std.proofs.lemmas.List.{map-append}
+use Rattle.std.specs.Prelude.{is_some, find, Some}
+use Rattle.std.specs.Option.{option_map}
 use Rattle.order_graph.specs.declared.pair.Pair.{Pair}
-use Rattle.order_graph.specs.Order.{Order, Precedes, is_recorded, reaches, linked, retired}
+use Rattle.order_graph.specs.Order.{Order, Precedes, joins, node_of, is_recorded, reaches, linked, retired}
 use Rattle.order_graph.proofs.Reaching.{decides}
 use Rattle.flow_state.specs.declared.seating.Tenant.{Tenant}
 use Rattle.flow_state.specs.Seats.{Seated, LiveCalls, live_calls, with_pairs, calls_of, version_at, versions_of, pairs_of, has_version, has_slot, AreTenants, AreLinked, AreSeats}
@@ -127,6 +129,21 @@ reach_seen callers nodes capacity seats live order u v first second seen kept vi
     ∙ ap (λ x. reaches (pairs_of seats order.pairs) u x) b.version
     ∙ ap (λ (l : LiveCalls). reaches l.pairs u v) view
 
+pub record_seen : (callers nodes capacity : ℕ) (seats : List Seated) (live : List Tenant) (order : Order) (u v first second : ℕ) (seen : LiveCalls) → AreSeats callers nodes capacity seats live order → live_calls callers nodes seats live order ≡ seen → IsSlotOf seats live u first → IsSlotOf seats live v second → is_recorded order.pairs first second ≡ is_recorded seen.pairs u v
+record_seen callers nodes capacity seats live order u v first second seen kept view a b =
+    sym (recorded-versions seats live order.pairs first second (tells seats live kept.tenants) kept.linked a.there b.there)
+    ∙ ap (λ x. is_recorded (pairs_of seats order.pairs) x (version_at seats second)) a.version
+    ∙ ap (λ x. is_recorded (pairs_of seats order.pairs) u x) b.version
+    ∙ ap (λ (l : LiveCalls). is_recorded l.pairs u v) view
+
+pub pair-node : (pairs : List Pair) (a b : ℕ) → is_some (node_of pairs a b) ≡ is_recorded pairs a b
+pair-node [] a b = refl
+pair-node (p ∷ ps) a b = go (joins a b p) (pair-node ps a b)
+  where
+    go : (x : Bool) → is_some (node_of ps a b) ≡ is_recorded ps a b → is_some (option_map (λ (q : Pair). q.node) (cond x (Some p) (find (joins a b) ps))) ≡ (x || is_recorded ps a b)
+    go true r = refl
+    go false r = r
+
 pub slot_fits : (callers nodes capacity : ℕ) (seats : List Seated) (live : List Tenant) (order : Order) (u first : ℕ) → AreSeats callers nodes capacity seats live order → IsSlotOf seats live u first → first < order.callers
 slot_fits callers nodes capacity seats live order u first kept a = let i = a.inside in let n = kept.count in let m = kept.order_callers in omega (arith, i, n, m)
 
@@ -140,6 +157,7 @@ link_kept callers nodes capacity seats live order new u v first second node kept
   few_nodes = kept.few_nodes;
   count = kept.count;
   tenants = kept.tenants;
+  ascending = kept.ascending;
   free = kept.free;
   slots = kept.slots;
   sizes = kept.sizes;

@@ -84,8 +84,7 @@ placed_read callers nodes seats live order i was now ok is h e =
     let count = length-map live (λ (x : Tenant). call_at seats x.slot) in
     let below = subst (λ (l : LiveCalls). i < length l.calls) (sym is) h in
     let placed = call_placed seats live i was ok (omega (arith, count, below)) in
-    let version = ap (λ (x : Tenant). x.version) e in
-    (
+    let version = ap (λ (x : Tenant). x.version) e in (
       ap (call_of now.calls) version ∙ subst (λ (l : LiveCalls). call_of l.calls (get_or live i was).version ≡ Some (get_or l.calls i no_call)) is placed.0,
       version ∙ placed.1 ∙ ap (λ (l : LiveCalls). (get_or l.calls i no_call).version) is,
     )
@@ -142,6 +141,7 @@ kept_seat callers nodes capacity seats live order k new kept h stays = record {
   few_nodes = kept.few_nodes;
   count = length-set seats k new ∙ kept.count;
   tenants = tenants-set seats k new live h stays kept.tenants;
+  ascending = kept.ascending;
   free = λ j no_tenant. version-set seats k new h stays.version j ∙ kept.free j no_tenant;
   slots = λ j below. at_seat (λ (i : ℕ) (s : Seated). s.call.slot ≡ i) seats k new h (stays.slot ∙ kept.slots k (let n = kept.count in omega (arith, h, n))) j (kept.slots j below);
   sizes = λ j below. at_seat (λ (i : ℕ) (s : Seated). s.size ≡ nodes) seats k new h (stays.size ∙ kept.sizes k (let n = kept.count in omega (arith, h, n))) j (kept.sizes j below);

@@ -3,7 +3,7 @@ use Rattle.std.specs.Prelude.{◌≡◌, ℕ, ◌<◌, ◌≤◌, Bool, true, fa
 use Rattle.std.specs.List.{AllByRecursion, list_any}
 use Rattle.signal_graph.specs.Graph.{is_in}
 use Rattle.order_graph.specs.declared.pair.Pair.{Pair}
-use Rattle.order_graph.specs.Order.{Order, reaches, retired}
+use Rattle.order_graph.specs.Order.{Order, reaches, is_recorded, retired}
 use Rattle.flow_model.specs.Machine.Steps.{without_call}
 use Rattle.flow_model.specs.Machine.State.{LiveCall, no_call, call_of, call_or, change_call}
 use Rattle.std.specs.Prelude.{is_some}
@@ -104,17 +104,24 @@ abbrev pub AreTenants : List Seated → List Tenant → Type 0
 AreTenants seats [] = Unit {0}
 AreTenants seats (x ∷ xs) = IsTenant seats x × (has_version xs x.version ≡ false) × (has_slot xs x.slot ≡ false) × AreTenants seats xs
 
+-- Each tenant has a lesser version than all behind it.
+abbrev pub AreAscending : List Tenant → Type 0
+AreAscending [] = Unit {0}
+AreAscending (x ∷ xs) = AllByRecursion (λ (y : Tenant). x.version < y.version) xs × AreAscending xs
+
 -- each pair is of slots that have tenants
 abbrev pub AreLinked : List Tenant → List Pair → Type 0
 AreLinked live pairs = AllByRecursion (λ p. (has_slot live p.from ≡ true) × (has_slot live p.to ≡ true)) pairs
 
--- A seat without a tenant has no call; each seat knows its slot, and has sets for all nodes. Pairs are of live calls.
+-- A seat without a tenant has no call; each seat knows its slot, and has sets for all nodes. Pairs are of live calls, and
+-- versions ascend in the order of beginnings.
 pub record AreSeats (callers nodes capacity : ℕ) (seats : List Seated) (live : List Tenant) (order : Order) : Type 0 where
   pub some : 0 < callers
   pub few : callers ≤ 256
   pub few_nodes : nodes ≤ 16384
   pub count : length seats ≡ callers
   pub tenants : AreTenants seats live
+  pub ascending : AreAscending live
   pub free : (k : ℕ) → has_slot live k ≡ false → version_at seats k ≡ 0
   pub slots : (k : ℕ) → k < callers → (call_at seats k).slot ≡ k
   pub sizes : (k : ℕ) → k < callers → (seat_at seats k).size ≡ nodes
@@ -145,6 +152,14 @@ one_call_more live call = record live { calls = live.calls ++ call ∷ [] }
 -- Another call stops a live one: it comes behind that one, or frames while that one executes.
 abbrev pub stops_live : LiveCalls → ℕ → ℕ → Bool
 stops_live live t u = reaches live.pairs t u || ((find_call live t).executing && (has_call live u && not (find_call live u).executing))
+
+-- A call is a direct predecessor of another.
+abbrev pub before_live : LiveCalls → ℕ → LiveCall → Bool
+before_live live t c = is_recorded live.pairs c.version t
+
+-- It frames, and is a direct predecessor of another.
+abbrev pub framing_before_live : LiveCalls → ℕ → LiveCall → Bool
+framing_before_live live t c = not c.executing && is_recorded live.pairs c.version t
 
 -- pairs are of live calls
 abbrev pub LeadsToLive : LiveCalls → Type 0

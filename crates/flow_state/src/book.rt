@@ -1,6 +1,6 @@
 // The record of live calls.
 
-ghost use Rattle.std.specs.Prelude.{◌≡◌, ◌≢◌, ℕ, ◌<◌, ◌≤◌, ◌+◌, ◌^◌, true, false, length, map, slice_index, None, IfOk, OnOk, OnErr, slice_get, Some};
+ghost use Rattle.std.specs.Prelude.{◌≡◌, ◌≢◌, ℕ, [], ◌<◌, ◌≤◌, ◌+◌, ◌^◌, true, false, length, map, slice_index, None, IfOk, OnOk, OnErr, slice_get, Some};
 ghost use Rattle.std.specs.List.{range_with_len};
 ghost use Rattle.script_tree.specs.declared.limits.TheConstants.{THREADS, VERSIONS, SETS, LOOKS};
 ghost use Rattle.std.specs.Option.{option_copied};
@@ -13,10 +13,11 @@ ghost use Rattle.flow_model.specs.Machine.Sets.{least};
 ghost use Rattle.flow_model.specs.Machine.State.{call_of};
 ghost use Rattle.flow_model.specs.Machine.Words.{gathered_of, set_value};
 ghost use Rattle.flow_model.specs.Machine.Changes.{closed};
-ghost use Rattle.flow_model.specs.Machine.Steps.{started, counted, with_look, free_slot};
+ghost use Rattle.flow_model.specs.Machine.Steps.{started, counted, with_look, free_slot, is_framing_before};
+ghost use Rattle.flow_model.specs.Machine.Next.{least_version};
 ghost use Rattle.node_set.specs.Members.{first_from};
 ghost use Rattle.flow_state.specs.Booked.{AreApart, opened_book, room_at, one_room_more, one_room_less, begin_call, end_call, call_in, live_in, next_look_in, node_count, work_at, stops_in, on_call, on_work, link_calls, opened_one, wanting, pressed_in, call_nth};
-ghost use Rattle.flow_model.specs.Parts.Books.{no_work, with_gathered, with_found, with_body, forgotten};
+ghost use Rattle.flow_model.specs.Parts.Books.{bare, no_work, with_gathered, with_found, with_body, forgotten};
 ghost use Rattle.flow_state.specs.Found.{found_of, found_option};
 ghost use Rattle.flow_state.specs.Jobs.{found_items, answer_of, IsJob};
 
@@ -165,6 +166,49 @@ impl Book {
         self.log.append(logged);
     }
 
+    /// How many callers the book is for.
+    pub fn callers(&self) -> u32
+        ensures { result ≡ self.now.book.callers }
+    {
+        self.calls.callers()
+    }
+
+    /// How many versions the book is for.
+    pub fn limit(&self) -> u32
+        ensures { result ≡ self.now.book.limit }
+    {
+        self.limit
+    }
+
+    /// How many calls have begun, and so the version of the last that did. 0 before the first.
+    pub fn begun(&self) -> u32
+        ensures { result ≡ self.now.book.begun }
+    {
+        self.begun
+    }
+
+    /// How many nodes its graph has.
+    pub fn nodes(&self) -> u32
+        ensures { result ≡ node_count self.now }
+    {
+        self.calls.nodes()
+    }
+
+    /// The log of all calls that have ended.
+    pub fn log(&self) -> &Log
+        ensures { result.now.entries ≡ self.now.book.log }
+    {
+        &self.log
+    }
+
+    /// The log of all calls. No call is live any more.
+    pub fn finish(self) -> Log
+        requires { self.book.calls ≡ [] }
+        ensures { result.entries ≡ self.book.log }
+    {
+        self.log
+    }
+
     /// How many calls are live.
     pub fn live_len(&self) -> u32
         ensures { result ≡ length self.now.book.calls }
@@ -287,6 +331,22 @@ impl Book {
         ensures { result ≡ reaches self.now.book.pairs before after }
     {
         self.calls.reaches(before, after)
+    }
+
+    /// The least version among the direct predecessors of a live call.
+    pub fn first_before(&self, version: u32) -> Option<u32>
+        requires { live_in self.now version ≡ true }
+        ensures { result ≡ least_version (λ c. is_recorded self.now.book.pairs c.version version) self.now.book.calls }
+    {
+        self.calls.first_before(version)
+    }
+
+    /// The least version among those direct predecessors of a live call that still frame.
+    pub fn first_framing_before(&self, version: u32) -> Option<u32>
+        requires { live_in self.now version ≡ true }
+        ensures { result ≡ least_version (is_framing_before (bare self.now.book) version) self.now.book.calls }
+    {
+        self.calls.first_framing_before(version)
     }
 
     /// Whether another call stops a live one: it comes behind that one, or frames while that one executes.

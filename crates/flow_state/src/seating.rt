@@ -7,9 +7,10 @@ ghost use Rattle.order_graph.specs.Order.{reaches, linked, is_recorded};
 ghost use Rattle.flow_model.specs.Machine.State.{no_call, call_of};
 ghost use Rattle.flow_model.specs.Machine.Changes.{closed};
 ghost use Rattle.flow_model.specs.Machine.Steps.{started, counted, with_look, logged, free_slot, uses_slot};
+ghost use Rattle.flow_model.specs.Machine.Next.{least_version};
 ghost use Rattle.flow_state.specs.Booked.{opened_one, wanting, begun_call};
 ghost use Rattle.signal_graph.specs.Machine.{sets_of, looks_of, misnamed};
-ghost use Rattle.flow_state.specs.Seats.{find_call, has_call, on_live, stops_live, presses_live, pressed_live, LeadsToLive, with_pairs, one_call_more, slot_in, has_version, free_seat, no_calls, left_calls, without_tenant};
+ghost use Rattle.flow_state.specs.Seats.{find_call, has_call, on_live, stops_live, presses_live, pressed_live, before_live, framing_before_live, LeadsToLive, with_pairs, one_call_more, slot_in, has_version, free_seat, no_calls, left_calls, without_tenant};
 
 use crate::seat::Seat;
 use order_graph::{MAX_CALLERS, OrderGraph};
@@ -85,6 +86,13 @@ impl Seating {
         self.live.len()
     }
 
+    /// How many callers there are.
+    pub(crate) fn callers(&self) -> u32
+        ensures { result ≡ self.now.callers }
+    {
+        self.callers
+    }
+
     /// The version of a live call, by its place in the order of beginnings.
     pub(crate) fn version_at(&self, place: u32) -> u32
         requires { place < length self.now.calls }
@@ -125,7 +133,7 @@ impl Seating {
         self.callers
     }
 
-    /// A call begins, with a version that no live call has, in the least free slot. It names what it has to in this
+    /// A call begins, with a version above those of all live calls, in the least free slot. It names what it has to in this
     /// graph, and `looked` has room for all its looks.
     pub(crate) fn begin(
         &mut self,
@@ -136,7 +144,7 @@ impl Seating {
         looked: Vec<Value>,
     )
         requires some { 0 < version }
-        requires new { has_call self.old version ≡ false }
+        requires newest { (t : ℕ) → has_call self.old t ≡ true → t < version }
         requires slot { free_slot self.old.callers 0 self.old.calls < self.old.callers }
         requires named { misnamed graph.now call ≡ None }
         requires sets { length (sets_of call) ≤ SETS }
@@ -221,6 +229,56 @@ impl Seating {
         self.order.precedes(first, second)
     }
 
+    /// Whether one live call is a direct predecessor of another.
+    fn is_before(&self, before: u32, after: u32) -> bool
+        requires before { has_call self.now before ≡ true }
+        requires after { has_call self.now after ≡ true }
+        ensures { result ≡ is_recorded self.now.pairs before after }
+    {
+        let first = slot_in(self.live.as_slice(), before);
+        let second = slot_in(self.live.as_slice(), after);
+        is_pair(&self.order, first, second)
+    }
+
+    /// The least version among the direct predecessors of a live call.
+    pub(crate) fn first_before(&self, version: u32) -> Option<u32>
+        requires { has_call self.now version ≡ true }
+        ensures { result ≡ least_version (before_live self.now version) self.now.calls }
+    {
+        for index in 0..self.live.len() {
+            let tenant = self.live[index];
+            if self.is_before(tenant.version, version) {
+                return Some(tenant.version);
+            }
+        }
+        None
+    }
+
+    /// The least version among those direct predecessors of a live call that frame.
+    pub(crate) fn first_framing_before(&self, version: u32) -> Option<u32>
+        requires { has_call self.now version ≡ true }
+        ensures { result ≡ least_version (framing_before_live self.now version) self.now.calls }
+    {
+        for index in 0..self.live.len() {
+            let tenant = self.live[index];
+            let seat = &self.seats[tenant.slot as usize];
+            if self.frames_before(version, tenant.version, seat) {
+                return Some(tenant.version);
+            }
+        }
+        None
+    }
+
+    // Whether a call, in its seat, frames and is a direct predecessor of a live one.
+    fn frames_before(&self, version: u32, other: u32, seat: &Seat) -> bool
+        requires live { has_call self.now version ≡ true }
+        requires other { has_call self.now other ≡ true }
+        requires seat { seat.now.call.version ≡ other }
+        ensures { result ≡ framing_before_live self.now version seat.now.call }
+    {
+        !seat.executing() && self.is_before(other, version)
+    }
+
     /// Whether another call stops a live one: it comes behind that one, or frames while that one executes.
     pub(crate) fn stops(&self, version: u32, other: u32) -> bool
         requires { has_call self.now version ≡ true }
@@ -299,6 +357,15 @@ impl Seating {
         take_tenant(&mut self.live, version);
         self.seats[slot as usize].end()
     }
+}
+
+// Whether the pair of two slots is recorded.
+fn is_pair(order: &OrderGraph, first: u32, second: u32) -> bool
+    requires first { first < order.now.callers }
+    requires second { second < order.now.callers }
+    ensures { result ≡ is_recorded order.now.pairs first second }
+{
+    order.node_of(first, second).is_some()
 }
 
 // A free seat for each slot.

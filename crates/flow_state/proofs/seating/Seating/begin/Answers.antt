@@ -1,4 +1,4 @@
-use Rattle.std.proofs.Common.{◌≡◌, ◌<◌, false, sym, ap, ◌∙◌, arith}
+use Rattle.std.proofs.Common.{◌≡◌, ◌<◌, ℕ, true, false, sym, ap, ◌∙◌, arith}
 use Rattle.std.specs.Vec.{vec_capacity}
 use Rattle.flow_model.specs.Machine.Steps.{uses_slot}
 use Rattle.flow_state.specs.declared.seating.Tenant.{Tenant}
@@ -29,9 +29,9 @@ invariant_of-self c =
     let read = read_version s.seats.items k c.index_mut.result.now (omega (arith, below, count)) c.index_mut.ensures.value in
     let slot = ap (λ (x : Seated). x.call.slot) read ∙ c.self.invariant.slots k below in
     let size = ap (λ (x : Seated). x.size) read ∙ c.self.invariant.sizes k below in
-    let new : has_version s.live.items c.args.version ≡ false = sym (calls-has s.seats.items s.live.items c.args.version c.self.invariant.tenants) ∙ ap (λ (l : LiveCalls). has_call l c.args.version) c.self.view_is ∙ c.requires.new in
+    let newest : (t : ℕ) → has_version s.live.items t ≡ true → t < c.args.version = λ t h. c.requires.newest t (sym (ap (λ (l : LiveCalls). has_call l t) c.self.view_is) ∙ calls-has s.seats.items s.live.items t c.self.invariant.tenants ∙ h) in
     begun_kept s.callers s.nodes (vec_capacity s.live) _ s.seats.items s.live.items c.push_reserved.new.self.items s.order n c.begin.new.self c.self.invariant below
-    (taken_by c.args.graph.now c.args.caller c.args.version k s.nodes c.args.call c.index_mut.result.now c.begin.new.self c.requires.some slot size c.begin.ensures) new unused c.push_reserved.ensures.items c.push_reserved.ensures.capacity
+    (taken_by c.args.graph.now c.args.caller c.args.version k s.nodes c.args.call c.index_mut.result.now c.begin.new.self c.requires.some slot size c.begin.ensures) newest unused c.push_reserved.ensures.items c.push_reserved.ensures.capacity
 
 pub returns : goal.returns
 returns c =

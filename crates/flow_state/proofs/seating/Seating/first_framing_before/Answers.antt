@@ -1,0 +1,64 @@
+use Rattle.std.proofs.Common.{◌<◌, ℕ, length, sym, ap, ◌∙◌, arith}
+use Rattle.order_graph.specs.Order.{is_recorded}
+use Rattle.flow_state.specs.Seats.{Seated, LiveCalls, has_call, framing_before_live}
+use Rattle.flow_state.proofs.SeatLemmas.{calls-has, seat_read}
+use Rattle.flow_state.proofs.Leaving.{tenant_at}
+use Rattle.flow_state.proofs.Firsts.{first_found, first_more, first_ends}
+use Rattle.flow_state.proofs.seating.Seating.first_framing_before.Goals as goal
+
+pub index-seat-requires : goal.index-seat-requires
+index-seat-requires c =
+    let s = c.self.inside in
+    let len = c.len-index-end.ensures in
+    let x = c.index-tenant.result.now in
+    let below : c.loop-index.index < length s.live.items = omega (arith, len) in
+    let at = tenant_at s.seats.items s.live.items c.loop-index.index x c.self.invariant.tenants below c.index-tenant.ensures in
+    let inside = at.0.inside in
+    omega (arith, inside)
+
+pub frames_before-requires-clause-other : goal.frames_before-requires-clause-other
+frames_before-requires-clause-other c =
+    let s = c.self.inside in
+    let len = c.len-index-end.ensures in
+    let x = c.index-tenant.result.now in
+    let below : c.loop-index.index < length s.live.items = omega (arith, len) in
+    let at = tenant_at s.seats.items s.live.items c.loop-index.index x c.self.invariant.tenants below c.index-tenant.ensures in
+    sym (ap (λ (l : LiveCalls). has_call l x.version) c.self.view_is) ∙ calls-has s.seats.items s.live.items x.version c.self.invariant.tenants ∙ at.1
+
+pub frames_before-requires-clause-seat : goal.frames_before-requires-clause-seat
+frames_before-requires-clause-seat c =
+    let s = c.self.inside in
+    let len = c.len-index-end.ensures in
+    let x = c.index-tenant.result.now in
+    let below : c.loop-index.index < length s.live.items = omega (arith, len) in
+    let at = tenant_at s.seats.items s.live.items c.loop-index.index x c.self.invariant.tenants below c.index-tenant.ensures in
+    let inside = at.0.inside in
+    let read = seat_read s.seats.items x.slot c.index-seat.result.now inside c.index-seat.ensures in
+    ap (λ (y : Seated). y.call.version) read ∙ at.0.version
+
+pub returns-then-frames_before : goal.returns-then-frames_before
+returns-then-frames_before c =
+    let s = c.self.inside in
+    let len = c.len-index-end.ensures in
+    let x = c.index-tenant.result.now in
+    let below : c.loop-index.index < length s.live.items = omega (arith, len) in
+    let at = tenant_at s.seats.items s.live.items c.loop-index.index x c.self.invariant.tenants below c.index-tenant.ensures in
+    let inside = at.0.inside in
+    let read = seat_read s.seats.items x.slot c.index-seat.result.now inside c.index-seat.ensures in
+    first_found (framing_before_live c.args.self.now c.args.version) s.seats.items s.live.items c.loop-index.index x _ c.self.invariant.tenants c.self.invariant.ascending below c.index-tenant.ensures c.loop-index.invariant
+    (ap (λ (y : Seated). framing_before_live c.args.self.now c.args.version y.call) (sym read) ∙ sym c.frames_before.ensures ∙ c.if-frames_before.true)
+
+pub loop-index-preserved : goal.loop-index-preserved
+loop-index-preserved c =
+    let s = c.self.inside in
+    let len = c.len-index-end.ensures in
+    let x = c.index-tenant.result.now in
+    let below : c.loop-index.index < length s.live.items = omega (arith, len) in
+    let at = tenant_at s.seats.items s.live.items c.loop-index.index x c.self.invariant.tenants below c.index-tenant.ensures in
+    let inside = at.0.inside in
+    let read = seat_read s.seats.items x.slot c.index-seat.result.now inside c.index-seat.ensures in
+    first_more (framing_before_live c.args.self.now c.args.version) s.seats.items s.live.items c.loop-index.index x _ below c.index-tenant.ensures c.loop-index.invariant
+    (ap (λ (y : Seated). framing_before_live c.args.self.now c.args.version y.call) (sym read) ∙ sym c.frames_before.ensures ∙ c.if-frames_before.false)
+
+pub returns : goal.returns
+returns c = first_ends (framing_before_live c.args.self.now c.args.version) c.self.inside.seats.items c.self.inside.live.items c.loop-index.index _ (let len = c.len-index-end.ensures in omega (arith, len)) c.loop-index.invariant
