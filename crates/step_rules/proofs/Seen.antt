@@ -5,10 +5,12 @@ use Rattle.std.proofs.lemmas.Bool.Decides.{eqb_tells, nat_tests}
 use Rattle.std.proofs.lemmas.Bool.{eqb-true}
 use Rattle.node_versions.specs.declared.entry.Entry.{Entry}
 use Rattle.node_versions.specs.declared.entry.State.{State}
-use Rattle.node_versions.specs.Entries.{is_frame, has, at, behind, before, up_to, served, IsUnique, first_open, OutEdge, has_out, has_node}
+use Rattle.node_versions.specs.Entries.{is_mark, is_frame, has, at, behind, before, up_to, served, IsUnique, is_of, first_open, OutEdge, has_out, has_node, is_edge}
 use Rattle.node_versions.proofs.Places.{place, has-place, take-before}
 use Rattle.node_versions.proofs.Indexes.{opens, entry_at_index}
 use Rattle.flow_model.specs.Machine.Next.{blocked, blocked_by, kept_if}
+use Rattle.step_rules.specs.declared.lists.Sight.{Sight}
+use Rattle.step_rules.specs.Sights.{sight_of}
 
 one_more : (n : ℕ) → 1 + n ≡ suc n
 one_more n = omega arith
@@ -22,10 +24,13 @@ open_below (e ∷ es) (suc n) = go (is_frame e.state) (open_below es n)
     p : ℕ
     p = position_or_len opens es
 
+    zero-below : true ≡ nat_lt 0 (suc n)
+    zero-below = grind (arith, nat_tests)
+
     go : (b : Bool) → first_open (take n es) ≡ elim (nat_lt p n) as (λ _. Option ℕ) [ true ↦ first_open es | false ↦ None ]
         → elim b as (λ _. Option ℕ) [ true ↦ Some e.version | false ↦ first_open (take n es) ]
         ≡ elim (nat_lt (cond (not b) (1 + p) 0) (suc n)) as (λ _. Option ℕ) [ true ↦ elim b as (λ _. Option ℕ) [ true ↦ Some e.version | false ↦ first_open es ] | false ↦ None ]
-    go true r = refl
+    go true r = ap {A = Bool} (λ k. elim k as (λ _. Option ℕ) [ true ↦ Some e.version | false ↦ None ]) zero-below
     go false r = r ∙ ap {A = Bool} (λ k. elim k as (λ _. Option ℕ) [ true ↦ first_open es | false ↦ None ]) (grind (arith, nat_tests))
 
 -- the first Frame's call has an entry
@@ -69,13 +74,13 @@ other-version es v u q h = go (v == u) refl
     go false k = k
 
 -- of two tests, whether the second stands behind the first where the first entry is of neither
-Behind : Bool → List Entry → ℕ → ℕ → Bool
+abbrev Behind : Bool → List Entry → ℕ → ℕ → Bool
 Behind b es u t = elim b as (λ _. Bool) [ true ↦ has es t | false ↦ behind es u t ]
 
 -- a Frame that stands before the entry is the first Frame of what stands before it
 pub blocked-before : (es : List Entry) (t : ℕ) → IsUnique es → has es t ≡ true → blocked es t ≡ first_open (before es t)
 blocked-before [] t q h = absurd (true≢false (sym h))
-blocked-before (e ∷ es) t q h = go (is_frame e.state) (e.version == t) refl h ∙ parts (e.version == t)
+blocked-before (e ∷ es) t q h = go (is_frame e.state) (e.version == t) refl h (blocked-before es t q.1) ∙ parts (e.version == t)
   where
     v : ℕ
     v = e.version
@@ -105,12 +110,12 @@ blocked-before (e ∷ es) t q h = go (is_frame e.state) (e.version == t) refl h 
     before_it None k = refl
     before_it (Some u) k = ap (λ b. kept_if (Behind b es u t) u) (other-version es v u q.0 (first-has es u k))
 
-    go : (b c : Bool) → (v == t) ≡ c → (c || has es t) ≡ true
+    go : (b c : Bool) → (v == t) ≡ c → (c || has es t) ≡ true → (has es t ≡ true → blocked es t ≡ first_open (before es t))
         → blocked_by (e ∷ es) t (elim b as (λ _. Option ℕ) [ true ↦ Some v | false ↦ first_open es ]) ≡ Here b c
-    go true true k h = at_own false (own-version es v t q.0 k)
-    go true false k h = at_own true h
-    go false true k h = passed (first_open es) (own-version es v t q.0 k)
-    go false false k h = before_it (first_open es) refl ∙ blocked-before es t q.1 h
+    go true true k h r = at_own false (own-version es v t q.0 k)
+    go true false k h r = at_own true h
+    go false true k h r = passed (first_open es) (own-version es v t q.0 k)
+    go false false k h r = before_it (first_open es) refl ∙ r h
 
 -- the first Frame's call, where that Frame stands before the entry's index
 pub blocked-at : (es : List Entry) (t i : ℕ) → IsUnique es → i ≡ place es t → i < length es → first_open (take i es) ≡ blocked es t
@@ -144,9 +149,103 @@ at-index es t i e test is h = sym ((entry_at_index es t i is).state e test h)
 pub has-at : (es : List Entry) (t i : ℕ) → i ≡ place es t → i < length es → has es t ≡ true
 has-at es t i at h = let r = has-place es t in grind (arith, nat_tests, r, at, h)
 
+-- ---- indexes that are found
+
+found-first : (p n i : ℕ) → cond (nat_lt p n) (Some p) None ≡ Some i → p ≡ i
+found-first p n i h = go (nat_lt p n) h
+  where
+    go : (b : Bool) → cond b (Some p) None ≡ Some i → p ≡ i
+    go true h = grind (arith, h)
+    go false h = cc
+
+pub found-at : (test : Entry → Bool) (es : List Entry) (i : ℕ) → position test es ≡ Some i → i ≡ position_or_len test es
+found-at test es i h = sym (found-first (position_or_len test es) (length es) i h)
+
+-- where there is a first Frame at an index, and where there is none
+pub below-found : (es : List Entry) (i n : ℕ) (v : ℕ) → Some i ≡ position opens es → first_open es ≡ Some v → i < n → Some v ≡ first_open (take n es)
+below-found es i n v at is h =
+    let p = found-at opens es i (sym at) in
+    let r : nat_lt (position_or_len opens es) n ≡ true = grind (arith, nat_tests, p, h) in
+    sym is ∙ sym (ap {A = Bool} (λ k. elim k as (λ _. Option ℕ) [ true ↦ first_open es | false ↦ None ]) r) ∙ sym (open_below es n)
+
+pub below-late : (es : List Entry) (i n : ℕ) → Some i ≡ position opens es → n ≤ i → None ≡ first_open (take n es)
+below-late es i n at h =
+    let p = found-at opens es i (sym at) in
+    let r : nat_lt (position_or_len opens es) n ≡ false = grind (arith, nat_tests, p, h) in
+    sym (ap {A = Bool} (λ k. elim k as (λ _. Option ℕ) [ true ↦ first_open es | false ↦ None ]) r) ∙ sym (open_below es n)
+
+pub below-none : (es : List Entry) (n : ℕ) → first_open es ≡ None → None ≡ first_open (take n es)
+below-none es n is = sym (open_below es n ∙ go (nat_lt (position_or_len opens es) n))
+  where
+    go : (b : Bool) → elim b as (λ _. Option ℕ) [ true ↦ first_open es | false ↦ None ] ≡ None
+    go true = is
+    go false = refl
+
+-- what is served
+no-frame : (es : List Entry) → first_open es ≡ None → position_or_len opens es ≡ length es
+no-frame [] h = refl
+no-frame (e ∷ es) h = go (is_frame e.state) h (no-frame es)
+  where
+    go : (b : Bool) → elim b as (λ _. Option ℕ) [ true ↦ Some e.version | false ↦ first_open es ] ≡ None → (first_open es ≡ None → position_or_len opens es ≡ length es) → cond (not b) (1 + position_or_len opens es) 0 ≡ suc (length es)
+    go true h r = cc
+    go false h r = ap (λ n. 1 + n) (r h) ∙ one_more (length es)
+
+pub served-found : (es : List Entry) (t i f : ℕ) → Some i ≡ position (is_of t) es → Some f ≡ position opens es → i < length es → nat_lt i f ≡ served es t
+served-found es t i f at first h =
+    let p = found-at (is_of t) es i (sym at) in let q = found-at opens es f (sym first) in let r = has-place es t in
+    let own : has es t ≡ true = grind (arith, nat_tests, r, p, h) in
+    ap₂ (λ a b. nat_lt a b) p q ∙ ap (λ b. b && nat_lt (place es t) (position_or_len opens es)) (sym own) ∙ sym (served-place es t)
+
+pub served-all : (es : List Entry) (t i : ℕ) → Some i ≡ position (is_of t) es → first_open es ≡ None → i < length es → true ≡ served es t
+served-all es t i at first h =
+    let p = found-at (is_of t) es i (sym at) in let q = no-frame es first in let r = has-place es t in let s = served-place es t in
+    grind (arith, nat_tests, p, q, r, s, h)
+
+pub served-absent : (es : List Entry) (t : ℕ) → false ≡ has es t → false ≡ served es t
+served-absent es t h = let s = served-place es t in grind (arith, h, s)
+
 -- ---- out-edges
 
-pub out-there : (outs : List OutEdge) (i n t : ℕ) (edge : OutEdge) → slice_get outs i ≡ Some edge → ((edge.0 == n) && (edge.1 == t)) ≡ true → has_out outs n t ≡ true
-out-there [] i n t edge h k = cc
-out-there (x ∷ xs) zero n t edge h k = grind (arith, h, k)
-out-there (x ∷ xs) (suc i) n t edge h k = let r = out-there xs i n t edge h k in grind (arith, r)
+pub drop-at : (outs : List OutEdge) (i : ℕ) (edge : OutEdge) → slice_get outs i ≡ Some edge → drop i outs ≡ edge ∷ drop (i + 1) outs
+drop-at [] i edge h = cc
+drop-at (x ∷ xs) zero edge h = let s = h in grind (arith, s)
+drop-at (x ∷ xs) (suc i) edge h = drop-at xs i edge h ∙ ap (λ n. edge ∷ drop n (x ∷ xs)) (next i)
+  where
+    next : (i : ℕ) → suc (i + 1) ≡ suc i + 1
+    next i = omega arith
+
+-- what is found from an index on
+pub out-here : (outs : List OutEdge) (i n t : ℕ) (edge : OutEdge) → slice_get outs i ≡ Some edge
+    → has_out (drop i outs) n t ≡ (is_edge n t edge || has_out (drop (i + 1) outs) n t)
+out-here outs i n t edge h = ap (λ (xs : List OutEdge). has_out xs n t) (drop-at outs i edge h)
+
+pub node-here : (outs : List OutEdge) (i n : ℕ) (edge : OutEdge) → slice_get outs i ≡ Some edge
+    → has_node (drop i outs) n ≡ ((edge.0 == n) || has_node (drop (i + 1) outs) n)
+node-here outs i n edge h = ap (λ (xs : List OutEdge). has_node xs n) (drop-at outs i edge h)
+
+-- ---- what a list says of a call
+
+pub absent-sight : (es : List Entry) (t n : ℕ) (o : Option ℕ) → n ≡ length es → o ≡ first_open es → false ≡ has es t
+    → record { len = n; has = false; is_mark = false; first_open = o; blocked = None } ≡ sight_of es t
+absent-sight es t n o len first h = λ i. record {
+  len = len i;
+  has = h i;
+  is_mark = no_mark es t h i;
+  first_open = first i;
+  blocked = sym (blocked-none es t (sym h)) i;
+}
+  where
+    no_mark : (es : List Entry) (t : ℕ) → false ≡ has es t → false ≡ at is_mark es t
+    no_mark [] t h = refl
+    no_mark (e ∷ es) t h = let r = no_mark es t in grind (arith, h, r)
+
+pub present-sight : (es : List Entry) (t i n : ℕ) (m : Bool) (e : Entry) (o b : Option ℕ) → IsUnique es → i ≡ position_or_len (is_of t) es → i < length es
+    → n ≡ length es → m ≡ is_mark e.state → slice_get es i ≡ Some e → o ≡ first_open es → b ≡ first_open (take i es)
+    → record { len = n; has = true; is_mark = m; first_open = o; blocked = b } ≡ sight_of es t
+present-sight es t i n m e o b q at h len mark get first below = λ j. record {
+  len = len j;
+  has = sym (has-at es t i at h) j;
+  is_mark = (mark ∙ at-index es t i e is_mark at get) j;
+  first_open = first j;
+  blocked = (below ∙ blocked-at es t i q at h) j;
+}

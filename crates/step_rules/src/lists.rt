@@ -158,9 +158,12 @@ fn first_open(list: &NodeList) -> Option<u32>
 pub fn served(list: &NodeList, version: u32) -> bool
     ensures { result ≡ served list.now.entries version }
 {
-    match (list.entry_of(version), list.first_open()) {
-        (Some(own), Some(open)) => own < open,
-        (own, _) => own.is_some(),
+    let Some(own) = list.entry_of(version) else {
+        return false;
+    };
+    match list.first_open() {
+        Some(open) => own < open,
+        None => true,
     }
 }
 

@@ -1,0 +1,7 @@
+use Rattle.std.proofs.Common.{arith, sym}
+use Rattle.step_rules.specs.declared.lists.Sight.{Sight}
+use Rattle.step_rules.proofs.Seen.{absent-sight}
+use Rattle.step_rules.proofs.lists.sight_of.Goals as goal
+
+pub returns-in-None : goal.returns-in-None
+returns-in-None c = absent-sight c.args.list.now.entries c.args.version c.len.result c.first_open.result c.len.ensures c.first_open.ensures c.in-None.ensures.exact
