@@ -1,1 +1,4 @@
 pub mod Sights
+pub mod Rests
+pub mod Fits
+pub mod Fronts

@@ -3,4 +3,6 @@
 
 pub use lists::{AllLists, Lists, Sight, served, sight_of};
 
+mod fronts;
 mod lists;
+mod resting;
