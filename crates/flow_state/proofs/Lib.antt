@@ -4,6 +4,7 @@ pub mod SeatLemmas
 pub mod PairLemmas
 pub mod Leaving
 pub mod Firsts
+pub mod Hints
 pub mod Openings
 pub mod Naming
 pub mod Beginning

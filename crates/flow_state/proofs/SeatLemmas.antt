@@ -200,10 +200,18 @@ seen_seat callers nodes capacity seats live order t k new f seen kept view h at 
 
 -- ---- a call's seat, as it is read and changed
 
-pub slot_read : (callers nodes capacity : ℕ) (seats : List Seated) (live items : List Tenant) (order : Order) (t k : ℕ) (seen : LiveCalls) → AreSeats callers nodes capacity seats live order → live_calls callers nodes seats live order ≡ seen → has_call seen t ≡ true → items ≡ live → k ≡ slot_in items t → IsSlotOf seats live t k
-slot_read callers nodes capacity seats live items order t k seen kept view has lent e =
+-- where a live call sits
+pub slot_same : (callers nodes capacity : ℕ) (seats : List Seated) (live : List Tenant) (order : Order) (t k : ℕ) (seen : LiveCalls) → AreSeats callers nodes capacity seats live order → live_calls callers nodes seats live order ≡ seen → has_version live t ≡ true → k ≡ (find_call seen t).slot → slot_in live t ≡ k
+slot_same callers nodes capacity seats live order t k seen kept view there e =
+    let at = slot_is seats live t kept.tenants there in
+    let n = kept.count in
+    let i = at.inside in
+    sym (e ∙ sym (ap (λ (l : LiveCalls). (find_call l t).slot) view) ∙ ap (λ (c : LiveCall). c.slot) at.call ∙ kept.slots (slot_in live t) (omega (arith, i, n)))
+
+pub slot_read : (callers nodes capacity : ℕ) (seats : List Seated) (live : List Tenant) (order : Order) (t k : ℕ) (seen : LiveCalls) → AreSeats callers nodes capacity seats live order → live_calls callers nodes seats live order ≡ seen → has_call seen t ≡ true → k ≡ (find_call seen t).slot → IsSlotOf seats live t k
+slot_read callers nodes capacity seats live order t k seen kept view has e =
     let there : has_version live t ≡ true = sym (calls-has seats live t kept.tenants) ∙ ap (λ (l : LiveCalls). has_call l t) view ∙ has in
-    subst (IsSlotOf seats live t) (sym (e ∙ ap (λ (xs : List Tenant). slot_in xs t) lent)) (slot_is seats live t kept.tenants there)
+    subst (IsSlotOf seats live t) (slot_same callers nodes capacity seats live order t k seen kept view there e) (slot_is seats live t kept.tenants there)
 
 pub read_size : (callers nodes capacity : ℕ) (seats : List Seated) (live : List Tenant) (order : Order) (k : ℕ) (was : Seated) (seen : LiveCalls) → AreSeats callers nodes capacity seats live order → live_calls callers nodes seats live order ≡ seen → k < length seats → was ≡ get_or seats k was → was.size ≡ seen.nodes
 read_size callers nodes capacity seats live order k was seen kept view h e =
@@ -235,11 +243,11 @@ pub changed_kept : (callers nodes capacity : ℕ) (seats : List Seated) (live : 
 changed_kept callers nodes capacity seats live order t k was new f keeps kept at e is =
     kept_seat callers nodes capacity seats live order k new kept at.inside (stays_by f (seat_at seats k) was new keeps (seat_read seats k was at.inside e) is)
 
-pub changed_seen : (callers nodes capacity : ℕ) (seats : List Seated) (live items : List Tenant) (order : Order) (t k : ℕ) (was new : Seated) (f : LiveCall → LiveCall) (seen : LiveCalls) → KeepsSeat f → AreSeats callers nodes capacity seats live order → live_calls callers nodes seats live order ≡ seen → has_call seen t ≡ true → items ≡ live → k ≡ slot_in items t → was ≡ get_or seats k was → new ≡ with_seated was (f was.call) → live_calls callers nodes (set seats k new) live order ≡ on_live seen t f
-changed_seen callers nodes capacity seats live items order t k was new f seen keeps kept view has lent at e is =
-    let slot = slot_read callers nodes capacity seats live items order t k seen kept view has lent at in
+pub changed_seen : (callers nodes capacity : ℕ) (seats : List Seated) (live : List Tenant) (order : Order) (t k : ℕ) (was new : Seated) (f : LiveCall → LiveCall) (seen : LiveCalls) → KeepsSeat f → AreSeats callers nodes capacity seats live order → live_calls callers nodes seats live order ≡ seen → has_call seen t ≡ true → k ≡ (find_call seen t).slot → was ≡ get_or seats k was → new ≡ with_seated was (f was.call) → live_calls callers nodes (set seats k new) live order ≡ on_live seen t f
+changed_seen callers nodes capacity seats live order t k was new f seen keeps kept view has at e is =
+    let slot = slot_read callers nodes capacity seats live order t k seen kept view has at in
     let there : has_version live t ≡ true = sym (calls-has seats live t kept.tenants) ∙ ap (λ (l : LiveCalls). has_call l t) view ∙ has in
     let read : was ≡ seat_at seats k = seat_read seats k was slot.inside e in
-    seen_seat callers nodes capacity seats live order t k new f seen kept view there (sym (at ∙ ap (λ (xs : List Tenant). slot_in xs t) lent)) slot.inside
+    seen_seat callers nodes capacity seats live order t k new f seen kept view there (slot_same callers nodes capacity seats live order t k seen kept view there at) slot.inside
     (ap (λ (s : Seated). s.call) is ∙ ap (λ (s : Seated). f s.call) read)
     (stays_by f (seat_at seats k) was new keeps read is).version

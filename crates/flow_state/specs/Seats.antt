@@ -9,6 +9,7 @@ use Rattle.flow_model.specs.Machine.State.{LiveCall, no_call, call_of, call_or, 
 use Rattle.std.specs.Prelude.{is_some}
 use Rattle.flow_model.specs.Parts.Books.{Work}
 use Rattle.flow_state.specs.declared.seating.Tenant.{Tenant}
+use Rattle.flow_state.specs.declared.seating.TheConstants.{HINTS}
 
 -- what contracts see in a `Seat`: its call, how many nodes its sets are for, and room for how many looks
 pub record Seated : Type 0 where
@@ -128,6 +129,11 @@ pub record AreSeats (callers nodes capacity : ℕ) (seats : List Seated) (live :
   pub order_callers : order.callers ≡ callers
   pub linked : AreLinked live order.pairs
   pub room : callers ≤ capacity
+
+-- Seats with hints: in which seat a call may sit, by the last bits of its version. A hint may be wrong.
+pub record IsSeating (callers nodes capacity : ℕ) (seats : List Seated) (live : List Tenant) (order : Order) (hints : List ℕ) : Type 0 where
+  pub kept : AreSeats callers nodes capacity seats live order
+  pub hint_count : length hints ≡ HINTS
 
 -- a free seat
 abbrev pub free_seat : ℕ → ℕ → Seated

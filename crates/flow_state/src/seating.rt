@@ -1,6 +1,6 @@
 // The seats of live calls, and their recorded order.
 
-ghost use Rattle.std.specs.Prelude.{◌≡◌, ◌≢◌, ◌<◌, ◌≤◌, ◌+◌, ◌^◌, ℕ, true, false, [], length, map, vec_capacity, slice_index_or, None, Some, IfOk};
+ghost use Rattle.std.specs.Prelude.{◌≡◌, ◌≢◌, ◌<◌, ◌≤◌, ◌+◌, ◌^◌, ℕ, true, false, [], length, map, vec_capacity, slice_index_or, None, Some, IfOk, IfSome};
 ghost use Rattle.std.specs.List.{range_with_len};
 ghost use Rattle.script_tree.specs.declared.limits.TheConstants.{NODES, SETS, LOOKS};
 ghost use Rattle.order_graph.specs.Order.{reaches, linked, is_recorded};
@@ -23,6 +23,9 @@ use signal_graph::log::Logged;
 use std::alloc::Global;
 use std::marker::Model;
 
+// How many hints there are.
+const HINTS: usize = 1024;
+
 /// A live call, by its version and its slot.
 #[derive(Clone, Copy, PartialEq, Eq, Debug)]
 pub(crate) struct Tenant {
@@ -32,6 +35,8 @@ pub(crate) struct Tenant {
 
 /// The live calls in the order of their beginnings, each in the seat of its slot, and their recorded order. Only `new`
 /// takes memory.
+///
+/// Hints tell by a version's last bits in which seat its call may sit, so that most calls are found without a walk.
 #[derive(Drop)]
 pub(crate) struct Seating {
     callers: u32,
@@ -39,17 +44,18 @@ pub(crate) struct Seating {
     seats: Vec<Seat>,
     live: Vec<Tenant>,
     order: OrderGraph,
+    hints: Vec<u16>,
 }
 
 impl Model for Seating {
     ghost use Rattle.std.specs.Vec.{vec_capacity};
-    ghost use Rattle.flow_state.specs.Seats.{LiveCalls, live_calls, AreSeats};
+    ghost use Rattle.flow_state.specs.Seats.{LiveCalls, live_calls, IsSeating};
 
     ghost Value = { LiveCalls };
 
     ghost view = { λ s. live_calls s.callers s.nodes s.seats.items s.live.items s.order };
 
-    ghost invariant = { λ s. AreSeats s.callers s.nodes (vec_capacity s.live) s.seats.items s.live.items s.order };
+    ghost invariant = { λ s. IsSeating s.callers s.nodes (vec_capacity s.live) s.seats.items s.live.items s.order s.hints.items };
 }
 
 impl Seating {
@@ -63,12 +69,14 @@ impl Seating {
         let seats = free_seats(alloc, callers, nodes)?;
         let live = Vec::with_capacity(alloc, callers as usize)?;
         let order = OrderGraph::new(alloc, callers)?;
+        let hints = vec![in alloc; 0; HINTS]?;
         Ok(Seating {
             callers,
             nodes,
             seats,
             live,
             order,
+            hints,
         })
     }
 
@@ -106,7 +114,41 @@ impl Seating {
     pub(crate) fn has(&self, version: u32) -> bool
         ensures { result ≡ has_call self.now version }
     {
+        if self.hinted(version).is_some() {
+            return true;
+        }
         has_version(self.live.as_slice(), version)
+    }
+
+    // The slot of a live call where the hint for its version is right. None too where it isn't.
+    fn hinted(&self, version: u32) -> Option<u32>
+        ensures live { IfSome result (λ slot. has_call self.now version ≡ true) }
+        ensures slot { IfSome result (λ slot. slot ≡ (find_call self.now version).slot) }
+    {
+        let slot = self.hints[version as usize % HINTS] as u32;
+        if version == 0 {
+            return None;
+        }
+        if slot >= self.callers {
+            return None;
+        }
+        let seat = &self.seats[slot as usize];
+        if seat.version() == version {
+            Some(slot)
+        } else {
+            None
+        }
+    }
+
+    // The slot of a live call.
+    fn slot_of(&self, version: u32) -> u32
+        requires { has_call self.now version ≡ true }
+        ensures { result ≡ (find_call self.now version).slot }
+    {
+        if let Some(slot) = self.hinted(version) {
+            return slot;
+        }
+        slot_in(self.live.as_slice(), version)
     }
 
     /// The seat of a live call.
@@ -115,7 +157,7 @@ impl Seating {
         ensures call { result.now.call ≡ find_call self.now version }
         ensures size { result.now.size ≡ self.now.nodes }
     {
-        let slot = slot_in(self.live.as_slice(), version);
+        let slot = self.slot_of(version);
         &self.seats[slot as usize]
     }
 
@@ -157,6 +199,7 @@ impl Seating {
         let slot = self.free_slot();
         self.live.push_reserved(Tenant { version, slot });
         self.seats[slot as usize].begin(graph, version, caller, call, looked);
+        self.hints[version as usize % HINTS] = slot as u16;
     }
 
     /// Opens a node that the call wanted.
@@ -165,7 +208,7 @@ impl Seating {
         requires node { node < self.old.nodes }
         ensures { self.new ≡ on_live self.old version (opened_one node) }
     {
-        let slot = slot_in(self.live.as_slice(), version);
+        let slot = self.slot_of(version);
         self.seats[slot as usize].open(node);
     }
 
@@ -175,7 +218,7 @@ impl Seating {
         requires node { node < self.old.nodes }
         ensures { self.new ≡ on_live self.old version (wanting node) }
     {
-        let slot = slot_in(self.live.as_slice(), version);
+        let slot = self.slot_of(version);
         self.seats[slot as usize].want(node);
     }
 
@@ -185,7 +228,7 @@ impl Seating {
         requires node { node < self.old.nodes }
         ensures { self.new ≡ on_live self.old version (closed node changed) }
     {
-        let slot = slot_in(self.live.as_slice(), version);
+        let slot = self.slot_of(version);
         self.seats[slot as usize].close(node, changed);
     }
 
@@ -194,7 +237,7 @@ impl Seating {
         requires { has_call self.old version ≡ true }
         ensures { self.new ≡ on_live self.old version started }
     {
-        let slot = slot_in(self.live.as_slice(), version);
+        let slot = self.slot_of(version);
         self.seats[slot as usize].start();
     }
 
@@ -204,7 +247,7 @@ impl Seating {
         requires few { (find_call self.old version).evaluated + 1 < 2 ^ 32 }
         ensures { self.new ≡ on_live self.old version counted }
     {
-        let slot = slot_in(self.live.as_slice(), version);
+        let slot = self.slot_of(version);
         self.seats[slot as usize].count();
     }
 
@@ -214,7 +257,7 @@ impl Seating {
         requires left { length (find_call self.old version).looked < length (find_call self.old version).looks }
         ensures { self.new ≡ on_live self.old version (with_look value) }
     {
-        let slot = slot_in(self.live.as_slice(), version);
+        let slot = self.slot_of(version);
         self.seats[slot as usize].look(value);
     }
 
@@ -224,8 +267,8 @@ impl Seating {
         requires after { has_call self.now after ≡ true }
         ensures { result ≡ reaches self.now.pairs before after }
     {
-        let first = slot_in(self.live.as_slice(), before);
-        let second = slot_in(self.live.as_slice(), after);
+        let first = self.slot_of(before);
+        let second = self.slot_of(after);
         self.order.precedes(first, second)
     }
 
@@ -235,8 +278,8 @@ impl Seating {
         requires after { has_call self.now after ≡ true }
         ensures { result ≡ is_recorded self.now.pairs before after }
     {
-        let first = slot_in(self.live.as_slice(), before);
-        let second = slot_in(self.live.as_slice(), after);
+        let first = self.slot_of(before);
+        let second = self.slot_of(after);
         is_pair(&self.order, first, second)
     }
 
@@ -355,8 +398,8 @@ impl Seating {
         requires forward { reaches self.old.pairs after before ≡ false }
         ensures { self.new ≡ with_pairs self.old (linked self.old.pairs before after node) }
     {
-        let first = slot_in(self.live.as_slice(), before);
-        let second = slot_in(self.live.as_slice(), after);
+        let first = self.slot_of(before);
+        let second = self.slot_of(after);
         self.order.link(first, second, node);
     }
 
@@ -368,7 +411,7 @@ impl Seating {
         ensures fewer { length self.new.calls + 1 ≡ length self.old.calls }
         ensures logged { result ≡ logged (find_call self.old version) }
     {
-        let slot = slot_in(self.live.as_slice(), version);
+        let slot = self.slot_of(version);
         self.order.retire(slot);
         take_tenant(&mut self.live, version);
         self.seats[slot as usize].end()

@@ -1,4 +1,4 @@
-use Rattle.std.proofs.Common.{◌≡◌, ◌<◌, ℕ, true, false, sym, ap, ◌∙◌, arith}
+use Rattle.std.proofs.Common.{◌≡◌, ◌<◌, ℕ, true, false, sym, ap, ◌∙◌, arith, length-set}
 use Rattle.std.specs.Vec.{vec_capacity}
 use Rattle.flow_model.specs.Machine.Steps.{uses_slot}
 use Rattle.flow_state.specs.declared.seating.Tenant.{Tenant}
@@ -13,9 +13,9 @@ push_reserved-requires c =
     let s = c.self.inside in
     let k = c.free_slot-slot.result in
     let below : k < s.callers = let h = c.requires.slot in let e = c.free_slot-slot.ensures.slot in let v = ap (λ (l : LiveCalls). l.callers) c.self.view_is in omega (arith, h, e, v) in
-    let unused : has_slot s.live.items k ≡ false = sym (slot_used s.callers s.nodes (vec_capacity s.live) s.seats.items s.live.items s.order k c.self.invariant) ∙ ap (λ (l : LiveCalls). uses_slot k l.calls) c.self.view_is ∙ c.free_slot-slot.ensures.free (let v = ap (λ (l : LiveCalls). l.callers) c.self.view_is in omega (arith, below, v)) in
-    let few = few_live s.callers s.nodes (vec_capacity s.live) s.seats.items s.live.items s.order k c.self.invariant below unused in
-    let room = c.self.invariant.room in
+    let unused : has_slot s.live.items k ≡ false = sym (slot_used s.callers s.nodes (vec_capacity s.live) s.seats.items s.live.items s.order k c.self.invariant.kept) ∙ ap (λ (l : LiveCalls). uses_slot k l.calls) c.self.view_is ∙ c.free_slot-slot.ensures.free (let v = ap (λ (l : LiveCalls). l.callers) c.self.view_is in omega (arith, below, v)) in
+    let few = few_live s.callers s.nodes (vec_capacity s.live) s.seats.items s.live.items s.order k c.self.invariant.kept below unused in
+    let room = c.self.invariant.kept.room in
     omega (arith, few, room)
 
 pub invariant_of-self : goal.invariant_of-self
@@ -23,26 +23,29 @@ invariant_of-self c =
     let s = c.self.inside in
     let k = c.free_slot-slot.result in
     let below : k < s.callers = let h = c.requires.slot in let e = c.free_slot-slot.ensures.slot in let v = ap (λ (l : LiveCalls). l.callers) c.self.view_is in omega (arith, h, e, v) in
-    let unused : has_slot s.live.items k ≡ false = sym (slot_used s.callers s.nodes (vec_capacity s.live) s.seats.items s.live.items s.order k c.self.invariant) ∙ ap (λ (l : LiveCalls). uses_slot k l.calls) c.self.view_is ∙ c.free_slot-slot.ensures.free (let v = ap (λ (l : LiveCalls). l.callers) c.self.view_is in omega (arith, below, v)) in
+    let unused : has_slot s.live.items k ≡ false = sym (slot_used s.callers s.nodes (vec_capacity s.live) s.seats.items s.live.items s.order k c.self.invariant.kept) ∙ ap (λ (l : LiveCalls). uses_slot k l.calls) c.self.view_is ∙ c.free_slot-slot.ensures.free (let v = ap (λ (l : LiveCalls). l.callers) c.self.view_is in omega (arith, below, v)) in
     let n : Tenant = record { version = c.args.version; slot = k } in
-    let count = c.self.invariant.count in
+    let count = c.self.invariant.kept.count in
     let read = read_version s.seats.items k c.index_mut.result.now (omega (arith, below, count)) c.index_mut.ensures.value in
-    let slot = ap (λ (x : Seated). x.call.slot) read ∙ c.self.invariant.slots k below in
-    let size = ap (λ (x : Seated). x.size) read ∙ c.self.invariant.sizes k below in
-    let newest : (t : ℕ) → has_version s.live.items t ≡ true → t < c.args.version = λ t h. c.requires.newest t (sym (ap (λ (l : LiveCalls). has_call l t) c.self.view_is) ∙ calls-has s.seats.items s.live.items t c.self.invariant.tenants ∙ h) in
-    begun_kept s.callers s.nodes (vec_capacity s.live) _ s.seats.items s.live.items c.push_reserved.new.self.items s.order n c.begin.new.self c.self.invariant below
-    (taken_by c.args.graph.now c.args.caller c.args.version k s.nodes c.args.call c.index_mut.result.now c.begin.new.self c.requires.some slot size c.begin.ensures) newest unused c.push_reserved.ensures.items c.push_reserved.ensures.capacity
+    let slot = ap (λ (x : Seated). x.call.slot) read ∙ c.self.invariant.kept.slots k below in
+    let size = ap (λ (x : Seated). x.size) read ∙ c.self.invariant.kept.sizes k below in
+    let newest : (t : ℕ) → has_version s.live.items t ≡ true → t < c.args.version = λ t h. c.requires.newest t (sym (ap (λ (l : LiveCalls). has_call l t) c.self.view_is) ∙ calls-has s.seats.items s.live.items t c.self.invariant.kept.tenants ∙ h) in
+    record {
+      kept = begun_kept s.callers s.nodes (vec_capacity s.live) _ s.seats.items s.live.items c.push_reserved.new.self.items s.order n c.begin.new.self c.self.invariant.kept below
+          (taken_by c.args.graph.now c.args.caller c.args.version k s.nodes c.args.call c.index_mut.result.now c.begin.new.self c.requires.some slot size c.begin.ensures) newest unused c.push_reserved.ensures.items c.push_reserved.ensures.capacity;
+      hint_count = length-set _ _ _ ∙ c.self.invariant.hint_count;
+    }
 
 pub returns : goal.returns
 returns c =
     let s = c.self.inside in
     let k = c.free_slot-slot.result in
     let below : k < s.callers = let h = c.requires.slot in let e = c.free_slot-slot.ensures.slot in let v = ap (λ (l : LiveCalls). l.callers) c.self.view_is in omega (arith, h, e, v) in
-    let unused : has_slot s.live.items k ≡ false = sym (slot_used s.callers s.nodes (vec_capacity s.live) s.seats.items s.live.items s.order k c.self.invariant) ∙ ap (λ (l : LiveCalls). uses_slot k l.calls) c.self.view_is ∙ c.free_slot-slot.ensures.free (let v = ap (λ (l : LiveCalls). l.callers) c.self.view_is in omega (arith, below, v)) in
+    let unused : has_slot s.live.items k ≡ false = sym (slot_used s.callers s.nodes (vec_capacity s.live) s.seats.items s.live.items s.order k c.self.invariant.kept) ∙ ap (λ (l : LiveCalls). uses_slot k l.calls) c.self.view_is ∙ c.free_slot-slot.ensures.free (let v = ap (λ (l : LiveCalls). l.callers) c.self.view_is in omega (arith, below, v)) in
     let n : Tenant = record { version = c.args.version; slot = k } in
-    let count = c.self.invariant.count in
+    let count = c.self.invariant.kept.count in
     let read = read_version s.seats.items k c.index_mut.result.now (omega (arith, below, count)) c.index_mut.ensures.value in
-    let slot = ap (λ (x : Seated). x.call.slot) read ∙ c.self.invariant.slots k below in
-    let size = ap (λ (x : Seated). x.size) read ∙ c.self.invariant.sizes k below in
+    let slot = ap (λ (x : Seated). x.call.slot) read ∙ c.self.invariant.kept.slots k below in
+    let size = ap (λ (x : Seated). x.size) read ∙ c.self.invariant.kept.sizes k below in
     let call = ap (λ (x : Seated). x.call) c.begin.ensures ∙ ap (λ j. begun_call c.args.graph.now c.args.caller c.args.version j c.args.call) (slot ∙ c.free_slot-slot.ensures.slot) in
-    begun_seen s.callers s.nodes (vec_capacity s.live) s.seats.items s.live.items c.push_reserved.new.self.items s.order n c.begin.new.self _ c.args.self.now c.self.invariant c.self.view_is below unused c.push_reserved.ensures.items call
+    begun_seen s.callers s.nodes (vec_capacity s.live) s.seats.items s.live.items c.push_reserved.new.self.items s.order n c.begin.new.self _ c.args.self.now c.self.invariant.kept c.self.view_is below unused c.push_reserved.ensures.items call

@@ -12,8 +12,8 @@ is_before-requires-clause-before c =
     let len = c.len-index-end.ensures in
     let x = c.index-tenant.result.now in
     let below : c.loop-index.index < length s.live.items = omega (arith, len) in
-    let at = tenant_at s.seats.items s.live.items c.loop-index.index x c.self.invariant.tenants below c.index-tenant.ensures in
-    sym (ap (λ (l : LiveCalls). has_call l x.version) c.self.view_is) ∙ calls-has s.seats.items s.live.items x.version c.self.invariant.tenants ∙ at.1
+    let at = tenant_at s.seats.items s.live.items c.loop-index.index x c.self.invariant.kept.tenants below c.index-tenant.ensures in
+    sym (ap (λ (l : LiveCalls). has_call l x.version) c.self.view_is) ∙ calls-has s.seats.items s.live.items x.version c.self.invariant.kept.tenants ∙ at.1
 
 pub returns-then-is_before : goal.returns-then-is_before
 returns-then-is_before c =
@@ -21,8 +21,8 @@ returns-then-is_before c =
     let len = c.len-index-end.ensures in
     let x = c.index-tenant.result.now in
     let below : c.loop-index.index < length s.live.items = omega (arith, len) in
-    let at = tenant_at s.seats.items s.live.items c.loop-index.index x c.self.invariant.tenants below c.index-tenant.ensures in
-    first_found (before_live c.args.self.now c.args.version) s.seats.items s.live.items c.loop-index.index x _ c.self.invariant.tenants c.self.invariant.ascending below c.index-tenant.ensures c.loop-index.invariant
+    let at = tenant_at s.seats.items s.live.items c.loop-index.index x c.self.invariant.kept.tenants below c.index-tenant.ensures in
+    first_found (before_live c.args.self.now c.args.version) s.seats.items s.live.items c.loop-index.index x _ c.self.invariant.kept.tenants c.self.invariant.kept.ascending below c.index-tenant.ensures c.loop-index.invariant
     (ap (λ (v : ℕ). is_recorded c.args.self.now.pairs v c.args.version) at.0.version ∙ sym c.is_before.ensures ∙ c.if-is_before.true)
 
 pub loop-index-preserved : goal.loop-index-preserved
@@ -31,7 +31,7 @@ loop-index-preserved c =
     let len = c.len-index-end.ensures in
     let x = c.index-tenant.result.now in
     let below : c.loop-index.index < length s.live.items = omega (arith, len) in
-    let at = tenant_at s.seats.items s.live.items c.loop-index.index x c.self.invariant.tenants below c.index-tenant.ensures in
+    let at = tenant_at s.seats.items s.live.items c.loop-index.index x c.self.invariant.kept.tenants below c.index-tenant.ensures in
     first_more (before_live c.args.self.now c.args.version) s.seats.items s.live.items c.loop-index.index x _ below c.index-tenant.ensures c.loop-index.invariant
     (ap (λ (v : ℕ). is_recorded c.args.self.now.pairs v c.args.version) at.0.version ∙ sym c.is_before.ensures ∙ c.if-is_before.false)
 

@@ -12,7 +12,7 @@ index-seat-requires c =
     let len = c.len-index-end.ensures in
     let x = c.index-tenant.result.now in
     let below : c.loop-index.index < length s.live.items = omega (arith, len) in
-    let at = tenant_at s.seats.items s.live.items c.loop-index.index x c.self.invariant.tenants below c.index-tenant.ensures in
+    let at = tenant_at s.seats.items s.live.items c.loop-index.index x c.self.invariant.kept.tenants below c.index-tenant.ensures in
     let inside = at.0.inside in
     omega (arith, inside)
 
@@ -22,8 +22,8 @@ frames_before-requires-clause-other c =
     let len = c.len-index-end.ensures in
     let x = c.index-tenant.result.now in
     let below : c.loop-index.index < length s.live.items = omega (arith, len) in
-    let at = tenant_at s.seats.items s.live.items c.loop-index.index x c.self.invariant.tenants below c.index-tenant.ensures in
-    sym (ap (λ (l : LiveCalls). has_call l x.version) c.self.view_is) ∙ calls-has s.seats.items s.live.items x.version c.self.invariant.tenants ∙ at.1
+    let at = tenant_at s.seats.items s.live.items c.loop-index.index x c.self.invariant.kept.tenants below c.index-tenant.ensures in
+    sym (ap (λ (l : LiveCalls). has_call l x.version) c.self.view_is) ∙ calls-has s.seats.items s.live.items x.version c.self.invariant.kept.tenants ∙ at.1
 
 pub frames_before-requires-clause-seat : goal.frames_before-requires-clause-seat
 frames_before-requires-clause-seat c =
@@ -31,7 +31,7 @@ frames_before-requires-clause-seat c =
     let len = c.len-index-end.ensures in
     let x = c.index-tenant.result.now in
     let below : c.loop-index.index < length s.live.items = omega (arith, len) in
-    let at = tenant_at s.seats.items s.live.items c.loop-index.index x c.self.invariant.tenants below c.index-tenant.ensures in
+    let at = tenant_at s.seats.items s.live.items c.loop-index.index x c.self.invariant.kept.tenants below c.index-tenant.ensures in
     let inside = at.0.inside in
     let read = seat_read s.seats.items x.slot c.index-seat.result.now inside c.index-seat.ensures in
     ap (λ (y : Seated). y.call.version) read ∙ at.0.version
@@ -42,10 +42,10 @@ returns-then-frames_before c =
     let len = c.len-index-end.ensures in
     let x = c.index-tenant.result.now in
     let below : c.loop-index.index < length s.live.items = omega (arith, len) in
-    let at = tenant_at s.seats.items s.live.items c.loop-index.index x c.self.invariant.tenants below c.index-tenant.ensures in
+    let at = tenant_at s.seats.items s.live.items c.loop-index.index x c.self.invariant.kept.tenants below c.index-tenant.ensures in
     let inside = at.0.inside in
     let read = seat_read s.seats.items x.slot c.index-seat.result.now inside c.index-seat.ensures in
-    first_found (framing_before_live c.args.self.now c.args.version) s.seats.items s.live.items c.loop-index.index x _ c.self.invariant.tenants c.self.invariant.ascending below c.index-tenant.ensures c.loop-index.invariant
+    first_found (framing_before_live c.args.self.now c.args.version) s.seats.items s.live.items c.loop-index.index x _ c.self.invariant.kept.tenants c.self.invariant.kept.ascending below c.index-tenant.ensures c.loop-index.invariant
     (ap (λ (y : Seated). framing_before_live c.args.self.now c.args.version y.call) (sym read) ∙ sym c.frames_before.ensures ∙ c.if-frames_before.true)
 
 pub loop-index-preserved : goal.loop-index-preserved
@@ -54,7 +54,7 @@ loop-index-preserved c =
     let len = c.len-index-end.ensures in
     let x = c.index-tenant.result.now in
     let below : c.loop-index.index < length s.live.items = omega (arith, len) in
-    let at = tenant_at s.seats.items s.live.items c.loop-index.index x c.self.invariant.tenants below c.index-tenant.ensures in
+    let at = tenant_at s.seats.items s.live.items c.loop-index.index x c.self.invariant.kept.tenants below c.index-tenant.ensures in
     let inside = at.0.inside in
     let read = seat_read s.seats.items x.slot c.index-seat.result.now inside c.index-seat.ensures in
     first_more (framing_before_live c.args.self.now c.args.version) s.seats.items s.live.items c.loop-index.index x _ below c.index-tenant.ensures c.loop-index.invariant

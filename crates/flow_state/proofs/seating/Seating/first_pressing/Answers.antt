@@ -11,7 +11,7 @@ index-seat-requires c =
     let len = c.len-index-end.ensures in
     let x = c.index-tenant.result.now in
     let below : c.loop-index.index < length s.live.items = omega (arith, len) in
-    let at = tenant_at s.seats.items s.live.items c.loop-index.index x c.self.invariant.tenants below c.index-tenant.ensures in
+    let at = tenant_at s.seats.items s.live.items c.loop-index.index x c.self.invariant.kept.tenants below c.index-tenant.ensures in
     let inside = at.0.inside in
     omega (arith, inside)
 
@@ -21,8 +21,8 @@ presses-requires-clause-other c =
     let len = c.len-index-end.ensures in
     let x = c.index-tenant.result.now in
     let below : c.loop-index.index < length s.live.items = omega (arith, len) in
-    let at = tenant_at s.seats.items s.live.items c.loop-index.index x c.self.invariant.tenants below c.index-tenant.ensures in
-    sym (ap (λ (l : LiveCalls). has_call l x.version) c.self.view_is) ∙ calls-has s.seats.items s.live.items x.version c.self.invariant.tenants ∙ at.1
+    let at = tenant_at s.seats.items s.live.items c.loop-index.index x c.self.invariant.kept.tenants below c.index-tenant.ensures in
+    sym (ap (λ (l : LiveCalls). has_call l x.version) c.self.view_is) ∙ calls-has s.seats.items s.live.items x.version c.self.invariant.kept.tenants ∙ at.1
 
 pub presses-requires-clause-seat : goal.presses-requires-clause-seat
 presses-requires-clause-seat c =
@@ -30,7 +30,7 @@ presses-requires-clause-seat c =
     let len = c.len-index-end.ensures in
     let x = c.index-tenant.result.now in
     let below : c.loop-index.index < length s.live.items = omega (arith, len) in
-    let at = tenant_at s.seats.items s.live.items c.loop-index.index x c.self.invariant.tenants below c.index-tenant.ensures in
+    let at = tenant_at s.seats.items s.live.items c.loop-index.index x c.self.invariant.kept.tenants below c.index-tenant.ensures in
     let inside = at.0.inside in
     let read = seat_read s.seats.items x.slot c.index-seat.result.now inside c.index-seat.ensures in
     ap (λ (y : Seated). y.call.version) read ∙ at.0.version
@@ -41,11 +41,11 @@ presses-requires-clause-node c =
     let len = c.len-index-end.ensures in
     let x = c.index-tenant.result.now in
     let below : c.loop-index.index < length s.live.items = omega (arith, len) in
-    let at = tenant_at s.seats.items s.live.items c.loop-index.index x c.self.invariant.tenants below c.index-tenant.ensures in
+    let at = tenant_at s.seats.items s.live.items c.loop-index.index x c.self.invariant.kept.tenants below c.index-tenant.ensures in
     let inside = at.0.inside in
     let read = seat_read s.seats.items x.slot c.index-seat.result.now inside c.index-seat.ensures in
-    let count = c.self.invariant.count in
-    let size = ap (λ (y : Seated). y.size) read ∙ c.self.invariant.sizes x.slot (omega (arith, inside, count)) ∙ ap (λ (l : LiveCalls). l.nodes) c.self.view_is in
+    let count = c.self.invariant.kept.count in
+    let size = ap (λ (y : Seated). y.size) read ∙ c.self.invariant.kept.sizes x.slot (omega (arith, inside, count)) ∙ ap (λ (l : LiveCalls). l.nodes) c.self.view_is in
     let node = c.requires.node in
     omega (arith, size, node)
 
@@ -55,10 +55,10 @@ returns-then-presses c =
     let len = c.len-index-end.ensures in
     let x = c.index-tenant.result.now in
     let below : c.loop-index.index < length s.live.items = omega (arith, len) in
-    let at = tenant_at s.seats.items s.live.items c.loop-index.index x c.self.invariant.tenants below c.index-tenant.ensures in
+    let at = tenant_at s.seats.items s.live.items c.loop-index.index x c.self.invariant.kept.tenants below c.index-tenant.ensures in
     let inside = at.0.inside in
     let read = seat_read s.seats.items x.slot c.index-seat.result.now inside c.index-seat.ensures in
-    first_found (presses_live c.args.self.now c.args.version c.args.node) s.seats.items s.live.items c.loop-index.index x _ c.self.invariant.tenants c.self.invariant.ascending below c.index-tenant.ensures c.loop-index.invariant
+    first_found (presses_live c.args.self.now c.args.version c.args.node) s.seats.items s.live.items c.loop-index.index x _ c.self.invariant.kept.tenants c.self.invariant.kept.ascending below c.index-tenant.ensures c.loop-index.invariant
     (ap (λ (y : Seated). presses_live c.args.self.now c.args.version c.args.node y.call) (sym read) ∙ sym c.presses.ensures ∙ c.if-presses.true)
 
 pub loop-index-preserved : goal.loop-index-preserved
@@ -67,7 +67,7 @@ loop-index-preserved c =
     let len = c.len-index-end.ensures in
     let x = c.index-tenant.result.now in
     let below : c.loop-index.index < length s.live.items = omega (arith, len) in
-    let at = tenant_at s.seats.items s.live.items c.loop-index.index x c.self.invariant.tenants below c.index-tenant.ensures in
+    let at = tenant_at s.seats.items s.live.items c.loop-index.index x c.self.invariant.kept.tenants below c.index-tenant.ensures in
     let inside = at.0.inside in
     let read = seat_read s.seats.items x.slot c.index-seat.result.now inside c.index-seat.ensures in
     first_more (presses_live c.args.self.now c.args.version c.args.node) s.seats.items s.live.items c.loop-index.index x _ below c.index-tenant.ensures c.loop-index.invariant

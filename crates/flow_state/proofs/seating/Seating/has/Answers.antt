@@ -8,5 +8,5 @@ pub returns : goal.returns
 returns c =
     c.has_version.ensures
     ∙ ap (λ (xs : List Tenant). has_version xs c.args.version) c.as_slice.ensures.value
-    ∙ sym (calls-has c.self.inside.seats.items c.self.inside.live.items c.args.version c.self.invariant.tenants)
+    ∙ sym (calls-has c.self.inside.seats.items c.self.inside.live.items c.args.version c.self.invariant.kept.tenants)
     ∙ ap (λ (l : LiveCalls). has_call l c.args.version) c.self.view_is

@@ -7,18 +7,18 @@ use Rattle.flow_state.proofs.seating.Seating.is_before.Goals as goal
 pub is_pair-requires-clause-first : goal.is_pair-requires-clause-first
 is_pair-requires-clause-first c =
     let s = c.self.inside in
-    let at = slot_read s.callers s.nodes (vec_capacity s.live) s.seats.items s.live.items c.as_slice.result.now s.order c.args.before c.slot_in-first.result c.args.self.now c.self.invariant c.self.view_is c.requires.before c.as_slice.ensures.value c.slot_in-first.ensures in
-    slot_fits s.callers s.nodes (vec_capacity s.live) s.seats.items s.live.items s.order c.args.before c.slot_in-first.result c.self.invariant at
+    let at = slot_read s.callers s.nodes (vec_capacity s.live) s.seats.items s.live.items s.order c.args.before c.slot_of-first.result c.args.self.now c.self.invariant.kept c.self.view_is c.requires.before c.slot_of-first.ensures in
+    slot_fits s.callers s.nodes (vec_capacity s.live) s.seats.items s.live.items s.order c.args.before c.slot_of-first.result c.self.invariant.kept at
 
 pub is_pair-requires-clause-second : goal.is_pair-requires-clause-second
 is_pair-requires-clause-second c =
     let s = c.self.inside in
-    let at = slot_read s.callers s.nodes (vec_capacity s.live) s.seats.items s.live.items c.as_slice-2.result.now s.order c.args.after c.slot_in-second.result c.args.self.now c.self.invariant c.self.view_is c.requires.after c.as_slice-2.ensures.value c.slot_in-second.ensures in
-    slot_fits s.callers s.nodes (vec_capacity s.live) s.seats.items s.live.items s.order c.args.after c.slot_in-second.result c.self.invariant at
+    let at = slot_read s.callers s.nodes (vec_capacity s.live) s.seats.items s.live.items s.order c.args.after c.slot_of-second.result c.args.self.now c.self.invariant.kept c.self.view_is c.requires.after c.slot_of-second.ensures in
+    slot_fits s.callers s.nodes (vec_capacity s.live) s.seats.items s.live.items s.order c.args.after c.slot_of-second.result c.self.invariant.kept at
 
 pub returns : goal.returns
 returns c =
     let s = c.self.inside in
-    let a = slot_read s.callers s.nodes (vec_capacity s.live) s.seats.items s.live.items c.as_slice.result.now s.order c.args.before c.slot_in-first.result c.args.self.now c.self.invariant c.self.view_is c.requires.before c.as_slice.ensures.value c.slot_in-first.ensures in
-    let b = slot_read s.callers s.nodes (vec_capacity s.live) s.seats.items s.live.items c.as_slice-2.result.now s.order c.args.after c.slot_in-second.result c.args.self.now c.self.invariant c.self.view_is c.requires.after c.as_slice-2.ensures.value c.slot_in-second.ensures in
-    c.is_pair.ensures ∙ record_seen s.callers s.nodes (vec_capacity s.live) s.seats.items s.live.items s.order c.args.before c.args.after c.slot_in-first.result c.slot_in-second.result c.args.self.now c.self.invariant c.self.view_is a b
+    let a = slot_read s.callers s.nodes (vec_capacity s.live) s.seats.items s.live.items s.order c.args.before c.slot_of-first.result c.args.self.now c.self.invariant.kept c.self.view_is c.requires.before c.slot_of-first.ensures in
+    let b = slot_read s.callers s.nodes (vec_capacity s.live) s.seats.items s.live.items s.order c.args.after c.slot_of-second.result c.args.self.now c.self.invariant.kept c.self.view_is c.requires.after c.slot_of-second.ensures in
+    c.is_pair.ensures ∙ record_seen s.callers s.nodes (vec_capacity s.live) s.seats.items s.live.items s.order c.args.before c.args.after c.slot_of-first.result c.slot_of-second.result c.args.self.now c.self.invariant.kept c.self.view_is a b

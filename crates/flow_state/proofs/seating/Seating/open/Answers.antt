@@ -6,22 +6,22 @@ use Rattle.flow_state.proofs.seating.Seating.open.Goals as goal
 
 pub index_mut-requires : goal.index_mut-requires
 index_mut-requires c =
-    let at = slot_read c.self.inside.callers c.self.inside.nodes (vec_capacity c.self.inside.live) c.self.inside.seats.items c.self.inside.live.items c.as_slice.result.now c.self.inside.order c.args.version c.slot_in-slot.result c.args.self.now c.self.invariant c.self.view_is c.requires.live c.as_slice.ensures.value c.slot_in-slot.ensures in
+    let at = slot_read c.self.inside.callers c.self.inside.nodes (vec_capacity c.self.inside.live) c.self.inside.seats.items c.self.inside.live.items c.self.inside.order c.args.version c.slot_of-slot.result c.args.self.now c.self.invariant.kept c.self.view_is c.requires.live c.slot_of-slot.ensures in
     let inside = at.inside in
     omega (arith, inside)
 
 pub open-requires : goal.open-requires
 open-requires c =
-    let at = slot_read c.self.inside.callers c.self.inside.nodes (vec_capacity c.self.inside.live) c.self.inside.seats.items c.self.inside.live.items c.as_slice.result.now c.self.inside.order c.args.version c.slot_in-slot.result c.args.self.now c.self.invariant c.self.view_is c.requires.live c.as_slice.ensures.value c.slot_in-slot.ensures in
-    let size = read_size c.self.inside.callers c.self.inside.nodes (vec_capacity c.self.inside.live) c.self.inside.seats.items c.self.inside.live.items c.self.inside.order c.slot_in-slot.result c.index_mut.result.now c.args.self.now c.self.invariant c.self.view_is at.inside c.index_mut.ensures.value in
+    let at = slot_read c.self.inside.callers c.self.inside.nodes (vec_capacity c.self.inside.live) c.self.inside.seats.items c.self.inside.live.items c.self.inside.order c.args.version c.slot_of-slot.result c.args.self.now c.self.invariant.kept c.self.view_is c.requires.live c.slot_of-slot.ensures in
+    let size = read_size c.self.inside.callers c.self.inside.nodes (vec_capacity c.self.inside.live) c.self.inside.seats.items c.self.inside.live.items c.self.inside.order c.slot_of-slot.result c.index_mut.result.now c.args.self.now c.self.invariant.kept c.self.view_is at.inside c.index_mut.ensures.value in
     let node = c.requires.node in
     omega (arith, size, node)
 
 pub invariant_of-self : goal.invariant_of-self
 invariant_of-self c =
-    let at = slot_read c.self.inside.callers c.self.inside.nodes (vec_capacity c.self.inside.live) c.self.inside.seats.items c.self.inside.live.items c.as_slice.result.now c.self.inside.order c.args.version c.slot_in-slot.result c.args.self.now c.self.invariant c.self.view_is c.requires.live c.as_slice.ensures.value c.slot_in-slot.ensures in
-    changed_kept c.self.inside.callers c.self.inside.nodes (vec_capacity c.self.inside.live) c.self.inside.seats.items c.self.inside.live.items c.self.inside.order c.args.version c.slot_in-slot.result c.index_mut.result.now c.open.new.self (opened_one c.args.node) (record { version = λ _. refl; slot = λ _. refl; looks = λ _. refl }) c.self.invariant at c.index_mut.ensures.value c.open.ensures
+    let at = slot_read c.self.inside.callers c.self.inside.nodes (vec_capacity c.self.inside.live) c.self.inside.seats.items c.self.inside.live.items c.self.inside.order c.args.version c.slot_of-slot.result c.args.self.now c.self.invariant.kept c.self.view_is c.requires.live c.slot_of-slot.ensures in
+    record { kept = changed_kept c.self.inside.callers c.self.inside.nodes (vec_capacity c.self.inside.live) c.self.inside.seats.items c.self.inside.live.items c.self.inside.order c.args.version c.slot_of-slot.result c.index_mut.result.now c.open.new.self (opened_one c.args.node) (record { version = λ _. refl; slot = λ _. refl; looks = λ _. refl }) c.self.invariant.kept at c.index_mut.ensures.value c.open.ensures; hint_count = c.self.invariant.hint_count }
 
 pub returns : goal.returns
 returns c =
-    changed_seen c.self.inside.callers c.self.inside.nodes (vec_capacity c.self.inside.live) c.self.inside.seats.items c.self.inside.live.items c.as_slice.result.now c.self.inside.order c.args.version c.slot_in-slot.result c.index_mut.result.now c.open.new.self (opened_one c.args.node) c.args.self.now (record { version = λ _. refl; slot = λ _. refl; looks = λ _. refl }) c.self.invariant c.self.view_is c.requires.live c.as_slice.ensures.value c.slot_in-slot.ensures c.index_mut.ensures.value c.open.ensures
+    changed_seen c.self.inside.callers c.self.inside.nodes (vec_capacity c.self.inside.live) c.self.inside.seats.items c.self.inside.live.items c.self.inside.order c.args.version c.slot_of-slot.result c.index_mut.result.now c.open.new.self (opened_one c.args.node) c.args.self.now (record { version = λ _. refl; slot = λ _. refl; looks = λ _. refl }) c.self.invariant.kept c.self.view_is c.requires.live c.slot_of-slot.ensures c.index_mut.ensures.value c.open.ensures

@@ -5,16 +5,16 @@ use Rattle.flow_state.proofs.seating.Seating.seat.Goals as goal
 
 pub index-requires : goal.index-requires
 index-requires c =
-    let at = slot_read c.self.inside.callers c.self.inside.nodes (vec_capacity c.self.inside.live) c.self.inside.seats.items c.self.inside.live.items c.as_slice.result.now c.self.inside.order c.args.version c.slot_in-slot.result c.args.self.now c.self.invariant c.self.view_is c.requires c.as_slice.ensures.value c.slot_in-slot.ensures in
+    let at = slot_read c.self.inside.callers c.self.inside.nodes (vec_capacity c.self.inside.live) c.self.inside.seats.items c.self.inside.live.items c.self.inside.order c.args.version c.slot_of-slot.result c.args.self.now c.self.invariant.kept c.self.view_is c.requires c.slot_of-slot.ensures in
     let inside = at.inside in
     omega (arith, inside)
 
 pub returns-clause-call : goal.returns-clause-call
 returns-clause-call c =
-    let at = slot_read c.self.inside.callers c.self.inside.nodes (vec_capacity c.self.inside.live) c.self.inside.seats.items c.self.inside.live.items c.as_slice.result.now c.self.inside.order c.args.version c.slot_in-slot.result c.args.self.now c.self.invariant c.self.view_is c.requires c.as_slice.ensures.value c.slot_in-slot.ensures in
-    read_call c.self.inside.callers c.self.inside.nodes c.self.inside.seats.items c.self.inside.live.items c.self.inside.order c.args.version c.slot_in-slot.result c.index.result.now c.args.self.now c.self.view_is at c.index.ensures
+    let at = slot_read c.self.inside.callers c.self.inside.nodes (vec_capacity c.self.inside.live) c.self.inside.seats.items c.self.inside.live.items c.self.inside.order c.args.version c.slot_of-slot.result c.args.self.now c.self.invariant.kept c.self.view_is c.requires c.slot_of-slot.ensures in
+    read_call c.self.inside.callers c.self.inside.nodes c.self.inside.seats.items c.self.inside.live.items c.self.inside.order c.args.version c.slot_of-slot.result c.index.result.now c.args.self.now c.self.view_is at c.index.ensures
 
 pub returns-clause-size : goal.returns-clause-size
 returns-clause-size c =
-    let at = slot_read c.self.inside.callers c.self.inside.nodes (vec_capacity c.self.inside.live) c.self.inside.seats.items c.self.inside.live.items c.as_slice.result.now c.self.inside.order c.args.version c.slot_in-slot.result c.args.self.now c.self.invariant c.self.view_is c.requires c.as_slice.ensures.value c.slot_in-slot.ensures in
-    read_size c.self.inside.callers c.self.inside.nodes (vec_capacity c.self.inside.live) c.self.inside.seats.items c.self.inside.live.items c.self.inside.order c.slot_in-slot.result c.index.result.now c.args.self.now c.self.invariant c.self.view_is at.inside c.index.ensures
+    let at = slot_read c.self.inside.callers c.self.inside.nodes (vec_capacity c.self.inside.live) c.self.inside.seats.items c.self.inside.live.items c.self.inside.order c.args.version c.slot_of-slot.result c.args.self.now c.self.invariant.kept c.self.view_is c.requires c.slot_of-slot.ensures in
+    read_size c.self.inside.callers c.self.inside.nodes (vec_capacity c.self.inside.live) c.self.inside.seats.items c.self.inside.live.items c.self.inside.order c.slot_of-slot.result c.index.result.now c.args.self.now c.self.invariant.kept c.self.view_is at.inside c.index.ensures
