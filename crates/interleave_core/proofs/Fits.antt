@@ -19,7 +19,7 @@ use Rattle.interleave_core.specs.Whole.{Whole, after, cells_of, state_of, whole_
 
 -- ---- a state, its book and its lists
 
-works-back : (ws : List Work) (ls : List Versions) → length ls ≡ length ws → map work_in (cells_of ws ls) ≡ ws
+pub works-back : (ws : List Work) (ls : List Versions) → length ls ≡ length ws → map work_in (cells_of ws ls) ≡ ws
 works-back [] ls h = refl
 works-back (w ∷ ws) [] h = absurd (omega (arith, h))
 works-back (w ∷ ws) (l ∷ ls) h = ap (λ (xs : List Work). w ∷ xs) (works-back ws ls (omega (arith, h)))

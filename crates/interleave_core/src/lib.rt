@@ -3,6 +3,9 @@
 
 pub use core_state::Core;
 
+mod beginning;
 mod choosers;
 mod core_state;
+mod ending;
 mod opening;
+mod parts;
