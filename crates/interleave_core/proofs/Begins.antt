@@ -1,5 +1,8 @@
 -- The core before any call, and after a beginning.
-use Rattle.std.proofs.Common.{◌≡◌, ℕ, zero, suc, ◌+◌, ◌-◌, ◌<◌, true, List, [], ◌∷◌, length, map, refl, sym, ap, ◌∙◌, subst, arith}
+use Rattle.std.proofs.Common.{◌≡◌, ℕ, zero, suc, ◌+◌, ◌-◌, ◌<◌, true, Result, Ok, Err, List, [], ◌∷◌, length, map, refl, sym, ap, ◌∙◌, subst, arith}
+use Rattle.std.specs.Prelude.{IfOk}
+use Rattle.script_tree.specs.declared.memory.OutOfMemory.{OutOfMemory}
+use Rattle.signal_graph.specs.Machine.{looks_of}
 use Rattle.signal_graph.specs.declared.call.Call.{Call}
 use Rattle.signal_graph.specs.declared.node.Node.{Node}
 use Rattle.signal_graph.specs.Graph.{Graph, IsGraph, numbers, numbers_from}
@@ -10,11 +13,12 @@ use Rattle.flow_model.specs.Kept.Lawful.{IsLawful}
 use Rattle.flow_model.specs.Parts.Books.{Work, work_in, book_of}
 use Rattle.flow_state.specs.Booked.{Booked, opened_book}
 use Rattle.flow_state.specs.Fitting.{choosers}
-use Rattle.framing.specs.Begins.{book_begun}
+use Rattle.flow_state.specs.Rooms.{Roomy}
+use Rattle.framing.specs.Begins.{book_begun, IsBeginning}
 use Rattle.interleave_core.specs.Whole.{Whole, cells_of, state_of, whole_of, HaveRooms, IsWhole}
 use Rattle.interleave_core.specs.Opening.{start_list, opened_core}
 use Rattle.interleave_core.specs.Rooms.{after_beginning}
-use Rattle.interleave_core.proofs.Fits.{works-back}
+use Rattle.interleave_core.proofs.Fits.{works-back, fits, all_nodes}
 
 -- ---- before any call
 
@@ -71,3 +75,33 @@ pub begun_seen : (graph : Graph) (book new : Booked) (lists : List Versions) (ca
 begun_seen graph book new lists caller call seen kept view is = ap (λ (b : Booked). whole_of graph b lists) is
     ∙ ap (λ (s : Core). record { graph = graph; state = s; rooms = book.rooms - 1 }) (state_begun graph book lists caller call kept)
     ∙ ap (λ (w : Whole). after_beginning w caller call) view
+
+-- ---- rooms
+
+pub works_nodes : (graph : Graph) (book : Booked) (lists : List Versions) → IsWhole graph book lists → length book.book.works ≡ length graph.nodes
+works_nodes graph book lists kept = sym kept.many ∙ all_nodes graph book lists kept
+
+pub room_is : (result : Result Roomy OutOfMemory) (looks nodes size : ℕ) → IfOk result (λ room. room ≡ record { looks = looks; nodes = nodes }) → nodes ≡ size → IfOk result (λ room. room ≡ record { looks = looks; nodes = size })
+room_is (Ok room) looks nodes size h e = h ∙ ap (λ (n : ℕ). record { looks = looks; nodes = n }) e
+room_is (Err f) looks nodes size h e = h
+
+pub can_begin_here : (graph : Graph) (book : Booked) (lists : List Versions) (caller : ℕ) (call : Call) (seen : Whole) → whole_of graph book lists ≡ seen → can_begin seen.graph seen.state caller call ≡ true → can_begin graph (state_of book.book lists) caller call ≡ true
+can_begin_here graph book lists caller call seen view can = ap (λ (w : Whole). can_begin w.graph w.state caller call) view ∙ can
+
+pub is_beginning : (graph : Graph) (book : Booked) (lists : List Versions) (caller : ℕ) (call : Call) (room : Roomy) (seen : Whole) → IsWhole graph book lists → whole_of graph book lists ≡ seen → can_begin seen.graph seen.state caller call ≡ true
+    → room.looks ≡ length (looks_of call) → room.nodes ≡ length seen.graph.nodes → 0 < seen.rooms → IsBeginning graph book caller call room
+is_beginning graph book lists caller call room seen kept view can looks nodes out = record {
+  state = state_of book.book lists;
+  fits = fits graph book lists kept;
+  allowed = can_begin_here graph book lists caller call seen view can;
+  looks = looks;
+  nodes = nodes ∙ sym (ap (λ (w : Whole). length w.graph.nodes) view);
+  out = subst (λ (w : Whole). 0 < w.rooms) (sym view) out;
+}
+
+pub start_size : (graph : Graph) (callers : ℕ) (lists : List Versions) → lists ≡ map (start_list graph callers) (numbers graph) → length lists ≡ length graph.nodes
+start_size graph callers lists are = ap length are ∙ go 0 graph.nodes
+  where
+    go : (n : ℕ) (nodes : List Node) → length (map (start_list graph callers) (numbers_from n nodes)) ≡ length nodes
+    go n [] = refl
+    go n (x ∷ xs) = ap suc (go (n + 1) xs)
