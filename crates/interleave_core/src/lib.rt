@@ -3,4 +3,6 @@
 
 pub use core_state::Core;
 
+mod answering;
 mod core_state;
+mod steps;
