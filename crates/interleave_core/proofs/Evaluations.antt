@@ -12,8 +12,9 @@ use Rattle.script_tree.specs.declared.value.Value.TheVariants.{Fault as Faulty}
 use Rattle.script_tree.specs.Scripts.{Scripted, IsBody}
 use Rattle.signal_graph.specs.declared.node.Node.{Node}
 use Rattle.signal_graph.specs.declared.node.Node.TheVariants.{Source, Signal, Fold, Choose}
+use Rattle.signal_graph.specs.declared.node.NodeKind.TheVariants as kinds
 use Rattle.signal_graph.specs.declared.node.Selector.{Selector}
-use Rattle.signal_graph.specs.Graph.{Graph, IsGraph, IsNode, IsSelector, Kept, Resolves, node_at, inputs_of, body_of}
+use Rattle.signal_graph.specs.Graph.{Graph, IsGraph, IsNode, IsSelector, Kept, Resolves, node_at, inputs_of, body_of, kind_of}
 use Rattle.signal_graph.specs.Evaluation.{CanEvaluate}
 use Rattle.signal_graph.proofs.GraphNodes.{all_can_evaluate, node_is}
 use Rattle.node_versions.specs.Entries.{Versions, has, before, last_done, value_before}
@@ -35,14 +36,10 @@ use Rattle.flow_state.specs.declared.outcome.Outcome.TheVariants as outcome
 use Rattle.flow_state.specs.Answers.{step_for, step_of, IsOutcome, IsRight}
 use Rattle.flow_state.specs.Found.{selection_of}
 use Rattle.flow_state.specs.Jobs.{read_from, found_as, outcome_in, items_of, found_items, outcome_of, answer_of, HasFew, FitsBody, IsJob}
-use Rattle.interleave_core.specs.Whole.{cells_of}
+use Rattle.interleave_core.specs.Whole.{cells_of, IsDue}
 use Rattle.interleave_core.proofs.NodesRead.{front-there}
 
 -- ---- where a call evaluates
-
--- The node's scripts or its body are to be evaluated.
-abbrev pub IsDue : Graph → Core → ℕ → ℕ → Type 0
-IsDue graph s t n = (allowed graph s (step.Evaluate t n) ≡ true) ⊎ (allowed graph s (step.Body t n) ≡ true)
 
 pub due-front : (graph : Graph) (s : Core) (t n : ℕ) → IsDue graph s t n → at_front graph s t n ≡ true
 due-front graph s t n (inl a) = evaluate-at_front graph s t n a
@@ -139,12 +136,22 @@ outcome-right : (graph : Graph) (s : Core) (t n : ℕ) (x : state.Found) → fou
 outcome-right graph s t n (state.Gives v) e = e
 outcome-right graph s t n (state.Selects rs) e = e ∙ ap state.Selects (sym (selections-back rs))
 
+-- Only a fold reads its value before the call.
+finds-same : (node : Node) (read : ℕ → Value) (acc before : Value) → (kind_of node ≡ kinds.Fold → acc ≡ before) → finds node read acc ≡ finds node read before
+finds-same (Source start) read acc before e = refl
+finds-same (Signal script inputs) read acc before e = refl
+finds-same (Fold start script inputs) read acc before e = ap (finds (Fold start script inputs) read) (e refl)
+finds-same (Choose selectors body inputs) read acc before e = refl
+
 -- What the job answers is right.
-pub answer-right : (graph : Graph) (s : Core) (t n : ℕ) (acc : Value) → acc ≡ value_before (entries s n) t → IsRight graph s (answer_of graph t n (cell s n).gathered acc (found_items (cell s n).found))
+pub answer-right : (graph : Graph) (s : Core) (t n : ℕ) (acc : Value) → (kind_of (node_at graph n) ≡ kinds.Fold → acc ≡ value_before (entries s n) t)
+    → IsRight graph s (answer_of graph t n (cell s n).gathered acc (found_items (cell s n).found))
 answer-right graph s t n acc e = go (cell s n).found refl
   where
     go : (found : Option state.Found) → (cell s n).found ≡ found → IsOutcome graph s t n (outcome_of (node_at graph n) (cell s n).gathered acc (found_items found))
-    go None k = outcome-right graph s t n (finds (node_at graph n) (read_from (cell s n).gathered) acc) (ap (finds (node_at graph n) (value_gathered s n)) (sym e))
+    go None k =
+        outcome-right graph s t n (finds (node_at graph n) (read_from (cell s n).gathered) acc)
+        (sym (finds-same (node_at graph n) (value_gathered s n) acc (value_before (entries s n) t) e))
     go (Some f) k = ap (body_over (body_of (node_at graph n)) (value_gathered s n)) (ap selections_of k ∙ sym (items-back f))
 
 outcome-step : (t n : ℕ) (x : state.Found) → step_for t n (outcome_in x) ≡ step.Evaluate t n

@@ -1,17 +1,20 @@
 // The steps that evaluate, and answers of evaluations that went on elsewhere.
 
-ghost use Rattle.std.specs.Prelude.{◌≡◌, ◌⊎◌, true};
-ghost use Rattle.script_tree.specs.declared.value.Value.{Value};
+ghost use Rattle.std.specs.Prelude.{◌≡◌, true};
+ghost use Rattle.signal_graph.specs.declared.node.NodeKind.TheVariants as kinds;
+ghost use Rattle.signal_graph.specs.Graph.{kind_of, node_at};
 ghost use Rattle.node_versions.specs.Entries.{value_before};
 ghost use Rattle.flow_model.specs.declared.step.Step.TheVariants as step;
 ghost use Rattle.flow_model.specs.Machine.State.{entries};
 ghost use Rattle.flow_model.specs.Machine.Steps.{allowed};
 ghost use Rattle.flow_state.specs.Answers.{step_of, IsRight};
-ghost use Rattle.interleave_core.specs.Whole.{after};
+ghost use Rattle.interleave_core.specs.Whole.{after, IsDue};
 
 use crate::core_state::Core;
 use flow_model::laws::lawful_stays;
 use flow_state::Answer;
+use script_tree::value::{Fault, Value};
+use signal_graph::node::NodeKind;
 
 impl Core<'_> {
     /// Keeps what an evaluation found: the state becomes the one after the answer's step, Evaluate or Body. The step is allowed, and
@@ -45,12 +48,23 @@ impl Core<'_> {
 
     // What the evaluation that is due at the node finds, of its scripts or of its body.
     fn answer(&self, version: u32, node: u32) -> Answer
-        requires { (allowed self.now.graph self.now.state (step.Evaluate version node) ≡ true) ⊎ (allowed self.now.graph self.now.state (step.Body version node) ≡ true) }
+        requires { IsDue self.now.graph self.now.state version node }
         ensures scripts { allowed self.now.graph self.now.state (step.Evaluate version node) ≡ true → step_of result ≡ step.Evaluate version node }
         ensures body { allowed self.now.graph self.now.state (step.Body version node) ≡ true → step_of result ≡ step.Body version node }
         ensures right { IsRight self.now.graph self.now.state result }
     {
-        let acc = fold_nodes::fold_acc(&self.lists[node as usize], version);
+        let acc = self.acc(version, node);
         self.book.job(self.graph, version, node, acc).evaluate()
+    }
+
+    // What the node's script reads as `acc`, which only a fold's does: its value before the call.
+    fn acc(&self, version: u32, node: u32) -> Value
+        requires { IsDue self.now.graph self.now.state version node }
+        ensures { kind_of (node_at self.now.graph node) ≡ kinds.Fold → result ≡ value_before (entries self.now.state node) version }
+    {
+        match self.graph.kind(node) {
+            NodeKind::Fold => fold_nodes::fold_acc(&self.lists[node as usize], version),
+            _ => Value::Fault(Fault::Kind),
+        }
     }
 }

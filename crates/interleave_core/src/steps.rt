@@ -8,8 +8,8 @@ ghost use Rattle.flow_model.specs.Machine.Steps.{allowed};
 ghost use Rattle.interleave_core.specs.Whole.{after};
 
 use crate::core_state::Core;
-use flow_model::laws::lawful_stays;
 use flow_model::Step;
+use flow_model::laws::lawful_stays;
 use signal_graph::node::NodeKind;
 
 impl Core<'_> {

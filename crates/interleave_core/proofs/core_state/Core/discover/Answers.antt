@@ -18,11 +18,14 @@ discover-requires c =
 
 pub extend_wanted-requires : goal.extend_wanted-requires
 extend_wanted-requires c =
-    let m = c.self.inside in
-    (m.graph.now, c.args.candidate, record {
-      state = state_of m.book.book m.lists.items;
-      fits = joined_of m.graph.now m.book c.discover.new.book m.lists.items c.args.self.now c.args.version c.args.node c.args.candidate c.index_mut-list.result.now c.discover.new.candidate_list (record { kept = c.self.invariant; view = c.self.view_is; allowed = c.requires.allowed }) c.index_mut-list.ensures.value (c.discover.ensures m.graph.now);
-    })
+    let m = c.self.inside in (
+      m.graph.now,
+      c.args.candidate,
+      record {
+        state = state_of m.book.book m.lists.items;
+        fits = joined_of m.graph.now m.book c.discover.new.book m.lists.items c.args.self.now c.args.version c.args.node c.args.candidate c.index_mut-list.result.now c.discover.new.candidate_list (record { kept = c.self.invariant; view = c.self.view_is; allowed = c.requires.allowed }) c.index_mut-list.ensures.value (c.discover.ensures m.graph.now);
+      },
+    )
 
 pub invariant_of-self : goal.invariant_of-self
 invariant_of-self c =
