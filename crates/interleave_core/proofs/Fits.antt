@@ -4,6 +4,7 @@ use Rattle.std.specs.Prelude.{slice_index_or}
 use Rattle.signal_graph.specs.Graph.{Graph, IsGraph}
 use Rattle.node_versions.specs.Entries.{Versions}
 use Rattle.flow_model.specs.declared.step.Step.{Step}
+use Rattle.flow_model.specs.declared.step.Step.TheVariants.{Discover}
 use Rattle.flow_model.specs.Machine.State.{Core, Cell, no_cell}
 use Rattle.flow_model.specs.Machine.Words.{is_some_of}
 use Rattle.flow_model.specs.Machine.Keys.{list_of_step}
@@ -14,12 +15,15 @@ use Rattle.flow_model.proofs.OneStep.SameLengths.{step-parts}
 use Rattle.flow_model.proofs.Books.StepsChangeOneListing.{changed-node, other-listings}
 use Rattle.flow_model.proofs.Books.StatesAreBooks.{state-whole}
 use Rattle.flow_state.specs.Booked.{Booked, with_book}
-use Rattle.flow_state.specs.Fitting.{IsBookOf, IsBookStep, IsListStep, list_of, choosers, book_after}
+use Rattle.flow_state.specs.Fitting.{IsBookOf, IsBookStep, IsListStep, MakesBook, MakesList, MakesRead, list_of, choosers, book_after}
+use Rattle.flow_state.specs.declared.outcome.Answer.{Answer}
+use Rattle.flow_state.specs.Answers.{step_of, IsRight, IsAnswerStep, MakesAnswer}
+use Rattle.flow_state.specs.Joining.{MakesJoined, IsJoinedOf, MakesTold}
 use Rattle.interleave_core.specs.Whole.{Whole, after, cells_of, state_of, whole_of, HaveRooms, IsWhole}
 
 -- ---- a state, its book and its lists
 
-works-back : (ws : List Work) (ls : List Versions) → length ls ≡ length ws → map work_in (cells_of ws ls) ≡ ws
+pub works-back : (ws : List Work) (ls : List Versions) → length ls ≡ length ws → map work_in (cells_of ws ls) ≡ ws
 works-back [] ls h = refl
 works-back (w ∷ ws) [] h = absurd (omega (arith, h))
 works-back (w ∷ ws) (l ∷ ls) h = ap (λ (xs : List Work). w ∷ xs) (works-back ws ls (omega (arith, h)))
@@ -94,6 +98,19 @@ can_list graph book lists seen step n was h below e = record {
   fits = fits graph book lists h.kept;
   is_list = list_fits graph book lists n was h.kept below e;
   allowed = can-here graph book lists seen step h;
+}
+
+-- An answer is right in the state where it is so in what is seen.
+pub right-here : (graph : Graph) (book : Booked) (lists : List Versions) (seen : Whole) (answer : Answer) → whole_of graph book lists ≡ seen → IsRight seen.graph seen.state answer → IsRight graph (state_of book.book lists) answer
+right-here graph book lists seen answer view right = subst (λ (w : Whole). IsRight w.graph w.state answer) (sym view) right
+
+-- An answer may be put.
+pub can_answer : (graph : Graph) (book : Booked) (lists : List Versions) (seen : Whole) (answer : Answer) → CanMake graph book lists seen (step_of answer) → IsRight seen.graph seen.state answer → IsAnswerStep graph book answer
+can_answer graph book lists seen answer h right = record {
+  state = state_of book.book lists;
+  fits = fits graph book lists h.kept;
+  allowed = can-here graph book lists seen (step_of answer) h;
+  right = right-here graph book lists seen answer h.view right;
 }
 
 -- ---- what a step makes
@@ -210,3 +227,57 @@ made_by_list graph book new lists seen step n list law h one made_so =
     alike : (m : ℕ) (same : Bool) → (n == m) ≡ same → listing (state_of (book_of q) (set lists n list)) m ≡ listing q m
     alike m true e = let same : n ≡ m = grind (arith, e) in subst (λ (k : ℕ). listing (state_of (book_of q) (set lists n list)) k ≡ listing q k) same there
     alike m false e = other-listing works lists n m list (λ x. grind (arith, e, x)) ∙ kept-listings book.book.works works lists m h.kept.many works_many ∙ sym (other-listings graph s step m (ap (λ o. is_some_of o m) one ∙ e))
+
+-- ---- the forms of contracts
+
+-- what a step on the book alone makes
+pub book_step : (graph : Graph) (book new : Booked) (lists : List Versions) (seen : Whole) (step : Step) → StaysLawful → CanMake graph book lists seen step
+    → list_of_step step ≡ None → MakesBook graph book step new → IsMade graph new lists seen step
+book_step graph book new lists seen step law h quiet makes =
+    made_by_book graph book new lists seen step law h quiet (makes (state_of book.book lists) (fits graph book lists h.kept) (can-here graph book lists seen step h))
+
+-- what a step makes that reads one list and changes the book alone
+pub read_step : (graph : Graph) (book new : Booked) (lists : List Versions) (seen : Whole) (step : Step) (n : ℕ) (was : Versions) → StaysLawful → CanMake graph book lists seen step
+    → list_of_step step ≡ None → n < length lists → was ≡ get_or lists n was → MakesRead graph book n was step new → IsMade graph new lists seen step
+read_step graph book new lists seen step n was law h quiet below e makes =
+    made_by_book graph book new lists seen step law h quiet (makes (state_of book.book lists) (fits graph book lists h.kept) (list_fits graph book lists n was h.kept below e) (can-here graph book lists seen step h))
+
+-- what a step on the book and one list makes
+pub list_step : (graph : Graph) (book new : Booked) (lists : List Versions) (seen : Whole) (step : Step) (n : ℕ) (was list : Versions) → StaysLawful → CanMake graph book lists seen step
+    → list_of_step step ≡ Some n → was ≡ get_or lists n was → MakesList graph book n was step new list → IsMade graph new (set lists n list) seen step
+list_step graph book new lists seen step n was list law h one e makes =
+    let below = list_there graph book lists seen step n h one in
+    made_by_list graph book new lists seen step n list law h one (makes (state_of book.book lists) (fits graph book lists h.kept) (list_fits graph book lists n was h.kept below e) (can-here graph book lists seen step h))
+
+-- what an answer makes that is put
+pub answer_step : (graph : Graph) (book new : Booked) (lists : List Versions) (seen : Whole) (answer : Answer) → StaysLawful → CanMake graph book lists seen (step_of answer)
+    → list_of_step (step_of answer) ≡ None → IsRight seen.graph seen.state answer → MakesAnswer graph book answer new → IsMade graph new lists seen (step_of answer)
+answer_step graph book new lists seen answer law h quiet right makes =
+    made_by_book graph book new lists seen (step_of answer) law h quiet (makes (state_of book.book lists) (fits graph book lists h.kept) (can-here graph book lists seen (step_of answer) h) (right-here graph book lists seen answer h.view right))
+
+-- ---- Discover, in two parts
+
+-- Between the parts, the book and the list are those that the first part leaves.
+pub joined_of : (graph : Graph) (book new : Booked) (lists : List Versions) (seen : Whole) (t n m : ℕ) (was list : Versions) → CanMake graph book lists seen (Discover t n m)
+    → was ≡ get_or lists m was → MakesJoined graph book was t n m new list → IsJoinedOf graph (state_of book.book lists) t n m new list
+joined_of graph book new lists seen t n m was list h e makes =
+    let below = list_there graph book lists seen (Discover t n m) m h refl in
+    let can = can-here graph book lists seen (Discover t n m) h in
+    let made_so = makes (state_of book.book lists) (fits graph book lists h.kept) (list_fits graph book lists m was h.kept below e) can in
+    record {
+      lawful = h.kept.lawful;
+      allowed = can;
+      parts = ap (λ (b : Booked). b.book) made_so.0;
+      room_for = ap (λ (b : Booked). b.room_for) made_so.0 ∙ h.kept.room_for;
+      is_list = made_so.1;
+    }
+
+-- what both parts make
+pub discover_step : (graph : Graph) (book new newer : Booked) (lists : List Versions) (seen : Whole) (t n m : ℕ) (was list : Versions) → StaysLawful → CanMake graph book lists seen (Discover t n m)
+    → was ≡ get_or lists m was → MakesJoined graph book was t n m new list → MakesTold graph t n m new list newer → IsMade graph newer (set lists m list) seen (Discover t n m)
+discover_step graph book new newer lists seen t n m was list law h e joins tells =
+    let s : Core = state_of book.book lists in
+    let below = list_there graph book lists seen (Discover t n m) m h refl in
+    let first = joins s (fits graph book lists h.kept) (list_fits graph book lists m was h.kept below e) (can-here graph book lists seen (Discover t n m) h) in
+    let told = tells s (joined_of graph book new lists seen t n m was list h e joins) in
+    made_by_list graph book newer lists seen (Discover t n m) m list law h refl (told.0 ∙ ap (book_after graph s (Discover t n m)) first.0, told.1)

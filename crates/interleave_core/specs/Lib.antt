@@ -1,3 +1,5 @@
 pub mod Choosers
+pub mod Ending
 pub mod Opening
+pub mod Rooms
 pub mod Whole

@@ -1,10 +1,11 @@
 -- The state of a book and the lists of all nodes.
-use Rattle.std.specs.Prelude.{◌≡◌, ℕ, ◌+◌, List, [], ◌∷◌, length}
+use Rattle.std.specs.Prelude.{◌≡◌, ℕ, ◌+◌, ◌⊎◌, true, List, [], ◌∷◌, length}
 use Rattle.signal_graph.specs.Graph.{Graph, IsGraph}
 use Rattle.node_versions.specs.Entries.{Versions}
 use Rattle.flow_model.specs.Machine.State.{Core, Cell}
 use Rattle.flow_model.specs.declared.step.Step.{Step}
-use Rattle.flow_model.specs.Machine.Steps.{apply}
+use Rattle.flow_model.specs.declared.step.Step.TheVariants.{Evaluate, Body}
+use Rattle.flow_model.specs.Machine.Steps.{allowed, apply}
 use Rattle.flow_model.specs.Kept.Lawful.{IsLawful}
 use Rattle.flow_state.specs.Booked.{Booked, rooms_for}
 use Rattle.flow_model.specs.Parts.Books.{Work, Book}
@@ -45,3 +46,7 @@ pub record IsWhole (graph : Graph) (book : Booked) (lists : List Versions) : Typ
   pub room_for : book.room_for ≡ rooms_for graph
   pub rooms : HaveRooms graph book.book.callers 0 lists
   pub lawful : IsLawful graph (state_of book.book lists)
+
+-- An evaluation is due for a call at a node: of the node's scripts or of its body.
+abbrev pub IsDue : Graph → Core → ℕ → ℕ → Type 0
+IsDue graph s t n = (allowed graph s (Evaluate t n) ≡ true) ⊎ (allowed graph s (Body t n) ≡ true)

@@ -1,13 +1,8 @@
 // What the machine is made of.
 
-ghost use Rattle.std.specs.Prelude.{◌≡◌, ◌≤◌, [], true, length, vec_capacity};
-ghost use Rattle.flow_model.specs.declared.step.Step.TheVariants as step;
-ghost use Rattle.flow_model.specs.Machine.Steps.{allowed};
-ghost use Rattle.interleave_core.specs.Whole.{after};
+ghost use Rattle.std.specs.Prelude.{◌≡◌, ◌≤◌, [], length, vec_capacity};
 
-use flow_model::laws::lawful_stays;
 use flow_state::Book;
-use framing::{frame, start};
 use node_versions::NodeList;
 use script_tree::value::Value;
 use signal_graph::graph::Graph;
@@ -37,25 +32,4 @@ impl<'g> Model for Core<'g> {
     ghost view = { λ c. whole_of c.graph.now c.book c.lists.items };
 
     ghost invariant = { λ c. IsWhole c.graph.now c.book c.lists.items };
-}
-
-impl Core<'_> {
-    /// The step Start.
-    pub fn start(&mut self, version: u32)
-        requires allowed { allowed self.old.graph self.old.state (step.Start version) ≡ true }
-        ensures { self.new ≡ after self.old (step.Start version) }
-    {
-        lawful_stays();
-        start(&mut self.book, version);
-    }
-
-    /// The step Frame.
-    pub fn frame(&mut self, version: u32, node: u32)
-        requires allowed { allowed self.old.graph self.old.state (step.Frame version node) ≡ true }
-        ensures { self.new ≡ after self.old (step.Frame version node) }
-    {
-        lawful_stays();
-        let list = &mut self.lists[node as usize];
-        frame(&mut self.book, list, self.graph, version, node);
-    }
 }

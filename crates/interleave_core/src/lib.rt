@@ -3,6 +3,11 @@
 
 pub use core_state::Core;
 
+mod answering;
+mod beginning;
 mod choosers;
 mod core_state;
+mod ending;
 mod opening;
+mod parts;
+mod steps;

@@ -1,0 +1,43 @@
+-- The nodes at which steps read are nodes of the graph.
+use Rattle.std.proofs.Common.{◌≡◌, ℕ, ◌<◌, ◌==◌, ◌||◌, Bool, true, ◌⊎◌, inl, inr, Some, length, ◌∙◌, arith}
+use Rattle.std.specs.List.{list_any}
+use Rattle.std.proofs.lemmas.List.Folds.{list_any-append}
+use Rattle.signal_graph.specs.Graph.{Graph, IsGraph, node_at, is_in, inputs_of}
+use Rattle.flow_model.specs.declared.step.Step.TheVariants as step
+use Rattle.flow_model.specs.Machine.State.{Core, call}
+use Rattle.flow_model.specs.Machine.Words.{at_front, heads, is_candidate, prior_picks, next_look}
+use Rattle.flow_model.specs.Machine.Steps.{allowed}
+use Rattle.flow_model.specs.Kept.Lawful.{IsLawful}
+use Rattle.flow_model.proofs.General.Truths.{or_cases, or_left}
+use Rattle.flow_model.proofs.OneStep.WhoMayStep.{and_left, gather-due, due-can_work, can_work-at_front, at_front-heads, executes-live, look-idle}
+use Rattle.flow_model.proofs.Wants.FramedWith.{heads-opens}
+use Rattle.flow_model.proofs.Wants.EarlierNodes.{dep-earlier}
+use Rattle.flow_model.proofs.Work.WorkAtOneNode.{gather-asked}
+use Rattle.flow_model.proofs.Edges.EdgesFitCandidates.{candidate-listed}
+use Rattle.flow_model.proofs.Opening.OpeningLists.{candidate-earlier, slice_get-is_in}
+use Rattle.flow_model.proofs.Known.Bounds.{opens-node, names-nodes}
+
+-- where a call is at the front
+pub front-there : (graph : Graph) (s : Core) → IsLawful graph s → (t n : ℕ) → at_front graph s t n ≡ true → n < length graph.nodes
+front-there graph s h t n a = opens-node graph s h t n (heads-opens graph s h t n (at_front-heads graph s t n a))
+
+-- what a call gathers
+pub input-there : (graph : Graph) → IsGraph graph → (s : Core) → IsLawful graph s → (t n m : ℕ) → allowed graph s (step.Gather t n m) ≡ true → m < length graph.nodes
+input-there graph g s h t n m a = go (or_cases (is_in m (inputs_of (node_at graph n))) (is_candidate s n m) (gather-asked graph s t n m a))
+  where
+    front : at_front graph s t n ≡ true
+    front = can_work-at_front graph s t n (due-can_work graph s t n (gather-due graph s t n m a))
+
+    inside : n < length graph.nodes
+    inside = front-there graph s h t n front
+
+    go : (is_in m (inputs_of (node_at graph n)) ≡ true) ⊎ (is_candidate s n m ≡ true) → m < length graph.nodes
+    go (inl k) =
+        let r = dep-earlier graph g s h t n m inside (list_any-append (λ y. y == m) (inputs_of (node_at graph n)) (prior_picks s t n) ∙ or_left (is_in m (inputs_of (node_at graph n))) (is_in m (prior_picks s t n)) k) in
+        omega (arith, inside, r)
+    go (inr k) = let r = candidate-earlier graph g n m inside (candidate-listed graph s h t n m (at_front-heads graph s t n front) k) in omega (arith, inside, r)
+
+-- what a call looks at next
+pub look-there : (graph : Graph) → IsGraph graph → (s : Core) → IsLawful graph s → (t m : ℕ) → allowed graph s (step.Look t) ≡ true → next_look s t ≡ Some m → m < length graph.nodes
+look-there graph g s h t m a e =
+    (names-nodes graph g s h).looks t m (executes-live s t (and_left _ _ (and_left _ _ (look-idle graph s t a)))) (slice_get-is_in (call s t).looks (length (call s t).looked) m e)

@@ -1,0 +1,70 @@
+// The steps that evaluate, and answers of evaluations that went on elsewhere.
+
+ghost use Rattle.std.specs.Prelude.{◌≡◌, true};
+ghost use Rattle.signal_graph.specs.declared.node.NodeKind.TheVariants as kinds;
+ghost use Rattle.signal_graph.specs.Graph.{kind_of, node_at};
+ghost use Rattle.node_versions.specs.Entries.{value_before};
+ghost use Rattle.flow_model.specs.declared.step.Step.TheVariants as step;
+ghost use Rattle.flow_model.specs.Machine.State.{entries};
+ghost use Rattle.flow_model.specs.Machine.Steps.{allowed};
+ghost use Rattle.flow_state.specs.Answers.{step_of, IsRight};
+ghost use Rattle.interleave_core.specs.Whole.{after, IsDue};
+
+use crate::core_state::Core;
+use flow_model::laws::lawful_stays;
+use flow_state::Answer;
+use script_tree::value::{Fault, Value};
+use signal_graph::node::NodeKind;
+
+impl Core<'_> {
+    /// Keeps what an evaluation found: the state becomes the one after the answer's step, Evaluate or Body. The step is allowed, and
+    /// the answer is what it finds in this state. Takes no memory.
+    pub fn put(&mut self, answer: Answer)
+        requires allowed { allowed self.old.graph self.old.state (step_of answer) ≡ true }
+        requires right { IsRight self.old.graph self.old.state answer }
+        ensures { self.new ≡ after self.old (step_of answer) }
+    {
+        lawful_stays();
+        sweep::put(&mut self.book, answer);
+    }
+
+    // Evaluate: what the node's scripts find is kept.
+    pub(crate) fn evaluate(&mut self, version: u32, node: u32)
+        requires allowed { allowed self.old.graph self.old.state (step.Evaluate version node) ≡ true }
+        ensures { self.new ≡ after self.old (step.Evaluate version node) }
+    {
+        let answer = self.answer(version, node);
+        self.put(answer);
+    }
+
+    // Body: the value of the node's body is kept.
+    pub(crate) fn evaluate_body(&mut self, version: u32, node: u32)
+        requires allowed { allowed self.old.graph self.old.state (step.Body version node) ≡ true }
+        ensures { self.new ≡ after self.old (step.Body version node) }
+    {
+        let answer = self.answer(version, node);
+        self.put(answer);
+    }
+
+    // What the evaluation that is due at the node finds, of its scripts or of its body.
+    fn answer(&self, version: u32, node: u32) -> Answer
+        requires { IsDue self.now.graph self.now.state version node }
+        ensures scripts { allowed self.now.graph self.now.state (step.Evaluate version node) ≡ true → step_of result ≡ step.Evaluate version node }
+        ensures body { allowed self.now.graph self.now.state (step.Body version node) ≡ true → step_of result ≡ step.Body version node }
+        ensures right { IsRight self.now.graph self.now.state result }
+    {
+        let acc = self.acc(version, node);
+        self.book.job(self.graph, version, node, acc).evaluate()
+    }
+
+    // What the node's script reads as `acc`, which only a fold's does: its value before the call.
+    fn acc(&self, version: u32, node: u32) -> Value
+        requires { IsDue self.now.graph self.now.state version node }
+        ensures { kind_of (node_at self.now.graph node) ≡ kinds.Fold → result ≡ value_before (entries self.now.state node) version }
+    {
+        match self.graph.kind(node) {
+            NodeKind::Fold => fold_nodes::fold_acc(&self.lists[node as usize], version),
+            _ => Value::Fault(Fault::Kind),
+        }
+    }
+}

@@ -1,0 +1,80 @@
+// A core begins, and calls begin in it.
+
+ghost use Rattle.std.specs.Prelude.{◌≡◌, ◌<◌, ◌≤◌, suc, true, length, IfOk, OnOk, OnErr};
+ghost use Rattle.script_tree.specs.declared.limits.TheConstants.{THREADS, VERSIONS, LOOKS};
+ghost use Rattle.signal_graph.specs.Machine.{looks_of};
+ghost use Rattle.flow_model.specs.Machine.Steps.{can_begin};
+ghost use Rattle.interleave_core.specs.Opening.{opened_core};
+ghost use Rattle.interleave_core.specs.Rooms.{one_room_more, one_room_less, after_beginning};
+
+use crate::core_state::Core;
+use crate::opening::opening_lists;
+use flow_model::laws::{lawful_stays, opening_is_lawful};
+use flow_state::{Book, Room};
+use framing::begin;
+use script_tree::memory::OutOfMemory;
+use signal_graph::call::Call;
+use signal_graph::graph::Graph;
+use std::alloc::Global;
+
+impl<'g> Core<'g> {
+    /// The core of a graph before any call, for so many callers, 1 to 256, and versions, at most 4,000,000. Takes all memory that
+    /// it will need but for rooms, in time linear in what the graph's scripts name and its chooses list.
+    pub fn new(
+        alloc: Global,
+        graph: &'g Graph,
+        callers: u32,
+        versions: u32,
+    ) -> Result<Core<'g>, OutOfMemory>
+        requires some { 1 ≤ callers }
+        requires few { callers ≤ THREADS }
+        requires versions { versions ≤ VERSIONS }
+        ensures { IfOk result (λ core. core ≡ opened_core graph.now callers versions) }
+    {
+        opening_is_lawful();
+        let book = Book::new(alloc, graph, callers, versions)?;
+        let lists = opening_lists(alloc, graph, callers)?;
+        let finals = Vec::with_capacity(alloc, graph.len() as usize)?;
+        Ok(Core {
+            graph,
+            book,
+            lists,
+            finals,
+        })
+    }
+}
+
+impl Core<'_> {
+    /// Takes all memory that a call will need. The room has to be spent by the call's beginning, or given back. Where there is no
+    /// memory the core is as it was.
+    pub fn make_room(&mut self, alloc: Global, call: &Call) -> Result<Room, OutOfMemory>
+        requires { length (looks_of call.now) ≤ LOOKS }
+        ensures ok { OnOk result (self.new ≡ one_room_more self.old) }
+        ensures err { OnErr result (self.new ≡ self.old) }
+        ensures room { IfOk result (λ room. room ≡ record { looks = length (looks_of call.now); nodes = length self.old.graph.nodes }) }
+    {
+        self.book.make_room(alloc, call)
+    }
+
+    /// Takes a room back that was not used. Takes no memory.
+    pub fn give_back(&mut self, room: Room)
+        requires { 0 < self.old.rooms }
+        ensures { self.new ≡ one_room_less self.old }
+    {
+        self.book.give_back(room);
+    }
+
+    /// A call of a caller begins, in a room that was made for its looks and this graph. It has the next version, which is the
+    /// answer, and the least free slot. Takes no memory.
+    pub fn begin(&mut self, caller: u32, call: Call, room: Room) -> u32
+        requires can { can_begin self.old.graph self.old.state caller call ≡ true }
+        requires looks { room.looks ≡ length (looks_of call) }
+        requires nodes { room.nodes ≡ length self.old.graph.nodes }
+        requires rooms { 0 < self.old.rooms }
+        ensures state { self.new ≡ after_beginning self.old caller call }
+        ensures version { result ≡ suc self.old.state.begun }
+    {
+        lawful_stays();
+        begin(&mut self.book, self.graph, caller, call, room)
+    }
+}
