@@ -9,4 +9,3 @@ pub mod OpenNodesDecide
 pub mod ListsAnswer
 pub mod OrderTakes
 pub mod RoomForEdges
-pub mod Neighbours

@@ -1,15 +1,15 @@
 //! Laws on how a state is stored: its bounds, its book and listings, and the recorded order by slots. The functions do nothing
 //! when they run.
 
-ghost use Rattle.std.specs.Prelude.{◌≡◌, ℕ, Bool, List, suc, Some, None, ◌<◌, true, false, length, slice_get, find};
+ghost use Rattle.std.specs.Prelude.{◌≡◌, ℕ, Bool, List, Some, ◌<◌, true, false, length, find};
 ghost use Rattle.std.specs.Option.{option_map};
-ghost use Rattle.std.specs.List.{list_any, position_or_len};
+ghost use Rattle.std.specs.List.{list_any};
 ghost use Rattle.signal_graph.specs.declared.call.Call.{Call};
 ghost use Rattle.signal_graph.specs.Graph.{Graph, IsGraph, numbers};
 ghost use Rattle.signal_graph.specs.Machine.{looks_of};
 ghost use Rattle.order_graph.specs.Order.{is_recorded, reaches, linked, retired};
 ghost use Rattle.node_versions.specs.declared.entry.Entry.{Entry};
-ghost use Rattle.node_versions.specs.Entries.{has, front, rest, placed, collected, has_node};
+ghost use Rattle.node_versions.specs.Entries.{has, placed, collected, has_node};
 ghost use Rattle.flow_model.specs.declared.step.Step.{Step};
 ghost use Rattle.flow_model.specs.declared.step.Step.TheVariants as Steps;
 ghost use Rattle.flow_model.specs.Machine.Keys.{list_of_step};
@@ -22,7 +22,7 @@ ghost use Rattle.flow_model.specs.Kept.Lawful.{IsLawful, HasSlot};
 ghost use Rattle.flow_model.specs.Machine.Histories.{Move, state, is_history};
 ghost use Rattle.flow_model.specs.Follows.Bounds.{NamesNodes, HasBounds, looks_of_reply, choosers};
 ghost use Rattle.flow_model.specs.Parts.Operations.{ListsAnswer, OrderTakes, IsFirstSlot};
-ghost use Rattle.flow_model.specs.Parts.SlotPairs.{slot_pairs, slot_of, renamed, linked_at_by_slot, first_entry, last_entry, entry_lives, stops_by_slot, ended_by_slot, any_before_by_slot, recorded_by_slot, is_framing_before_by_slot, presses_by_slot};
+ghost use Rattle.flow_model.specs.Parts.SlotPairs.{slot_pairs, slot_of, renamed, linked_at_by_slot, entry_lives, stops_by_slot, ended_by_slot, any_before_by_slot, recorded_by_slot, is_framing_before_by_slot, presses_by_slot};
 ghost use Rattle.flow_model.specs.Parts.Books.{Book, Listing, AgreeOn, book_of, listing, bare, allowed_in, reads_of_step, read_of_step, book_after, listing_after, begun_in};
 ghost use Rattle.flow_model.specs.Parts.BookNext.{next_in, next_at_in, reads_of_next, reads_of_next_at};
 
@@ -69,14 +69,6 @@ pub fn operations_fit()
     ensures end { (graph : Graph) (s : Core) → IsLawful graph s → (t : ℕ) → allowed graph s (Steps.End t) ≡ true → IsFirstSlot s t }
     ensures edge { (graph : Graph) (s : Core) → IsLawful graph s → (t n c : ℕ) → allowed graph s (Steps.Discover t n c) ≡ true
         → (has_node (outs s c) n ≡ false) × (length (outs s c) < length (choosers graph c)) }
-{}
-
-/// The neighbours of a call's place in a list stand at that place and right before it.
-pub fn neighbours_stand_at_the_place()
-    ensures right { (stops : Entry → Bool) (es : List Entry) → first_entry (rest stops es) ≡ slice_get es (position_or_len stops es) }
-    ensures left { (stops : Entry → Bool) (es : List Entry)
-        → (position_or_len stops es ≡ 0 → last_entry None (front stops es) ≡ None)
-        × ((k : ℕ) → position_or_len stops es ≡ suc k → last_entry None (front stops es) ≡ slice_get es k) }
 {}
 
 /// Pairs of slots say of live calls what pairs of versions say. They are found by the slots of entries when a call enters a

@@ -1,9 +1,10 @@
 -- A list that opens with a Done has a value for each of its calls, and goes on to open with one.
 use Rattle.std.proofs.Common.{◌≡◌, ℕ, Bool, true, false, not, List, [], ◌∷◌, length, refl, sym, ap, subst, Option, Some, None, IsTrue, arith, ◌==◌, true≢false}
-use Rattle.std.specs.List.{insert, filter, cons_option}
+use Rattle.std.specs.List.{insert, filter, cons_option, slice_get}
+use Rattle.std.proofs.lemmas.Bool.Decides.{eqb_tells}
 use Rattle.std.specs.Option.{IsSome, option_or}
 use Rattle.node_versions.specs.declared.entry.Entry.{Entry}
-use Rattle.node_versions.specs.Entries.{Versions, with_entries, is_done, last_done, only_done, up_to, EndedIsPrefix, HasEndedPrefix, collected}
+use Rattle.node_versions.specs.Entries.{Versions, with_entries, is_done, last_done, only_done, up_to, before, EndedIsPrefix, HasEndedPrefix, collected}
 use Rattle.list_bench.specs.Opened.{OpensWithDone, IsOpened}
 
 some_or : (o : Option Entry) (e : Entry) → IsTrue (is_done e.state) → IsSome (option_or o (only_done e))
@@ -64,4 +65,15 @@ opened_collected size list h = record {
   opens = opens_first (last_done (filter all list.entries)) (filter (λ e. not (all e)) list.entries) (can_collect size list h).done (is_last_done (filter all list.entries));
 }
 
-pub ruleset opens_laws = (done_up_to, opened_longer)
+before_done : (es : List Entry) (t : ℕ) (d : Entry) → OpensWithDone es → slice_get es 0 ≡ Some d → (d.version ≡ t → ⊥) → IsSome (last_done (before es t))
+before_done [] t d h at other = absurd h
+before_done (e ∷ es) t d h at other = go (e.version == t) refl
+  where
+    go : (b : Bool) → (e.version == t) ≡ b → IsSome (last_done (elim b [ true ↦ [] | false ↦ e ∷ before es t ]))
+    go true k = absurd (other (grind (arith, eqb_tells, k, at)))
+    go false k = some_or (last_done (before es t)) e h
+
+pub done_before : (size : ℕ) (list : Versions) (t : ℕ) (d : Entry) → IsOpened size list → slice_get list.entries 0 ≡ Some d → (d.version ≡ t → ⊥) → IsSome (last_done (before list.entries t))
+done_before size list t d h at other = before_done list.entries t d h.opens at other
+
+pub ruleset opens_laws = (done_up_to, done_before, opened_longer)

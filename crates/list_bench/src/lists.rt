@@ -13,17 +13,23 @@ use std::alloc::Global;
 // Room for entries of calls that have ended, beside one for each caller.
 const SPARE: u32 = 9;
 
+// A list is mostly asked of its last entries: of so many.
+const LAST: u32 = 8;
+
 /// A call of a node's list.
 #[derive(Clone, Copy)]
 pub enum ListCall {
     EntryOf,
     FirstOpen,
     ValueFor,
+    ValueBefore,
+    Served,
     Insert,
 }
 
 /// A sum of what the call answers in so many rounds, over a list with an entry more than there are callers: a Done, and
-/// behind it Marks. A round makes one call for each entry, `ValueFor` behind one `entry_of`; of `Insert` it collects the
+/// behind it Marks. A round makes one call for each entry, `ValueFor` behind one `entry_of`; of `ValueBefore` and `Served` one
+/// for each of the last entries, at most `LAST` of them, `ValueBefore` behind one `entry_of`; of `Insert` it collects the
 /// list down to its Done, and then puts in a Mark for each caller, each behind one `entry_of`. Takes the memory of one
 /// list, and answers want of memory only where that is refused.
 pub fn count(alloc: Global, call: ListCall, callers: u32, rounds: u32) -> Result<u64, OutOfMemory>
@@ -47,6 +53,8 @@ fn one_round(list: &mut NodeList, call: ListCall, callers: u32) -> u64
         ListCall::EntryOf => ask_entry_of(list, callers),
         ListCall::FirstOpen => ask_first_open(list, callers),
         ListCall::ValueFor => ask_value_for(list, callers),
+        ListCall::ValueBefore => ask_value_before(list, callers),
+        ListCall::Served => ask_served(list, callers),
         ListCall::Insert => {
             let gone = empty(list, callers + SPARE);
             fill(list, callers);
@@ -67,7 +75,7 @@ fn ask_entry_of(list: &NodeList, callers: u32) -> u64
     sum
 }
 
-// No entry is open, so that each call goes over all of them.
+// No entry is open.
 fn ask_first_open(list: &NodeList, callers: u32) -> u64
     requires { callers ≤ MAX_CALLERS }
 {
@@ -103,6 +111,44 @@ fn value_of(list: &NodeList, version: u32, room: u32) -> u64
     } else {
         0
     }
+}
+
+fn ask_value_before(list: &NodeList, callers: u32) -> u64
+    requires opened { IsOpened (callers + SPARE) list.now }
+    requires few { callers ≤ MAX_CALLERS }
+{
+    let mut sum: u64 = 0;
+    for version in callers.saturating_sub(LAST) + 1..callers + 1 {
+        if list.entry_of(version).is_some() {
+            sum = sum.wrapping_add(value_before_of(list, version, callers + SPARE));
+        }
+    }
+    sum
+}
+
+#[tactic(auto, using(crate::proofs::Opens::opens_laws))]
+fn value_before_of(list: &NodeList, version: u32, room: u32) -> u64
+    requires opened { IsOpened room list.now }
+    requires entry { IsTrue (has list.now.entries version) }
+{
+    list.is_kept();
+    if list.get(0).version != version && list.value_before(version) == Value::Int(1) {
+        1
+    } else {
+        0
+    }
+}
+
+fn ask_served(list: &NodeList, callers: u32) -> u64
+    requires { callers ≤ MAX_CALLERS }
+{
+    let mut sum: u64 = 0;
+    for version in callers.saturating_sub(LAST) + 1..callers + 1 {
+        if list.served(version) {
+            sum = sum.wrapping_add(1);
+        }
+    }
+    sum
 }
 
 fn fill(list: &mut NodeList, callers: u32)

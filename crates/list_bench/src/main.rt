@@ -18,7 +18,7 @@ use std::process::ExitCode;
 use std::rt::Env;
 
 const USAGE: &str =
-    "usage: list_bench precedes|node_of|next_before|link|entry_of|first_open|value_for|insert CALLERS ROUNDS";
+    "usage: list_bench precedes|node_of|next_before|link|entry_of|first_open|value_for|value_before|served|insert CALLERS ROUNDS";
 
 /// The status where the words are refused.
 const BAD_WORDS: u8 = 1;
@@ -58,6 +58,8 @@ fn list_call_of(word: &str) -> Option<ListCall> {
         "entry_of" => Some(ListCall::EntryOf),
         "first_open" => Some(ListCall::FirstOpen),
         "value_for" => Some(ListCall::ValueFor),
+        "value_before" => Some(ListCall::ValueBefore),
+        "served" => Some(ListCall::Served),
         "insert" => Some(ListCall::Insert),
         _ => None,
     }

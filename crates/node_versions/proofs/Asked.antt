@@ -17,6 +17,9 @@ module _ {F : Type 0} (g : Shared F (Bor Entry × Unit {0}) Bool) (f : F) (es : 
   pub answered : (i : ℕ) (e d : Entry) (b : Bool) → slice_get es i ≡ Some e → FnReturnsAt g f e b → test (slice_index_or es i d) ≡ b
   answered i e d b h r = let at = index_of_get es i e d h in sym (tells i d at.0 b (subst (λ x. FnReturnsAt g f x b) (sym at.1) r))
 
+  pub answered_at : (i : ℕ) (e : Entry) (b : Bool) → slice_get es i ≡ Some e → FnReturnsAt g f e b → test e ≡ b
+  answered_at i e b h r = subst (λ x. test x ≡ b) (index_of_get es i e e h).1 (answered i e e b h r)
+
   pub place_found : (i : ℕ) (e : Entry) → slice_get es i ≡ Some e → FnReturnsAt g f e true → ((k : ℕ) (d : Entry) → k < i → test (slice_index_or es k d) ≡ false) → i ≡ position_or_len test es
   place_found i e h r fails = let at = index_of_get es i e e h in sym (position_or_len_is test es i e (omega (arith, at.0)) (λ k l. fails k e l) (λ l. answered i e e true h r))
 

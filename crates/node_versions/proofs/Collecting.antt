@@ -1,9 +1,9 @@
 -- What stays of a list whose ended entries are its first ones.
-use Rattle.std.proofs.Common.{◌≡◌, ℕ, ◌+◌, ◌<◌, Bool, true, false, not, List, [], ◌∷◌, ◌++◌, length, take, drop, refl, sym, ap, ap₂, ◌∙◌, arith, subst, cond, zero, suc, Option, Some, None, true≢false, length-take}
+use Rattle.std.proofs.Common.{◌≡◌, ℕ, ◌+◌, ◌<◌, ◌≤◌, Bool, true, false, not, List, [], ◌∷◌, ◌++◌, length, get_or, take, drop, refl, sym, ap, ap₂, ◌∙◌, arith, subst, cond, zero, suc, Option, Some, None, true≢false, length-take}
 use Rattle.std.specs.List.{filter, slice_get, remove_range, cons_option}
 use Rattle.std.specs.Option.{is_some}
 use Rattle.std.proofs.lemmas.Option.{slice_get-get_or}
-use Rattle.node_versions.specs.Entries.{Versions, with_entries, Entry, last_done, collected, ended_len, EndedIsPrefix, HasEndedPrefix}
+use Rattle.node_versions.specs.Entries.{Versions, with_entries, Entry, is_done, last_done, collected, ended_len, EndedIsPrefix, HasEndedPrefix}
 
 abbrev live : (Entry → Bool) → List Entry → List Entry
 live ended es = filter (λ e. not (ended e)) es
@@ -34,7 +34,7 @@ get_of_part (suc n) [] k d h = h
 get_of_part (suc n) (e ∷ es) zero d h = h
 get_of_part (suc n) (e ∷ es) (suc k) d h = get_of_part n es k d h
 
-cut_before : (es ys : List Entry) (k : ℕ) (d : Entry) → slice_get es k ≡ Some d → drop k (take (k + 1) es ++ ys) ≡ d ∷ ys
+pub cut_before : (es ys : List Entry) (k : ℕ) (d : Entry) → slice_get es k ≡ Some d → drop k (take (k + 1) es ++ ys) ≡ d ∷ ys
 cut_before [] ys k d h = cc
 cut_before (e ∷ es) ys zero d h = grind (arith, h)
 cut_before (e ∷ es) ys (suc k) d h =
@@ -69,3 +69,40 @@ seen_cut old now is ended n k has place found new cut =
     let prefix = subst (λ (v : Versions). EndedIsPrefix ended v.entries) (sym is) has.prefix in
     let count = place ∙ ap (λ (v : Versions). ended_len ended v.entries) (sym is) in
     ap (with_entries old) (cut ∙ cut-collected ended old.entries n k prefix count found.0 found.1) ∙ ap (λ (v : Versions). with_entries v (collected ended v.entries)) is
+
+-- ---- the last Done of the first entries
+
+-- The last Done of the first n entries stands at the index k.
+pub record IsLastDoneOf (es : List Entry) (n k : ℕ) : Type 0 where
+  pub below : k < n
+  pub entry : Entry
+  pub at : slice_get es k ≡ Some entry
+  pub done : is_done entry.state ≡ true
+  pub found : (k < length (take n es)) × (slice_get (take n es) k ≡ last_done (take n es))
+
+last_is_done : (es : List Entry) (d : Entry) → last_done es ≡ Some d → is_done d.state ≡ true
+last_is_done [] d h = cc
+last_is_done (e ∷ es) d h = let r = last_is_done es d in grind (arith, h, r)
+
+part_of_get : (n : ℕ) (es : List Entry) (k : ℕ) (d : Entry) → k < n → slice_get es k ≡ Some d → slice_get (take n es) k ≡ Some d
+part_of_get zero es k d lt h = absurd (omega (arith, lt))
+part_of_get (suc n) [] k d lt h = h
+part_of_get (suc n) (e ∷ es) zero d lt h = h
+part_of_get (suc n) (e ∷ es) (suc k) d lt h = part_of_get n es k d (omega (arith, lt)) h
+
+pub last_done_of : (es part : List Entry) (n m k : ℕ) → m ≤ n → part ≡ take m es → last_done part ≡ last_done (take n es) → k < length part → slice_get part k ≡ last_done part → IsLastDoneOf es n k
+last_done_of es [] n m k le is last below at = absurd (omega (arith, below))
+last_done_of es (x ∷ xs) n m k le is last below at =
+    let part = x ∷ xs in
+    let get = slice_get-get_or part k x below in
+    let e = get_or part k x in
+    let short = ap length is ∙ length-take m es in
+    let whole = get_of_part m es k e (ap (λ (ys : List Entry). slice_get ys k) (sym is) ∙ get) in
+    let in_n : k < n = omega (arith, short, below, le) in
+    let again = part_of_get n es k e in_n whole in record {
+      below = in_n;
+      entry = e;
+      at = whole;
+      done = last_is_done part e (sym at ∙ get);
+      found = (omega (arith, short, below, le, length-take n es), again ∙ sym get ∙ at ∙ last);
+    }

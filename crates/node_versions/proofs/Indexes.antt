@@ -1,10 +1,10 @@
 -- The words on lists by indexes.
-use Rattle.std.proofs.Common.{◌≡◌, ℕ, ◌+◌, ◌<◌, ◌≤◌, Bool, true, false, not, ◌||◌, ◌==◌, cond, List, [], ◌∷◌, length, nat_lt, refl, sym, ap, ◌∙◌, arith, subst, suc, Option, Some, None, true≢false}
-use Rattle.std.specs.List.{position_or_len, slice_get}
+use Rattle.std.proofs.Common.{◌≡◌, ℕ, ◌+◌, ◌<◌, ◌≤◌, Bool, true, false, not, ◌&&◌, ◌||◌, ◌==◌, cond, List, [], ◌∷◌, length, drop, nat_lt, refl, sym, ap, ◌∙◌, arith, subst, zero, suc, Option, Some, None, true≢false}
+use Rattle.std.specs.List.{position_or_len, slice_get, list_any}
 use Rattle.std.proofs.lemmas.Bool.Decides.{eqb_tells, nat_tests}
 use Rattle.std.proofs.lemmas.Bool.{eqb-true}
-use Rattle.node_versions.specs.Entries.{Entry, State, is_frame, has, at, behind, up_to, IsUnique, IsEntryAt, IsFirstOpenAt, first_open, is_active}
-use Rattle.node_versions.proofs.Places.{place, has-place}
+use Rattle.node_versions.specs.Entries.{Entry, State, is_frame, is_of, has, at, behind, served, up_to, IsUnique, IsEntryAt, IsFirstOpenAt, first_open, version_at, is_active}
+use Rattle.node_versions.proofs.Places.{place, has-place, place_fits}
 
 one_more : (n : ℕ) → 1 + n ≡ suc n
 one_more n = omega arith
@@ -103,3 +103,44 @@ active_is_not_behind (e ∷ es) since t q h = ap (λ x. not ((e.version == since
     go true false h k r n = let a = n (k refl) in grind (arith, a)
     go false true h k r n = grind arith
     go false false h k r n = r h
+
+-- ---- the version at an index, and the entries behind it
+
+pub version_at_place : (es : List Entry) (t : ℕ) → has es t ≡ true → version_at es (place es t) ≡ t
+version_at_place [] t h = absurd (true≢false (sym h))
+version_at_place (e ∷ es) t h = let r = version_at_place es t in grind (arith, eqb_tells, h, r)
+
+has_version_at : (es : List Entry) (i : ℕ) → i < length es → has es (version_at es i) ≡ true
+has_version_at [] i le = absurd (omega (arith, le))
+has_version_at (e ∷ es) zero le = grind (arith, eqb_tells)
+has_version_at (e ∷ es) (suc i) le = let r = has_version_at es i in grind (arith, eqb_tells, le, r)
+
+moved : (i : ℕ) → suc (i + 1) ≡ suc i + 1
+moved i = omega arith
+
+behind_index : (es : List Entry) (i s : ℕ) → IsUnique es → i < length es → behind es (version_at es i) s ≡ has (drop (i + 1) es) s
+behind_index [] i s q le = absurd (omega (arith, le))
+behind_index (e ∷ es) zero s q le = grind (arith, eqb_tells)
+behind_index (e ∷ es) (suc i) s q le =
+    let r = behind_index es i s q.1 (omega (arith, le)) in
+    let here = has_version_at es i (omega (arith, le)) in
+    let other : (e.version == version_at es i) ≡ false = grind (arith, eqb_tells, here, q.0) in
+    ap (λ b. elim b as (λ _. Bool) [ true ↦ has es s | false ↦ behind es (version_at es i) s ]) other ∙ r ∙ ap (λ n. has (drop n (e ∷ es)) s) (moved i)
+
+has_any : (es : List Entry) (t : ℕ) → list_any (is_of t) es ≡ has es t
+has_any [] t = refl
+has_any (e ∷ es) t = let r = has_any es t in grind (arith, r)
+
+pub active_at_index : (es : List Entry) (i s : ℕ) → IsUnique es → i < length es → not (list_any (is_of s) (drop (i + 1) es)) ≡ is_active es s (version_at es i)
+active_at_index es i s q le =
+    ap not (has_any (drop (i + 1) es) s ∙ sym (behind_index es i s q le))
+    ∙ sym (active_is_not_behind es s (version_at es i) q (has_version_at es i le))
+
+-- ---- served
+
+pub served_by_place : (es : List Entry) (t : ℕ) → served es t ≡ nat_lt (place es t) (position_or_len opens es)
+served_by_place [] t = refl
+served_by_place (e ∷ es) t = let r = served_by_place es t in grind (arith, nat_tests, r)
+
+pub served_by_index : (es : List Entry) (t : ℕ) → served es t ≡ (has es t && nat_lt (place es t) (position_or_len opens es))
+served_by_index es t = let a = served_by_place es t in let b = has-place es t in let c = place_fits opens es in grind (arith, nat_tests, a, b, c)

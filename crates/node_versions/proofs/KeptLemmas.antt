@@ -1,14 +1,19 @@
 -- Each change keeps a list within its rooms, one entry a call, and no out-edge twice.
-use Rattle.std.proofs.Common.{◌≡◌, ℕ, ◌+◌, ◌<◌, ◌≤◌, Bool, true, false, ◌||◌, ◌==◌, List, [], ◌∷◌, ◌++◌, length, take, drop, refl, sym, ap, ◌∙◌, arith, subst, cond, true≢false, zero, suc, length-append, length-take, length-drop}
-use Rattle.std.specs.List.{insert, filter, remove_range}
+use Rattle.std.proofs.Common.{◌≡◌, ℕ, ◌+◌, ◌-◌, ◌^◌, ◌<◌, ◌≤◌, Bool, true, false, ◌||◌, ◌==◌, List, [], ◌∷◌, ◌++◌, length, take, drop, refl, sym, ap, ◌∙◌, arith, subst, cond, true≢false, zero, suc, Some, length-append, length-take, length-drop, take_all}
+use Rattle.std.specs.List.{insert, filter, remove_range, slice_get}
 use Rattle.std.specs.Prelude.{Result, Ok, Err, IsOk, OnOk}
 use Rattle.std.specs.List.Retain.{RetainsInTurn}
 use Rattle.std.proofs.lemmas.Bool.Decides.{eqb_tells}
 use Rattle.std.proofs.lemmas.List.{take-append-drop}
 use Rattle.std.proofs.lemmas.List.Edits.{length-insert}
 use Rattle.smallvec.specs.SmallVec.{SmallVec}
-use Rattle.node_versions.specs.Entries.{Entry, State, OutEdge, IsUnique, AreDifferent, has, has_out, is_edge, with_state}
+use Rattle.node_versions.specs.Entries.{Entry, State, OutEdge, Versions, IsUnique, AreDifferent, is_done, done_len, has, has_out, is_edge, with_state}
 use Rattle.node_versions.specs.Kept.{IsKept}
+use Rattle.node_versions.proofs.Collecting.{cut_before}
+use Rattle.node_versions.proofs.DoneLen.{done_len_fits}
+use Rattle.node_versions.proofs.FirstFrame.{frames}
+use Rattle.node_versions.proofs.Indexes.{opens}
+use Rattle.node_versions.proofs.Places.{place_fits}
 
 -- ---- one entry more
 
@@ -114,9 +119,33 @@ on_ok (Err e) is h = absurd (true≢false (sym is))
 
 -- ---- the whole
 
-module _ {entries : SmallVec Entry} {outs : SmallVec OutEdge} {room outs_room : ℕ} where
-  pub kept_with_entries : (new : SmallVec Entry) → IsKept entries outs room outs_room → 0 < length new.items → length new.items ≤ room → new.capacity ≡ entries.capacity → IsUnique new.items → IsKept new outs room outs_room
-  kept_with_entries new k some fits same unique = record {
+-- the end of a list as a slice of it
+pub tail_of : (old now : Versions) → old ≡ now → (from : ℕ) (slice : List Entry) → slice ≡ old.entries → take (length slice - from) (drop from slice) ≡ drop from now.entries
+tail_of old now is from slice same =
+    take_all (length slice - from) (drop from slice) (omega (arith, length-drop from slice)) ∙ ap (λ (xs : List Entry). drop from xs) (same ∙ ap (λ (v : Versions). v.entries) is)
+
+-- the first Frame of a part of the list
+pub frames_in_part : (old now : Versions) → old ≡ now → (from n : ℕ) (slice : List Entry) → slice ≡ old.entries → from ≤ length now.entries
+    → n ≡ frames (take (length slice - from) (drop from slice)) → (n ≡ frames (drop from now.entries)) × (from + n ≤ length now.entries)
+frames_in_part old now is from n slice same le at =
+    let found = at ∙ ap frames (tail_of old now is from slice same) in
+    (found, omega (arith, found, place_fits opens (drop from now.entries), length-drop from now.entries, le))
+
+-- What is known of a list as it is seen, beside the indexes f and d that are kept of it.
+pub record IsSeen (list : Versions) (f d : ℕ) : Type 0 where
+  pub small : list.room < 2 ^ 32
+  pub some : 0 < length list.entries
+  pub fits : length list.entries ≤ list.room
+  pub unique : IsUnique list.entries
+  pub frame : f ≡ frames list.entries
+  pub frame_fits : f ≤ length list.entries
+  pub done : d ≡ done_len list.entries
+  pub done_fits : d ≤ length list.entries
+
+module _ {entries : SmallVec Entry} {outs : SmallVec OutEdge} {room outs_room first_frame done_end : ℕ} where
+  kept_with_entries : (new : SmallVec Entry) (f d : ℕ) → IsKept entries outs room outs_room first_frame done_end → 0 < length new.items → length new.items ≤ room
+      → new.capacity ≡ entries.capacity → IsUnique new.items → f ≡ frames new.items → d ≡ done_len new.items → IsKept new outs room outs_room f d
+  kept_with_entries new f d k some fits same unique frame done = record {
     small = k.small;
     outs_small = k.outs_small;
     some = some;
@@ -126,9 +155,12 @@ module _ {entries : SmallVec Entry} {outs : SmallVec OutEdge} {room outs_room : 
     outs_fit = k.outs_fit;
     outs_reserved = k.outs_reserved;
     different = k.different;
+    frame = frame;
+    done = done;
   }
 
-  pub kept_with_outs : (new : SmallVec OutEdge) → IsKept entries outs room outs_room → length new.items ≤ outs_room → new.capacity ≡ outs.capacity → AreDifferent new.items → IsKept entries new room outs_room
+  kept_with_outs : (new : SmallVec OutEdge) → IsKept entries outs room outs_room first_frame done_end → length new.items ≤ outs_room → new.capacity ≡ outs.capacity → AreDifferent new.items
+      → IsKept entries new room outs_room first_frame done_end
   kept_with_outs new k fits same different = record {
     small = k.small;
     outs_small = k.outs_small;
@@ -139,35 +171,58 @@ module _ {entries : SmallVec Entry} {outs : SmallVec OutEdge} {room outs_room : 
     outs_fit = fits;
     outs_reserved = subst (λ n. outs_room ≤ n) (sym same) k.outs_reserved;
     different = different;
+    frame = k.frame;
+    done = k.done;
   }
 
-  pub kept_more_outs : (new : SmallVec OutEdge) (node since : ℕ) → IsKept entries outs room outs_room → length outs.items < outs_room → has_out outs.items node since ≡ false
-      → new.items ≡ outs.items ++ (node, since) ∷ [] → new.capacity ≡ outs.capacity → IsKept entries new room outs_room
+  pub kept_more_outs : (new : SmallVec OutEdge) (node since : ℕ) → IsKept entries outs room outs_room first_frame done_end → length outs.items < outs_room → has_out outs.items node since ≡ false
+      → new.items ≡ outs.items ++ (node, since) ∷ [] → new.capacity ≡ outs.capacity → IsKept entries new room outs_room first_frame done_end
   kept_more_outs new node since k fits other items same =
       let long = length-append outs.items ((node, since) ∷ []) in
       kept_with_outs new k (omega (arith, fits, ap length items, long)) same (subst AreDifferent (sym items) (AreDifferent-push outs.items node since k.different other))
 
-  pub kept_fewer_outs : (new : SmallVec OutEdge) (test : OutEdge → Bool) → IsKept entries outs room outs_room → length new.items ≤ length outs.items
-      → new.items ≡ filter test outs.items → new.capacity ≡ outs.capacity → IsKept entries new room outs_room
+  pub kept_fewer_outs : (new : SmallVec OutEdge) (test : OutEdge → Bool) → IsKept entries outs room outs_room first_frame done_end → length new.items ≤ length outs.items
+      → new.items ≡ filter test outs.items → new.capacity ≡ outs.capacity → IsKept entries new room outs_room first_frame done_end
   kept_fewer_outs new test k fits items same = kept_with_outs new k (omega (arith, fits, k.outs_fit)) same (subst AreDifferent (sym items) (AreDifferent-filter test outs.items k.different))
 
-  pub kept_inserted : (new : SmallVec Entry) (i : ℕ) (e : Entry) → IsKept entries outs room outs_room → length entries.items < room → i ≤ length entries.items → has entries.items e.version ≡ false
-      → new.items ≡ insert entries.items i e → new.capacity ≡ entries.capacity → IsKept new outs room outs_room
-  kept_inserted new i e k fits le other items same =
+  pub kept_inserted : (new : SmallVec Entry) (i : ℕ) (e : Entry) (f d : ℕ) → IsKept entries outs room outs_room first_frame done_end → length entries.items < room → i ≤ length entries.items
+      → has entries.items e.version ≡ false → f ≡ frames (insert entries.items i e) → d ≡ done_len (insert entries.items i e)
+      → new.items ≡ insert entries.items i e → new.capacity ≡ entries.capacity → IsKept new outs room outs_room f d
+  kept_inserted new i e f d k fits le other frame done items same =
       let long = length-insert entries.items i e le in
-      kept_with_entries new k (omega (arith, ap length items, long)) (omega (arith, fits, ap length items, long)) same (subst IsUnique (sym items) (IsUnique-insert entries.items i e k.unique other))
+      kept_with_entries new f d k (omega (arith, ap length items, long)) (omega (arith, fits, ap length items, long)) same
+      (subst IsUnique (sym items) (IsUnique-insert entries.items i e k.unique other)) (frame ∙ sym (ap frames items)) (done ∙ sym (ap done_len items))
 
-  pub kept_stated : (new : SmallVec Entry) (t : ℕ) (s : State) → IsKept entries outs room outs_room → new.items ≡ with_state t s entries.items → new.capacity ≡ entries.capacity → IsKept new outs room outs_room
-  kept_stated new t s k items same =
+  pub kept_stated : (new : SmallVec Entry) (t : ℕ) (s : State) (f d : ℕ) → IsKept entries outs room outs_room first_frame done_end
+      → f ≡ frames (with_state t s entries.items) → d ≡ done_len (with_state t s entries.items)
+      → new.items ≡ with_state t s entries.items → new.capacity ≡ entries.capacity → IsKept new outs room outs_room f d
+  kept_stated new t s f d k frame done items same =
       let long = ap length items ∙ length-with_state t s entries.items in
-      kept_with_entries new k (omega (arith, long, k.some)) (omega (arith, long, k.fits)) same (subst IsUnique (sym items) (IsUnique-with_state t s entries.items k.unique))
+      kept_with_entries new f d k (omega (arith, long, k.some)) (omega (arith, long, k.fits)) same
+      (subst IsUnique (sym items) (IsUnique-with_state t s entries.items k.unique)) (frame ∙ sym (ap frames items)) (done ∙ sym (ap done_len items))
 
-  pub kept_cut : (new : SmallVec Entry) (i n : ℕ) → IsKept entries outs room outs_room → i < n → n ≤ length entries.items
-      → new.items ≡ remove_range (remove_range entries.items (i + 1) n) 0 i → new.capacity ≡ entries.capacity → IsKept new outs room outs_room
-  kept_cut new i n k lt le items same =
+  pub kept_cut : (new : SmallVec Entry) (i n : ℕ) (e : Entry) (f d : ℕ) → IsKept entries outs room outs_room first_frame done_end → i < n → n ≤ length entries.items
+      → slice_get entries.items i ≡ Some e → is_done e.state ≡ true → f ≡ frames (e ∷ drop n entries.items) → d ≡ done_len (e ∷ drop n entries.items)
+      → new.items ≡ remove_range (remove_range entries.items (i + 1) n) 0 i → new.capacity ≡ entries.capacity → IsKept new outs room outs_room f d
+  kept_cut new i n e f d k lt le at is frame done items same =
       let between = remove_range entries.items (i + 1) n in
       let first = length-remove_range entries.items (i + 1) n (omega (arith, lt)) le in
       let second = length-remove_range between 0 i (omega arith) (omega (arith, first, lt, le)) in
       let long = ap length items in
-      kept_with_entries new k (omega (arith, first, second, long, lt, le)) (omega (arith, first, second, long, k.fits, lt, le)) same
+      let left = items ∙ cut_before entries.items (drop n entries.items) i e at in
+      kept_with_entries new f d k (omega (arith, first, second, long, lt, le)) (omega (arith, first, second, long, k.fits, lt, le)) same
       (subst IsUnique (sym items) (IsUnique-remove_range between 0 i (omega arith) (IsUnique-remove_range entries.items (i + 1) n (omega (arith, lt)) k.unique)))
+      (frame ∙ sym (ap frames left)) (done ∙ sym (ap done_len left))
+
+  pub seen : (list : Versions) → IsKept entries outs room outs_room first_frame done_end
+      → record { entries = entries.items; outs = outs.items; room = room; outs_room = outs_room } ≡ list → IsSeen list first_frame done_end
+  seen list k is = subst (λ (v : Versions). IsSeen v first_frame done_end) is (record {
+    small = k.small;
+    some = k.some;
+    fits = k.fits;
+    unique = k.unique;
+    frame = k.frame;
+    frame_fits = omega (arith, k.frame, place_fits opens entries.items);
+    done = k.done;
+    done_fits = omega (arith, k.done, done_len_fits entries.items);
+  })

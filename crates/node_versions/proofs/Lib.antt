@@ -1,7 +1,11 @@
 pub mod Asked
 pub mod Collecting
+pub mod DoneLen
+pub mod FirstFrame
+pub mod FromEnd
 pub mod Indexes
 pub mod KeptLemmas
 pub mod LastDone
 pub mod Lists
+pub mod Neighbours
 pub mod Places

@@ -4,7 +4,11 @@ use lib.Dec.{leb}
 use Rattle.std.specs.List.{position_or_len, slice_get}
 use Rattle.std.proofs.lemmas.Option.{get_or_from_slice_get}
 use Rattle.std.proofs.lemmas.Bool.Decides.{nat_tests}
-use Rattle.node_versions.specs.Entries.{OutEdge, Versions, with_entries, with_outs, Entry, at, since_at, State, has, before, up_to, with_state, is_of, is_active}
+use Rattle.node_versions.specs.Entries.{OutEdge, Versions, with_entries, with_outs, Entry, at, since_at, State, is_mark, is_frame, is_done, has, before, up_to, with_state, is_of, is_active}
+
+pub place_fits : (stops : Entry → Bool) (es : List Entry) → position_or_len stops es ≤ length es
+place_fits stops [] = omega arith
+place_fits stops (e ∷ es) = let r = place_fits stops es in grind (arith, r)
 
 abbrev pub place : List Entry → ℕ → ℕ
 place es t = position_or_len (is_of t) es
@@ -37,6 +41,9 @@ take-up_to (e ∷ es) t = go (e.version == t) (take-up_to es t)
 
 pub place-below : (es : List Entry) (t : ℕ) → has es t ≡ true → place es t < length es
 place-below es t h = let r = has-place es t in grind (arith, nat_tests, r)
+
+pub has_at_place : (es : List Entry) (t i : ℕ) → i ≡ place es t → i < length es → has es t ≡ true
+has_at_place es t i at h = let r = has-place es t in grind (arith, nat_tests, r, at, h)
 
 has-take : (es : List Entry) (n s : ℕ) → has (take n es) s ≡ (nat_lt (place es s) n && has es s)
 has-take es zero s = grind (arith, nat_tests)
@@ -75,6 +82,20 @@ set-with_state (e ∷ es) t d s h = go (e.version == t) refl (set-with_state es 
 pub at-has : (test : State → Bool) (es : List Entry) (t : ℕ) → at test es t ≡ true → has es t ≡ true
 at-has test [] t h = h
 at-has test (e ∷ es) t h = let r = at-has test es t in grind (arith, h, r)
+
+at_implies : (test other : State → Bool) → ((s : State) → test s ≡ true → other s ≡ true) → (es : List Entry) (t : ℕ) → at test es t ≡ true → at other es t ≡ true
+at_implies test other more [] t h = h
+at_implies test other more (e ∷ es) t h = go (e.version == t) h (at_implies test other more es t)
+  where
+    go : (b : Bool) → elim b as (λ _. Bool) [ true ↦ test e.state | false ↦ at test es t ] ≡ true → (at test es t ≡ true → at other es t ≡ true) → elim b as (λ _. Bool) [ true ↦ other e.state | false ↦ at other es t ] ≡ true
+    go true h r = more e.state h
+    go false h r = r h
+
+pub mark_no_done : (es : List Entry) (t : ℕ) → at is_mark es t ≡ true → at (λ s. not (is_done s)) es t ≡ true
+mark_no_done es t h = at_implies is_mark (λ s. not (is_done s)) (λ s k. grind (arith, k)) es t h
+
+pub frame_no_done : (es : List Entry) (t : ℕ) → at is_frame es t ≡ true → at (λ s. not (is_done s)) es t ≡ true
+frame_no_done es t h = at_implies is_frame (λ s. not (is_done s)) (λ s k. grind (arith, k)) es t h
 
 pub active_found : (es : List Entry) (outs : List OutEdge) (i t : ℕ) (edge : OutEdge) (p q n : ℕ) → slice_get outs i ≡ Some edge → p ≡ place es edge.1 → q ≡ place es t → n ≡ length es → ((p == n) || leb p q) ≡ is_active es (since_at outs i) t
 active_found es outs i t edge p q n o a b c =

@@ -1,7 +1,7 @@
 -- A node's list: an entry for each call that reached the node, in the calls' order. A call is named by its version.
-use Rattle.std.specs.Prelude.{ℕ, Bool, true, false, not, ◌&&◌, ◌||◌, ◌==◌, ◌≡◌, List, [], ◌∷◌, ◌++◌, filter, Option, Some, None, slice_get, slice_index_or}
-use Rattle.std.specs.List.{cons_option, position_or_len}
-use Rattle.std.specs.Option.{option_or, IsSome}
+use Rattle.std.specs.Prelude.{ℕ, suc, ◌+◌, Bool, true, false, not, ◌&&◌, ◌||◌, ◌==◌, ◌≡◌, IsTrue, List, [], ◌∷◌, ◌++◌, drop, filter, Option, Some, None, slice_get, slice_index_or}
+use Rattle.std.specs.List.{cons_option, position_or_len, AllByRecursion}
+use Rattle.std.specs.Option.{option_or, is_some, IsSome}
 use Rattle.script_tree.specs.declared.value.Value.{Value}
 use Rattle.script_tree.specs.declared.value.Value.TheVariants as value
 use Rattle.script_tree.specs.declared.value.Fault.TheVariants.{NoChoice}
@@ -88,6 +88,10 @@ pub record IsEntryAt (es : List Entry) (t i : ℕ) : Type 0 where
   pub version : (e : Entry) → slice_get es i ≡ Some e → e.version ≡ t
   pub state : (e : Entry) (test : State → Bool) → slice_get es i ≡ Some e → at test es t ≡ test e.state
 
+-- the version of the entry at an index
+abbrev pub version_at : List Entry → ℕ → ℕ
+version_at es i = (slice_index_or es i (record { version = 0; slot = 0; state = Mark })).version
+
 -- The entry at the index is the first Frame.
 abbrev pub IsFirstOpenAt : List Entry → ℕ → Type 0
 IsFirstOpenAt es i = (e : Entry) → slice_get es i ≡ Some e → first_open es ≡ Some e.version
@@ -101,6 +105,11 @@ only_done e = elim (is_done e.state) [ true ↦ Some e | false ↦ None ]
 abbrev pub last_done : List Entry → Option Entry
 last_done [] = None
 last_done (e ∷ es) = option_or (last_done es) (only_done e)
+
+-- how many entries there are up to the last Done, which is one of them; 0 where there is none
+abbrev pub done_len : List Entry → ℕ
+done_len [] = 0
+done_len (e ∷ es) = elim (is_some (last_done es)) [ true ↦ 1 + done_len es | false ↦ elim (is_done e.state) [ true ↦ 1 | false ↦ 0 ] ]
 
 -- the state of an entry that is there, else a Mark
 abbrev pub state_of : Option Entry → State
@@ -138,6 +147,28 @@ front stops (e ∷ es) = elim (stops e) [ true ↦ [] | false ↦ e ∷ front st
 abbrev pub rest : (Entry → Bool) → List Entry → List Entry
 rest stops [] = []
 rest stops (e ∷ es) = elim (stops e) [ true ↦ e ∷ es | false ↦ rest stops es ]
+
+-- the first entry of a list, and the last one, or what was seen before it
+abbrev pub first_entry : List Entry → Option Entry
+first_entry [] = None
+first_entry (e ∷ es) = Some e
+
+abbrev pub last_entry : Option Entry → List Entry → Option Entry
+last_entry seen [] = seen
+last_entry seen (e ∷ es) = last_entry (Some e) es
+
+-- All entries of the list stop.
+abbrev pub AllStop : (Entry → Bool) → List Entry → Type 0
+AllStop stops es = AllByRecursion (λ e. IsTrue (stops e)) es
+
+-- Behind an entry that stops all do.
+abbrev pub StopsToTheEnd : (Entry → Bool) → List Entry → Type 0
+StopsToTheEnd stops es = AllStop stops (rest stops es)
+
+-- From the index on all entries stop, and the one right before it does not.
+pub record StopsFrom (stops : Entry → Bool) (es : List Entry) (i : ℕ) : Type 0 where
+  pub behind : AllStop stops (drop i es)
+  pub before : (e : Entry) (k : ℕ) → i ≡ suc k → slice_get es k ≡ Some e → stops e ≡ false
 
 -- the list with an entry put before the first that stops, else at the end
 abbrev pub placed : (Entry → Bool) → Entry → List Entry → List Entry

@@ -1,8 +1,8 @@
 // One node's list over small vectors.
-ghost use Rattle.std.specs.Prelude.{◌≡◌, ◌<◌, ◌≤◌, ◌+◌, length, insert, IsTrue, IfOk, IfSome, IfNone, Some, None, slice_get, not, false};
-ghost use Rattle.std.specs.List.{position, position_or_len, remove_range};
+ghost use Rattle.std.specs.Prelude.{◌≡◌, ℕ, ◌<◌, ◌≤◌, ◌+◌, length, take, drop, min, insert, IsTrue, IfOk, IfSome, IfNone, Some, None, slice_get, not, false};
+ghost use Rattle.std.specs.List.{list_any, position, position_or_len, remove_range};
 ghost use Rattle.std.specs.Option.{IsSome, is_some, option_copied};
-ghost use Rattle.node_versions.specs.Entries.{Frame, Done, IsUnique, AreDifferent, has, at, is_of, is_mark, is_frame, value_of, picks_of, state_of, up_to, before, last_done, value_at, value_before, picks_at, picks_before, with_state, is_active, since_at, IsEntryAt, IsFirstOpenAt, first_open, has_out, with_out, without_out, HasEndedPrefix, ended_len, collected, opened, with_entries, with_outs};
+ghost use Rattle.node_versions.specs.Entries.{Frame, Done, IsUnique, AreDifferent, has, at, is_of, is_mark, is_frame, is_done, value_of, picks_of, state_of, up_to, before, served, last_done, done_len, value_at, value_before, picks_at, picks_before, with_state, is_active, since_at, version_at, StopsFrom, StopsToTheEnd, IsEntryAt, IsFirstOpenAt, first_open, has_out, with_out, without_out, HasEndedPrefix, ended_len, collected, opened, with_entries, with_outs};
 ghost use Rattle.smallvec.specs.SmallVec.{small_vec_len};
 ghost use Rattle.node_versions.specs.Answers.{IsAskable, AnswersBy, AnswersTo};
 
@@ -24,10 +24,17 @@ const INLINE_OUTS: usize = 4;
 ///
 /// Contracts see the list of entries, the list of out-edges (pairs of a choose node and a version, called since), and
 /// how many of each there is room for. No two entries have one version, and no out-edge is there twice. All memory is
-/// taken by `new`. A call goes over the list at most a few times.
+/// taken by `new`.
+///
+/// Calls mostly ask of an entry near the end of the list, so a version's entry is looked for from there. Where the first
+/// Frame and the last Done stand is kept beside the entries.
 #[derive(Drop)]
 pub struct NodeList {
     entries: SmallVec<Entry, INLINE_ENTRIES>,
+    // The index of the first Frame, else how many entries there are.
+    first_frame: u32,
+    // The index behind the last Done, 0 where there is none.
+    done_end: u32,
     outs: SmallVec<(u32, u32), INLINE_OUTS>,
     room: u32,
     outs_room: u32,
@@ -44,7 +51,7 @@ impl Model for NodeList {
 
     ghost view = { λ l. record { entries = l.entries.items; outs = l.outs.items; room = l.room; outs_room = l.outs_room } };
 
-    ghost invariant = { λ l. IsKept l.entries l.outs l.room l.outs_room };
+    ghost invariant = { λ l. IsKept l.entries l.outs l.room l.outs_room l.first_frame l.done_end };
 }
 
 impl NodeList {
@@ -73,6 +80,8 @@ impl NodeList {
         });
         Ok(NodeList {
             entries,
+            first_frame: 1,
+            done_end: 1,
             outs,
             room,
             outs_room,
@@ -100,6 +109,7 @@ impl NodeList {
         ensures bound { IfSome result (λ i. i < length self.now.entries) }
         ensures exact { is_some result ≡ has self.now.entries version }
         ensures entry { IfSome result (IsEntryAt self.now.entries version) }
+        ensures at { IfSome result (λ i. version_at self.now.entries i ≡ version) }
     {
         let index = self.index_of(version);
         if index < self.len() {
@@ -116,12 +126,18 @@ impl NodeList {
         ensures some { IfSome result (IsFirstOpenAt self.now.entries) }
         ensures none { IfNone result (first_open self.now.entries ≡ None) }
     {
-        let index = self.place_of(|entry| entry.state.is_frame());
-        if index < self.len() {
-            Some(index)
+        if self.first_frame < self.len() {
+            Some(self.first_frame)
         } else {
             None
         }
+    }
+
+    /// Whether the version has an entry that is no Frame, and no Frame stands before it.
+    pub fn served(&self, version: u32) -> bool
+        ensures { result ≡ served self.now.entries version }
+    {
+        self.index_of(version) < self.first_frame
     }
 
     /// The index of the first entry that stops, else how many entries there are. `stops` is asked of entries of this list
@@ -139,6 +155,25 @@ impl NodeList {
         self.len()
     }
 
+    /// The index of the first of the entries at the end that stop, else how many entries there are. Where behind an entry that
+    /// stops all do, this is the first entry that stops. `stops` is asked of entries of this list alone, from the last one on.
+    pub fn place_from_end<F: Fn(&Entry) -> bool>(&self, stops: F) -> u32
+        requires { IsAskable F.Fn stops self.now.entries }
+        ensures from { AnswersBy F.Fn stops self.now.entries (λ test. StopsFrom test self.now.entries result) }
+        ensures place { AnswersBy F.Fn stops self.now.entries
+            (λ test. StopsToTheEnd test self.now.entries → result ≡ position_or_len test self.now.entries) }
+        ensures bound { result ≤ length self.now.entries }
+    {
+        let mut place = self.len();
+        while 0 < place {
+            if !stops(self.get(place - 1)) {
+                return place;
+            }
+            place -= 1;
+        }
+        place
+    }
+
     /// Puts an entry in at an index: what stood there and behind it moves back by one. Takes no memory.
     pub fn insert_at(&mut self, index: u32, entry: Entry)
         requires room { length self.old.entries < self.old.room }
@@ -146,7 +181,11 @@ impl NodeList {
         requires new_version { has self.old.entries entry.version ≡ false }
         ensures { self.new ≡ with_entries self.old (insert self.old.entries index entry) }
     {
+        let first_frame = self.first_frame_with(index, &entry);
+        let done_end = self.done_end_with(index, &entry);
         let _room_is_reserved = self.entries.insert(index as usize, entry);
+        self.first_frame = first_frame;
+        self.done_end = done_end;
     }
 
     /// Makes the version's Mark a Frame.
@@ -176,7 +215,7 @@ impl NodeList {
         requires done { IsSome (last_done (up_to self.now.entries version)) }
         ensures { result ≡ value_at self.now.entries version }
     {
-        value_in(last_done(self.up_to(version)))
+        value_in(self.done_at(version))
     }
 
     /// The node's picks for the version: those of the last Done at or before its entry. Takes no memory.
@@ -185,7 +224,7 @@ impl NodeList {
         requires done { IsSome (last_done (up_to self.now.entries version)) }
         ensures { result ≡ picks_at self.now.entries version }
     {
-        picks_in(last_done(self.up_to(version)))
+        picks_in(self.done_at(version))
     }
 
     /// The node's value before the version: that of the last Done strictly before its entry.
@@ -194,7 +233,7 @@ impl NodeList {
         requires done { IsSome (last_done (before self.now.entries version)) }
         ensures { result ≡ value_before self.now.entries version }
     {
-        value_in(last_done(self.before(version)))
+        value_in(self.done_before(version))
     }
 
     /// The node's picks before the version: those of the last Done strictly before its entry. Takes no memory.
@@ -203,7 +242,7 @@ impl NodeList {
         requires done { IsSome (last_done (before self.now.entries version)) }
         ensures { result ≡ picks_before self.now.entries version }
     {
-        picks_in(last_done(self.before(version)))
+        picks_in(self.done_before(version))
     }
 
     /// How many out-edges there are.
@@ -228,9 +267,18 @@ impl NodeList {
         requires entry { IsTrue (has self.now.entries version) }
         ensures { result ≡ is_active self.now.entries (since_at self.now.outs index) version }
     {
+        self.active_at(self.index_of(version), index)
+    }
+
+    /// Whether the out-edge at an index is active for the version whose entry stands at the index `own`, as `active` tells
+    /// it of the version. Looks at the entries behind `own` alone.
+    pub fn active_at(&self, own: u32, index: u32) -> bool
+        requires in_list { own < length self.now.entries }
+        requires in_outs { index < length self.now.outs }
+        ensures { result ≡ is_active self.now.entries (since_at self.now.outs index) (version_at self.now.entries own) }
+    {
         let (_, since) = self.out(index);
-        let place = self.index_of(since);
-        place == self.len() || place <= self.index_of(version)
+        !is_among(&self.entries.as_slice()[own as usize + 1..], since)
     }
 
     /// Adds an out-edge at the end. Takes no memory.
@@ -259,11 +307,14 @@ impl NodeList {
         ensures gone { result + length self.new.entries ≡ length self.old.entries }
     {
         let count = self.ended_len(&ended);
-        let ended_part = &self.entries.as_slice()[..count as usize];
-        let Some(kept) = last_done_place(ended_part) else {
+        let Some(kept) = last_done_place(self.done_part(count as usize)) else {
             return 0;
         };
+        let first_frame = self.frame_from(count) - count + 1;
+        let done_end = self.done_end.saturating_sub(count) + 1;
         keep_one(&mut self.entries, kept, count as usize);
+        self.first_frame = first_frame;
+        self.done_end = done_end;
         count - 1
     }
 
@@ -284,19 +335,123 @@ impl NodeList {
         ensures place { result ≡ position_or_len (is_of version) self.now.entries }
         ensures bound { result ≤ length self.now.entries }
     {
-        self.place_of(|entry| entry.version == version)
+        let mut rest = self.entries.as_slice();
+        while let Some((entry, front)) = rest.split_last() {
+            if entry.version == version {
+                return front.len() as u32;
+            }
+            rest = front;
+        }
+        self.len()
     }
 
-    // Puts another state into the version's entry.
+    // Puts another state into the version's entry, which is no Done.
     fn set_state(&mut self, version: u32, state: State)
-        requires { IsTrue (has self.old.entries version) }
+        requires { IsTrue (at (λ s. not (is_done s)) self.old.entries version) }
         ensures { self.new ≡ with_entries self.old (with_state version state self.old.entries) }
     {
         let place = self.index_of(version);
+        let first_frame = self.first_frame_after(place, &state);
+        let done_end = self.done_end_after(place, &state);
         let Some(entry) = self.entries.get_mut(place as usize) else {
             return;
         };
         entry.state = state;
+        self.first_frame = first_frame;
+        self.done_end = done_end;
+    }
+
+    // The index of the first Frame once an entry is put in at an index, and the index behind the last Done then.
+    fn first_frame_with(&self, index: u32, entry: &Entry) -> u32
+        requires room { length self.now.entries < self.now.room }
+        requires in_list { index ≤ length self.now.entries }
+        ensures { result ≡ position_or_len (λ e. is_frame e.state) (insert self.now.entries index entry.now) }
+    {
+        if self.first_frame < index {
+            self.first_frame
+        } else if entry.state.is_frame() {
+            index
+        } else {
+            self.first_frame + 1
+        }
+    }
+
+    fn done_end_with(&self, index: u32, entry: &Entry) -> u32
+        requires room { length self.now.entries < self.now.room }
+        requires in_list { index ≤ length self.now.entries }
+        ensures { result ≡ done_len (insert self.now.entries index entry.now) }
+    {
+        if index < self.done_end {
+            self.done_end + 1
+        } else if entry.state.is_done() {
+            index + 1
+        } else {
+            self.done_end
+        }
+    }
+
+    // The index of the first Frame once the call whose entry stands at an index has another state, and the index behind the
+    // last Done then, where that entry is no Done.
+    fn first_frame_after(&self, place: u32, state: &State) -> u32
+        requires { place < length self.now.entries }
+        ensures { (t : ℕ) → place ≡ position_or_len (is_of t) self.now.entries
+            → result ≡ position_or_len (λ e. is_frame e.state) (with_state t state.now self.now.entries) }
+    {
+        if self.first_frame < place {
+            self.first_frame
+        } else if state.is_frame() {
+            place
+        } else {
+            self.frame_from(place + 1)
+        }
+    }
+
+    fn done_end_after(&self, place: u32, state: &State) -> u32
+        requires { place < length self.now.entries }
+        ensures { (t : ℕ) → place ≡ position_or_len (is_of t) self.now.entries → IsTrue (at (λ s. not (is_done s)) self.now.entries t)
+            → result ≡ done_len (with_state t state.now self.now.entries) }
+    {
+        if state.is_done() {
+            self.done_end.max(place + 1)
+        } else {
+            self.done_end
+        }
+    }
+
+    // The index of the first Frame at an index or behind it, else how many entries there are.
+    fn frame_from(&self, from: u32) -> u32
+        requires { from ≤ length self.now.entries }
+        ensures place { result ≡ from + position_or_len (λ e. is_frame e.state) (drop from self.now.entries) }
+        ensures bound { result ≤ length self.now.entries }
+    {
+        if from <= self.first_frame {
+            return self.first_frame;
+        }
+        from + frames_from(&self.entries.as_slice()[from as usize..]) as u32
+    }
+
+    // The last Done at or before the version's entry, and the last one strictly before it.
+    fn done_at(&self, version: u32) -> Option<&Entry>
+        requires { IsTrue (has self.now.entries version) }
+        ensures { option_copied result ≡ last_done (up_to self.now.entries version) }
+    {
+        last_done(self.done_part(self.index_of(version) as usize + 1))
+    }
+
+    fn done_before(&self, version: u32) -> Option<&Entry>
+        ensures { option_copied result ≡ last_done (before self.now.entries version) }
+    {
+        last_done(self.done_part(self.index_of(version) as usize))
+    }
+
+    // So many entries from the first one on, without those behind the list's last Done.
+    fn done_part(&self, count: usize) -> &[Entry]
+        requires { count ≤ length self.now.entries }
+        ensures part { result.now ≡ take (min count (done_len self.now.entries)) self.now.entries }
+        ensures last { last_done result.now ≡ last_done (take count self.now.entries) }
+    {
+        let end = count.min(self.done_end as usize);
+        &self.entries.as_slice()[..end]
     }
 
     // How many entries stand before the first that has not ended.
@@ -312,22 +467,25 @@ impl NodeList {
             { !ended(entry) },
         )
     }
+}
 
-    // The entries up to the version's, and those before it.
-    fn up_to(&self, version: u32) -> &[Entry]
-        requires { IsTrue (has self.now.entries version) }
-        ensures { result.now ≡ up_to self.now.entries version }
-    {
-        let place = self.index_of(version);
-        &self.entries.as_slice()[..=place as usize]
-    }
+// Whether the version has one of the entries.
+fn is_among(entries: &[Entry], version: u32) -> bool
+    ensures { result ≡ list_any (is_of version) entries.now }
+{
+    entries.iter().any(|entry| entry.version == version)
+}
 
-    fn before(&self, version: u32) -> &[Entry]
-        ensures { result.now ≡ before self.now.entries version }
-    {
-        let place = self.index_of(version);
-        &self.entries.as_slice()[..place as usize]
+// How many entries stand before the first Frame.
+fn frames_from(entries: &[Entry]) -> usize
+    ensures { result ≡ position_or_len (λ e. is_frame e.state) entries.now }
+{
+    for (place, entry) in entries.iter().enumerate() {
+        if entry.state.is_frame() {
+            return place;
+        }
     }
+    entries.len()
 }
 
 // The index of the last Done of a list.

@@ -113,3 +113,36 @@ fn collecting(rt: HostRuntime) -> Result<(), Fail> {
     compare(&rt, &list, &[(2, 4, 'd'), (9, 3, 'm'), (6, 4, 'f')]);
     Ok(())
 }
+
+#[test]
+fn served_before_the_first_frame(rt: HostRuntime) -> Result<(), Fail> {
+    let mut list = sample(rt.alloc())?;
+    list.insert_at(5, mark(7));
+    assert!(rt; list.served(0));
+    assert!(rt; list.served(9));
+    assert!(rt; !list.served(6));
+    assert!(rt; !list.served(7));
+    assert!(rt; !list.served(5));
+    Ok(())
+}
+
+#[test]
+fn places_from_both_ends(rt: HostRuntime) -> Result<(), Fail> {
+    let list = sample(rt.alloc())?;
+    assert_eq!(rt; list.place_from_end(|entry| entry.slot == 4), 4);
+    assert_eq!(rt; list.place_of(|entry| entry.slot == 4), 2);
+    assert_eq!(rt; list.place_from_end(|entry| entry.version > 5), 3);
+    assert_eq!(rt; list.place_from_end(|entry| entry.slot == 3), 5);
+    Ok(())
+}
+
+#[test]
+fn out_edges(rt: HostRuntime) -> Result<(), Fail> {
+    let mut list = NodeList::new(rt.alloc(), 2, 1, Value::Int(5), Picks::new())?;
+    list.insert_at(1, mark(2));
+    list.add_out(8, 2);
+    assert!(rt; !list.active_at(0, 0));
+    assert!(rt; list.active_at(1, 0));
+    assert!(rt; !list.active(0, 0));
+    Ok(())
+}

@@ -6,13 +6,13 @@ use Rattle.order_graph.specs.declared.pair.Pair.{Pair}
 use Rattle.order_graph.specs.Order.{reaches, linked}
 use Rattle.node_versions.specs.declared.entry.State.TheVariants.{Mark}
 use Rattle.node_versions.specs.declared.entry.Entry.{Entry}
-use Rattle.node_versions.specs.Entries.{has, front, rest}
+use Rattle.node_versions.specs.Entries.{has, front, rest, first_entry, last_entry}
 use Rattle.flow_model.specs.declared.step.Step.TheVariants as steps
 use Rattle.flow_model.specs.Machine.State.{Core, live, entries}
 use Rattle.flow_model.specs.Machine.Changes.{stops, first_version, last_version, link_left, link_right, linked_at}
 use Rattle.flow_model.specs.Machine.Steps.{allowed}
 use Rattle.flow_model.specs.Kept.Lawful.{IsLawful, ended_before, HasSlot}
-use Rattle.flow_model.specs.Parts.SlotPairs.{renamed, slot_of, slot_pairs, first_entry, last_entry, link_left_by_slot}
+use Rattle.flow_model.specs.Parts.SlotPairs.{renamed, slot_of, slot_pairs, link_left_by_slot}
 use Rattle.flow_model.specs.Parts.Operations.{OrderTakes, IsFirstSlot}
 use Rattle.flow_model.proofs.General.Truths.{equal_test, not_true, is_not_true}
 use Rattle.flow_model.proofs.OneStep.WhoMayStep.{and_right, not_is, executes-live, idle-executes, end-idle}

@@ -7,13 +7,13 @@ use Rattle.signal_graph.specs.Graph.{Graph}
 use Rattle.order_graph.specs.declared.pair.Pair.{Pair}
 use Rattle.order_graph.specs.Order.{is_recorded, reaches, linked, retired}
 use Rattle.node_versions.specs.declared.entry.Entry.{Entry}
-use Rattle.node_versions.specs.Entries.{front, rest}
+use Rattle.node_versions.specs.Entries.{front, rest, first_entry, last_entry}
 use Rattle.flow_model.specs.declared.step.Step.{Step}
 use Rattle.flow_model.specs.Machine.State.{Core, LiveCall, call_of, call_or, live, executes, entries}
 use Rattle.flow_model.specs.Machine.Changes.{stops, first_version, last_version, link_left, link_right, linked_at}
 use Rattle.flow_model.specs.Machine.Steps.{allowed, apply}
 use Rattle.flow_model.specs.Kept.Lawful.{IsLawful, HasSlot}
-use Rattle.flow_model.specs.Parts.SlotPairs.{renamed_pair, renamed, slot_of, slot_pairs, first_entry, last_entry, link_left_by_slot, link_right_by_slot, linked_at_by_slot, entry_lives, stops_by_slot}
+use Rattle.flow_model.specs.Parts.SlotPairs.{renamed_pair, renamed, slot_of, slot_pairs, link_left_by_slot, link_right_by_slot, linked_at_by_slot, entry_lives, stops_by_slot}
 use Rattle.flow_model.proofs.OneStep.SameCallers.{step-stable, slot-stable}
 use Rattle.flow_model.proofs.Settled.EntriesAreThere.{step-EntriesAreKept}
 use Rattle.flow_model.proofs.General.Truths.{or_cases, or_left, or_right, and_both, and_make, same_number, equal_test, not_true, is_not_true, same_truth}

@@ -3,11 +3,11 @@ use Rattle.std.specs.Prelude.{◌≡◌, ℕ, ◌<◌, ◌≢◌, true, false, l
 use Rattle.std.specs.Option.{IsSome}
 use Rattle.order_graph.specs.Order.{reaches}
 use Rattle.node_versions.specs.declared.entry.Entry.{Entry}
-use Rattle.node_versions.specs.Entries.{HasEndedPrefix, has, up_to, before, last_done, front, rest, has_out, without_out}
+use Rattle.node_versions.specs.Entries.{HasEndedPrefix, has, up_to, before, last_done, front, rest, first_entry, last_entry, has_out, without_out}
 use Rattle.flow_model.specs.Machine.State.{Core, ended, entries, outs}
 use Rattle.flow_model.specs.Machine.Changes.{stops, remove_first}
 use Rattle.flow_model.specs.Kept.Lawful.{IsLive}
-use Rattle.flow_model.specs.Parts.SlotPairs.{slot_of, slot_pairs, first_entry, last_entry, left_linked_by_slot}
+use Rattle.flow_model.specs.Parts.SlotPairs.{slot_of, slot_pairs, left_linked_by_slot}
 
 -- A list has an entry; a live call with an entry finds a Done at it or before, and one strictly before; the ended entries come
 -- first, with a Done; and the first out-edge of a node is the one that is found there.

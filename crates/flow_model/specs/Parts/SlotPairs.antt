@@ -5,7 +5,7 @@ use Rattle.signal_graph.specs.Graph.{is_in}
 use Rattle.order_graph.specs.declared.pair.Pair.{Pair}
 use Rattle.order_graph.specs.Order.{linked, is_recorded, reaches}
 use Rattle.node_versions.specs.declared.entry.Entry.{Entry}
-use Rattle.node_versions.specs.Entries.{front, rest}
+use Rattle.node_versions.specs.Entries.{front, rest, first_entry, last_entry}
 use Rattle.flow_model.specs.Machine.State.{Core, LiveCall, call, live, executes, entries}
 use Rattle.flow_model.specs.Machine.Changes.{stops}
 
@@ -26,15 +26,6 @@ abbrev pub slot_pairs : Core → List Pair
 slot_pairs s = renamed (slot_of s) s.pairs
 
 -- ---- entering a list, by the slots of the neighbours' entries
-
--- the first entry of a list, and the last one
-abbrev pub first_entry : List Entry → Option Entry
-first_entry [] = None
-first_entry (e ∷ es) = Some e
-
-abbrev pub last_entry : Option Entry → List Entry → Option Entry
-last_entry seen [] = seen
-last_entry seen (e ∷ es) = last_entry (Some e) es
 
 -- the pairs with one of the left neighbour and the call, and one of the call and the right neighbour, where these live
 abbrev pub link_left_by_slot : Core → ℕ → ℕ → Option Entry → List Pair → List Pair

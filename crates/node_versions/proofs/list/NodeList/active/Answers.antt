@@ -1,15 +1,13 @@
-use Rattle.std.proofs.Common.{◌∙◌, sym, ap, Bool, ◌||◌, refl}
-use lib.Dec.{leb}
-use Rattle.std.proofs.lemmas.Bool.{eq-eqb, ne_eqb}
-use Rattle.node_versions.proofs.Places.{active_found, place}
+use Rattle.std.proofs.Common.{ap, ◌∙◌, arith}
+use Rattle.node_versions.specs.Entries.{is_active, since_at, version_at}
+use Rattle.node_versions.proofs.Indexes.{version_at_place}
+use Rattle.node_versions.proofs.Places.{place-below}
 use Rattle.node_versions.proofs.list.NodeList.active.Goals as goal
 
-pub returns-then-place-len : goal.returns-then-place-len
-returns-then-place-len c =
-    let found = active_found c.args.self.now.entries c.args.self.now.outs c.args.index c.args.version c.out-since.result c.index_of-place.result _ c.len.result c.out-since.ensures c.index_of-place.ensures.place refl c.len.ensures in
-    eq-eqb _ _ c.if-place-len.true ∙ sym (ap (λ (b : Bool). b || leb c.index_of-place.result (place c.args.self.now.entries c.args.version)) (eq-eqb _ _ c.if-place-len.true)) ∙ found
+pub active_at-requires-clause-in_list : goal.active_at-requires-clause-in_list
+active_at-requires-clause-in_list c = omega (arith, c.index_of.ensures.place, place-below c.args.self.now.entries c.args.version c.requires.entry)
 
-pub returns-else-place-len : goal.returns-else-place-len
-returns-else-place-len c =
-    let found = active_found c.args.self.now.entries c.args.self.now.outs c.args.index c.args.version c.out-since.result c.index_of-place.result c.index_of.result c.len.result c.out-since.ensures c.index_of-place.ensures.place c.index_of.ensures.place c.len.ensures in
-    sym (ap (λ (b : Bool). b || leb c.index_of-place.result c.index_of.result) (ne_eqb _ _ c.if-place-len.false)) ∙ found
+pub returns : goal.returns
+returns c =
+    let own = ap (version_at c.args.self.now.entries) c.index_of.ensures.place ∙ version_at_place c.args.self.now.entries c.args.version c.requires.entry in
+    c.active_at.ensures ∙ ap (is_active c.args.self.now.entries (since_at c.args.self.now.outs c.args.index)) own

@@ -1,5 +1,5 @@
-use Rattle.flow_model.proofs.Known.Neighbours.{right-at, left-at}
-use Rattle.flow_model.proofs.stored_laws.neighbours_stand_at_the_place.Goals as goal
+use Rattle.node_versions.proofs.Neighbours.{right-at, left-at}
+use Rattle.node_versions.proofs.laws.neighbours_stand_at_the_place.Goals as goal
 
 pub returns-clause-right : goal.returns-clause-right
 returns-clause-right c = right-at

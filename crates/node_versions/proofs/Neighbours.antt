@@ -1,10 +1,8 @@
--- The neighbours of a call's place in a list are the entry at the place's index and the one right before it.
+-- The neighbours of a place in a list are the entry at the place's index and the one right before it.
 use Rattle.std.proofs.Common.{◌≡◌, ℕ, zero, suc, Bool, true, false, refl, arith, List, [], ◌∷◌, length, slice_get, ◌∙◌, Option, Some, None}
 use Rattle.std.specs.List.{position_or_len}
-use Rattle.node_versions.specs.declared.entry.Entry.{Entry}
-use Rattle.node_versions.specs.Entries.{front, rest}
+use Rattle.node_versions.specs.Entries.{Entry, front, rest, first_entry, last_entry}
 use Rattle.node_versions.proofs.Lists.{length-front}
-use Rattle.flow_model.specs.Parts.SlotPairs.{first_entry, last_entry}
 
 -- The right neighbour stands at the place.
 pub right-at : (stops : Entry → Bool) (es : List Entry) → first_entry (rest stops es) ≡ slice_get es (position_or_len stops es)
