@@ -8,15 +8,16 @@ use Rattle.std.specs.Cmp.{nat_cmp_total}
 use Rattle.std.specs.FinSet as finset
 use Rattle.std.proofs.lemmas.Bool.{cases_eq, cases_lt, cases_Bool, or_cases, or_from, or_parts, and_right, and_parts, and_from, eqb-true, eq-eqb, ne_eqb, false_from_ne_true, both_ways, false≢true}
 use Rattle.std.proofs.lemmas.Bool.Decides.{nat_tests}
-use Rattle.std.proofs.lemmas.List.{get_or-set_same, get_or-set_other, get_or_past, get_or_default, length-set, take_at, get_or-map, length-map, get_or-replicate, length-replicate, length-append}
+use Rattle.std.proofs.lemmas.List.{get_or-set_same, get_or-set_other, get_or_past, get_or_default, length-set, take_at, length-map, get_or-replicate, length-replicate, length-append}
 use Rattle.std.proofs.lemmas.List.Folds.{find-append, list_any-append}
 use Rattle.std.proofs.lemmas.Map.Views.{any-filter_same}
 use Rattle.std.proofs.lemmas.Map.Steps.{length-le_from_distinct_below}
 use Rattle.std.proofs.lemmas.Nat.{mul-add-lt, same_from_place}
-use Rattle.order_graph.specs.Slots.{Slots, IsLeastFrom, HasNoneFrom, HasAllBelow, slots_at, changed}
+use Rattle.order_graph.specs.Slots.{Slots, IsLeastFrom, HasNoneFrom}
+use Rattle.order_graph.specs.Sets.{slots_at, has, HasAllBelow, changed}
 use Rattle.order_graph.specs.Order.{Pair, joins, is_recorded, node_of, Precedes, retired, AreApart, IsNextBefore}
 use Rattle.order_graph.specs.Order.Precedes.{by_pair, by_chain}
-use Rattle.order_graph.specs.Kept.{has, AreOfSlots, AreMirrored, IsKept, IsPassedOn}
+use Rattle.order_graph.specs.Kept.{AreOfSlots, AreMirrored, IsKept, IsPassedOn}
 use Rattle.order_graph.proofs.Closure.{Adds, Drops, Precedes-join, masks_added, masks_dropped, last_pair, Precedes-fewer, no_cycle-added}
 
 -- what a list is after a loan of the whole of it
@@ -497,10 +498,13 @@ recorded_there n room pairs earlier cells before after b x s t kept fits read e 
 -- the masks that come back of a loan of all of them
 pub after_pass : (before after lent given new_before new_after newer later : List Slots) (a b : ℕ) → lent ≡ before → given ≡ after → length new_before ≡ length lent → length new_after ≡ length given → IsPassedOn lent new_before a b → AreMirrored new_before new_after → newer ≡ new_before → later ≡ new_after
     → ((length newer ≡ length before) × (length later ≡ length after)) × (IsPassedOn before newer a b × AreMirrored newer later)
-after_pass before after lent given new_before new_after newer later a b is_before is_after len len_after passed mirror is js =
-    ((ap length is ∙ len ∙ ap length is_before, ap length js ∙ len_after ∙ ap length is_after),
-    (subst (λ (m : List Slots). IsPassedOn before m a b) (sym is) (subst (λ (o : List Slots). IsPassedOn o new_before a b) is_before passed),
-    subst (λ (m : List Slots). AreMirrored newer m) (sym js) (subst (λ (m : List Slots). AreMirrored m new_after) (sym is) mirror)))
+after_pass before after lent given new_before new_after newer later a b is_before is_after len len_after passed mirror is js = (
+  (ap length is ∙ len ∙ ap length is_before, ap length js ∙ len_after ∙ ap length is_after),
+  (
+    subst (λ (m : List Slots). IsPassedOn before m a b) (sym is) (subst (λ (o : List Slots). IsPassedOn o new_before a b) is_before passed),
+    subst (λ (m : List Slots). AreMirrored newer m) (sym js) (subst (λ (m : List Slots). AreMirrored m new_after) (sym is) mirror),
+  ),
+)
 
 pub after_link : (n room more : ℕ) (pairs : List Pair) (earlier : List Slots) (cells : List ℕ) (before after : List Slots) (a b node : ℕ) (was s larger : Slots) (longer : List Pair) (newer later : List Slots)
     → IsKept n room pairs earlier cells before after → more ≡ room → a < n → b < n → a ≢ b → ¬ (Precedes pairs b a)

@@ -6,7 +6,8 @@ use Rattle.std.proofs.lemmas.Bool.{cases_lt, cases_eq}
 use Rattle.std.proofs.lemmas.List.{get_or-set_same, get_or-set_other, get_or_default}
 use Rattle.std.proofs.lemmas.Nat.{and_le_r}
 use Rattle.std.proofs.lemmas.Nat.Bits.{bit_at_and, bit_at_lowest, bit_at-suc, bit_at-trailing_zeros, bit_at-zero}
-use Rattle.order_graph.specs.Slots.{Slots, slots_of, IsLowestBit, IsLeastFrom, HasAllBelow, slots_at, changed}
+use Rattle.order_graph.specs.Slots.{Slots, slots_of, IsLowestBit, IsLeastFrom}
+use Rattle.order_graph.specs.Sets.{HasAllBelow, slots_at, changed}
 use Rattle.order_graph.proofs.SlotLemmas.{least_in_word, no_slot, clear_in_word}
 
 -- the sets of the members below i have changed, and the rest are as they were
@@ -142,10 +143,14 @@ change_next index change words word rest old new s d fits is some small inside c
     let t = trailing_zeros w64 rest in
     let least = next_member index word rest low words fits is some small left in
     let place = inside _ least.found in
-    let next : index * 64 + t + 1 ≡ index * 64 + (t + 1) = omega arith in
-    (t + 1, (less_left word rest low some small left,
-    subst (λ (i : ℕ). ChangedBelow i change (slots_of words) old (set new (index * 64 + t) s)) next
-    (change_more (index * 64 + low) (index * 64 + t) change (slots_of words) old new s place least (changes ∙ ap change (get_or_default new (index * 64 + t) d finset.empty place)) below)))
+    let next : index * 64 + t + 1 ≡ index * 64 + (t + 1) = omega arith in (
+      t + 1,
+      (
+        less_left word rest low some small left,
+        subst (λ (i : ℕ). ChangedBelow i change (slots_of words) old (set new (index * 64 + t) s)) next
+            (change_more (index * 64 + low) (index * 64 + t) change (slots_of words) old new s place least (changes ∙ ap change (get_or_default new (index * 64 + t) d finset.empty place)) below),
+      ),
+    )
 
 pub inside_words : (words : List ℕ) (members : Slots) (m n : ℕ) → slots_of words ≡ members → HasAllBelow members m → m ≡ n → HasAllBelow (slots_of words) n
 inside_words words members m n is inside same y h = let below = inside y (sym (ap (λ s. finset.contains s y) is) ∙ h) in omega arith

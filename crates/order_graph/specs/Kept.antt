@@ -1,8 +1,9 @@
--- How an order is kept: the pairs, for each slot the set of its direct predecessors, a table of nodes, and the masks.
-use Rattle.std.specs.Prelude.{◌≡◌, ℕ, ◌+◌, ◌*◌, ◌<◌, ◌≤◌, Bool, ◌==◌, ◌&&◌, ◌||◌, List, length, Some, slice_index, IsTrue}
+-- How an order is kept: the pairs, for each slot the set of its direct predecessors, a table of nodes,
+-- the masks and their mirror.
+use Rattle.std.specs.Prelude.{◌≡◌, ℕ, ◌+◌, ◌*◌, ◌<◌, ◌≤◌, ◌==◌, ◌&&◌, ◌||◌, List, length, Some, slice_index, IsTrue}
 use Rattle.std.specs.List.{AllByRecursion}
-use Rattle.std.specs.FinSet as set
-use Rattle.order_graph.specs.Slots.{Slots, slots_at}
+use Rattle.order_graph.specs.Slots.{Slots}
+use Rattle.order_graph.specs.Sets.{has}
 use Rattle.order_graph.specs.Order.{Pair, is_recorded, node_of, Order, Precedes, MasksAreClosure, AreApart}
 
 -- each pair is of slots
@@ -12,10 +13,6 @@ AreOfSlots callers pairs = AllByRecursion (λ p. (p.from < callers) × (p.to < c
 -- the order that is kept so
 abbrev pub order_of : ℕ → List Pair → List Slots → Order
 order_of callers pairs before = record { callers = callers; pairs = pairs; masks = before }
-
--- x is in the set of y
-abbrev pub has : List Slots → ℕ → ℕ → Bool
-has sets x y = set.contains (slots_at sets y) x
 
 -- b is in the `after` of a exactly where a is in the `before` of b.
 abbrev pub AreMirrored : List Slots → List Slots → Type 0
@@ -42,4 +39,5 @@ pub record IsKept (callers capacity : ℕ) (pairs : List Pair) (earlier : List S
 
 -- After a pair of a and b joins, x is in the mask of y where it was, or where x is a or precedes it and y is b or comes after it.
 abbrev pub IsPassedOn : List Slots → List Slots → ℕ → ℕ → Type 0
-IsPassedOn old new a b = (x y : ℕ) → has new x y ≡ (has old x y || (((x == a) || has old x a) && ((y == b) || has old b y)))
+IsPassedOn old new a b =
+    (x y : ℕ) → has new x y ≡ (has old x y || (((x == a) || has old x a) && ((y == b) || has old b y)))

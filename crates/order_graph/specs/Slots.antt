@@ -1,5 +1,5 @@
 -- A set of slots as four words of 64 bits.
-use Rattle.std.specs.Prelude.{◌≡◌, ℕ, ◌<◌, ◌≤◌, IsTrue, false, ◌/◌, ◌%◌, ◌==◌, Bool, List, slice_index, slice_index_or, filter, if◌then◌else◌}
+use Rattle.std.specs.Prelude.{◌≡◌, ℕ, ◌<◌, ◌≤◌, IsTrue, false, ◌/◌, ◌%◌, ◌==◌, Bool, List, slice_index, filter}
 use Rattle.std.specs.Int.{bit_at}
 use Rattle.std.specs.List.{range_with_len}
 use Rattle.std.specs.Ordering.{nat_cmp}
@@ -37,15 +37,3 @@ pub record IsLeastFrom (slots : Slots) (from q : ℕ) : Type 0 where
 -- The set has no slot from `from` on.
 abbrev pub HasNoneFrom : Slots → ℕ → Type 0
 HasNoneFrom slots from = (p : ℕ) → from ≤ p → set.contains slots p ≡ false
-
--- each member of the set is below n
-abbrev pub HasAllBelow : Slots → ℕ → Type 0
-HasAllBelow members n = (y : ℕ) → IsTrue (set.contains members y) → y < n
-
--- of a list with a set for each slot, the set of slot b
-abbrev pub slots_at : List Slots → ℕ → Slots
-slots_at sets b = slice_index_or sets b set.empty
-
--- the set of y after the set of each member has changed
-abbrev pub changed : (Slots → Slots) → List Slots → Slots → ℕ → Slots
-changed change sets members y = if set.contains members y then change (slots_at sets y) else slots_at sets y

@@ -1,5 +1,5 @@
 // The recorded order and its masks.
-ghost use Rattle.std.specs.Prelude.{◌≡◌, ◌≢◌, ℕ, ◌*◌, ◌<◌, ◌≤◌, ◌↔◌, map, replicate, length, vec_len, vec_capacity, IsTrue, IfOk, IfSome, IfNone};
+ghost use Rattle.std.specs.Prelude.{◌≡◌, ◌≢◌, ℕ, ◌*◌, ◌<◌, ◌≤◌, ◌↔◌, replicate, length, vec_len, vec_capacity, IsTrue, IfOk, IfSome, IfNone};
 ghost use Rattle.std.specs.FinSet as set;
 ghost use Rattle.order_graph.specs.Order.{Precedes, reaches, is_recorded, node_of, linked, retired, mask_of, MasksAreClosure, without_pairs, AreApart, IsNextBefore};
 ghost use Rattle.order_graph.specs.Kept.{AreOfSlots, AreMirrored, IsPassedOn};
@@ -26,6 +26,7 @@ pub struct OrderGraph {
     direct: Vec<SlotSet>,
     nodes: Vec<u32>,
     before: Vec<SlotSet>,
+    // For each slot those that it precedes: they lead `link` and `retire` to the sets that change.
     after: Vec<SlotSet>,
 }
 
@@ -119,6 +120,7 @@ impl OrderGraph {
         });
         self.direct[b as usize].insert(a);
         self.nodes[(b * self.callers + a) as usize] = node;
+        // Where a precedes b already all sets have what would be passed on.
         if !self.before[b as usize].contains(a) {
             pass_on(self.before.as_mut_slice(), self.after.as_mut_slice(), a, b);
         }
@@ -132,12 +134,18 @@ impl OrderGraph {
         ensures pairs { self.new.pairs ≡ retired self.old.pairs a }
         ensures masks { MasksAreClosure self.new }
     {
+        // Where slot a precedes nothing no pair is of it, and none is looked for.
         if self.after[a as usize].least_from(0).is_none() {
             return;
         }
         let later = mem::replace(&mut self.after[a as usize], SlotSet::new());
         remove_pairs(&mut self.pairs, a);
-        take_out(self.direct.as_mut_slice(), self.before.as_mut_slice(), &later, a);
+        take_out(
+            self.direct.as_mut_slice(),
+            self.before.as_mut_slice(),
+            &later,
+            a,
+        );
     }
 
     /// What holds of every order: the number of callers is 1 to 256, the pairs are of slots and no two of the same

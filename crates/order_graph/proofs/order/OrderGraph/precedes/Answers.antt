@@ -1,7 +1,7 @@
 use Rattle.std.proofs.Common.{◌<◌, ◌∙◌, ap, arith}
 use Rattle.std.specs.FinSet as set
 use Rattle.order_graph.specs.Order.{reaches}
-use Rattle.order_graph.specs.Slots.{slots_at}
+use Rattle.order_graph.specs.Sets.{slots_at}
 use Rattle.order_graph.proofs.KeptLemmas.{read_set}
 use Rattle.order_graph.proofs.Reaching.{test_is_reaches}
 use Rattle.order_graph.proofs.order.OrderGraph.precedes.Goals as goal
