@@ -14,6 +14,7 @@ ghost use Rattle.flow_model.specs.Machine.State.{call_of};
 ghost use Rattle.flow_model.specs.Machine.Words.{gathered_of, set_value, presses};
 ghost use Rattle.flow_model.specs.Machine.Changes.{closed};
 ghost use Rattle.flow_model.specs.Machine.Steps.{started, counted, with_look, free_slot, is_framing_before};
+ghost use Rattle.flow_model.specs.Machine.Schedules.{version_of};
 ghost use Rattle.flow_model.specs.Machine.Next.{least_version};
 ghost use Rattle.node_set.specs.Members.{first_from};
 ghost use Rattle.flow_state.specs.Booked.{AreApart, opened_book, room_at, one_room_more, one_room_less, begin_call, end_call, call_in, live_in, next_look_in, node_count, work_at, stops_in, on_call, on_work, link_calls, opened_one, wanting, pressed_in, call_nth};
@@ -230,6 +231,13 @@ impl Book {
         ensures { result ≡ live_in self.now version }
     {
         self.calls.has(version)
+    }
+
+    /// The version of a caller's live call. None where it has none.
+    pub fn live_call(&self, caller: u32) -> Option<u32>
+        ensures { result ≡ version_of caller self.now.book.calls }
+    {
+        self.calls.live_call(caller)
     }
 
     /// Whose a live call is.

@@ -1,6 +1,6 @@
 // The seats of live calls, and their recorded order.
 
-ghost use Rattle.std.specs.Prelude.{◌≡◌, ◌≢◌, ◌<◌, ◌≤◌, ◌+◌, ◌^◌, ℕ, true, false, [], length, map, vec_capacity, slice_index_or, None, Some, IfOk, IfSome};
+ghost use Rattle.std.specs.Prelude.{◌≡◌, ◌≢◌, ◌==◌, ◌<◌, ◌≤◌, ◌+◌, ◌^◌, ℕ, true, false, [], length, map, vec_capacity, slice_index_or, None, Some, IfOk, IfSome};
 ghost use Rattle.std.specs.List.{range_with_len};
 ghost use Rattle.script_tree.specs.declared.limits.TheConstants.{NODES, SETS, LOOKS};
 ghost use Rattle.order_graph.specs.Order.{reaches, linked, is_recorded};
@@ -281,6 +281,20 @@ impl Seating {
         let first = self.slot_of(before);
         let second = self.slot_of(after);
         is_pair(&self.order, first, second)
+    }
+
+    /// The version of a caller's live call, the least one if there were several.
+    pub(crate) fn live_call(&self, caller: u32) -> Option<u32>
+        ensures { result ≡ least_version (λ c. c.caller == caller) self.now.calls }
+    {
+        for index in 0..self.live.len() {
+            let tenant = self.live[index];
+            let seat = &self.seats[tenant.slot as usize];
+            if seat.caller() == caller {
+                return Some(tenant.version);
+            }
+        }
+        None
     }
 
     /// The least version among the direct predecessors of a live call.
