@@ -1,6 +1,7 @@
 // A report that is read back, and one that is cut.
 
 use crate::replies::{counts_of, looks_of};
+use report_text::data::{CallLine, Report};
 use report_text::{ReportFault, read_report};
 use script_tree::value::{Fault, Value};
 use signal_graph::log::{Refused, Why};
@@ -16,19 +17,32 @@ done 2 accepted 2 refused
 
 const CUT: &[u8] = b"call 1 thread 1 read a=5\nfinal a=5\n";
 
-#[test]
-fn a_report_is_read_back(rt: HostRuntime) -> Result<(), Fail> {
-    let report = read_report(rt.alloc(), REPORT)?;
-    assert_eq!(rt; report.calls.len(), 2);
-    let fire = report.calls.get(0);
-    assert!(rt; fire.version == 1 && fire.caller == 1 && counts_of(&fire.reply) == Some((2, 1)));
-    assert!(rt; looks_of(&fire.reply) == [Value::Int(6)].as_slice());
-    let read = report.calls.get(1);
-    assert!(rt; read.version == 2 && read.caller == 2 && counts_of(&read.reply).is_none());
-    assert!(rt; looks_of(&read.reply) == [Value::Int(5), Value::Fault(Fault::NoChoice)].as_slice());
-    for (place, name) in read.names.as_slice().iter().enumerate() {
-        assert!(rt; name.as_slice() == if place == 0 { b"a".as_slice() } else { b"b".as_slice() });
+// Whether the call lines are those of the text.
+fn has_its_calls(fire: &CallLine, read: &CallLine) -> bool {
+    fire.version == 1
+        && fire.caller == 1
+        && counts_of(&fire.reply) == Some((2, 1))
+        && looks_of(&fire.reply) == [Value::Int(6)].as_slice()
+        && read.version == 2
+        && read.caller == 2
+        && counts_of(&read.reply).is_none()
+        && looks_of(&read.reply) == [Value::Int(5), Value::Fault(Fault::NoChoice)].as_slice()
+}
+
+// Whether a call line looks at `a` and `b`, or at `b` alone.
+fn has_its_names(line: &CallLine) -> bool {
+    let mut expected = if line.names.len() == 2 { b'a' } else { b'b' };
+    for name in line.names.as_slice() {
+        if name.as_slice() != [expected].as_slice() {
+            return false;
+        }
+        expected = b'b';
     }
+    !line.names.as_slice().is_empty()
+}
+
+// Whether all behind the call lines is that of the text.
+fn has_the_rest(report: &Report) -> bool {
     let unknown = Refused {
         caller: 1,
         number: 2,
@@ -39,11 +53,24 @@ fn a_report_is_read_back(rt: HostRuntime) -> Result<(), Fail> {
         number: 2,
         why: Why::VersionsUsedUp(1),
     };
-    assert!(rt; report.refused.as_slice() == [unknown, used_up].as_slice());
     for (name, value) in report.finals.as_slice() {
-        assert!(rt; name.as_slice() == b"a".as_slice() && *value == Value::Bool(true));
+        if name.as_slice() != b"a".as_slice() || *value != Value::Bool(true) {
+            return false;
+        }
     }
-    assert!(rt; report.accepted == 2 && report.refusals == 2);
+    report.refused.as_slice() == [unknown, used_up].as_slice()
+        && report.finals.len() == 1
+        && report.accepted == 2
+        && report.refusals == 2
+}
+
+#[test]
+fn a_report_is_read_back(rt: HostRuntime) -> Result<(), Fail> {
+    let report = read_report(rt.alloc(), REPORT)?;
+    assert!(rt; report.calls.len() == 2);
+    assert!(rt; has_its_calls(report.calls.get(0), report.calls.get(1)));
+    assert!(rt; has_its_names(report.calls.get(0)) && has_its_names(report.calls.get(1)));
+    assert!(rt; has_the_rest(&report));
     Ok(())
 }
 

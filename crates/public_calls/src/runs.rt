@@ -39,19 +39,28 @@ fn a_run_in_pieces_of_seven_bytes(rt: HostRuntime) -> Result<(), Fail> {
     Ok(())
 }
 
-// A write that fails behind four bytes, and a read that fails behind twenty.
-#[test]
-fn faults_at_a_call(rt: HostRuntime) -> Result<(), Fail> {
-    let alloc = rt.alloc();
-    let words = run_words(alloc)?;
+// Whether a run whose second write fails ends with the first four bytes.
+fn is_cut_behind_a_write(alloc: Global, words: &[Text]) -> Result<bool, OutOfMemory> {
     let mut source = MemSource::new(alloc, DECK, 10, &[])?;
     let mut out = MemSink::new(alloc, ROOM, 4, &[2])?;
     let mut err = MemSink::new(alloc, ROOM, 7, &[])?;
-    let status = framesweep(alloc, &words, &mut source, &mut out, &mut err);
-    assert!(rt; status == 4 && out.held() == b"call".as_slice() && out.faults() == 1);
+    let status = framesweep(alloc, words, &mut source, &mut out, &mut err);
+    Ok(status == 4 && out.held() == b"call".as_slice() && out.faults() == 1)
+}
+
+// Whether a run whose third read fails writes nothing and leaves what is behind twenty bytes.
+fn is_cut_behind_a_read(alloc: Global, words: &[Text]) -> Result<bool, OutOfMemory> {
     let mut source = MemSource::new(alloc, DECK, 10, &[3])?;
     let mut out = MemSink::new(alloc, ROOM, 7, &[])?;
-    let status = framesweep(alloc, &words, &mut source, &mut out, &mut err);
-    assert!(rt; status == 3 && out.held().is_empty() && source.left().len() == DECK.len() - 20);
+    let mut err = MemSink::new(alloc, ROOM, 7, &[])?;
+    let status = framesweep(alloc, words, &mut source, &mut out, &mut err);
+    Ok(status == 3 && out.held().is_empty() && source.left().len() == DECK.len() - 20)
+}
+
+#[test]
+fn faults_at_a_call(rt: HostRuntime) -> Result<(), Fail> {
+    let words = run_words(rt.alloc())?;
+    assert!(rt; is_cut_behind_a_write(rt.alloc(), &words)?);
+    assert!(rt; is_cut_behind_a_read(rt.alloc(), &words)?);
     Ok(())
 }

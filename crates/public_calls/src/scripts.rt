@@ -75,14 +75,31 @@ fn places_of_faults(rt: HostRuntime) {
     }
 }
 
+// Whether a script is printed in its canonical form.
+fn is_printed(alloc: Global, text: &str, canonical: &[u8]) -> Result<bool, ScriptFault> {
+    if text.len() > LINE_BYTES {
+        return Ok(false);
+    }
+    let script = parse_script(alloc, text, true)?;
+    Ok(print_script(alloc, &script)?.as_slice() == canonical)
+}
+
+// Where the first faulty word of bytes is, if they are no script.
+fn place_in_bytes(alloc: Global, bytes: &[u8]) -> Option<u32> {
+    if bytes.len() > LINE_BYTES {
+        return None;
+    }
+    match parse_script_bytes(alloc, bytes, false) {
+        Err(ScriptFault::Syntax(place)) => Some(place),
+        _ => None,
+    }
+}
+
 #[test]
-fn a_script_and_a_body(rt: HostRuntime) -> Result<(), Fail> {
-    let alloc = rt.alloc();
-    let script = parse_script(alloc, "( acc )+007", true)?;
-    assert!(rt; print_script(alloc, &script)?.as_slice() == b"acc+7".as_slice());
-    let bytes = parse_script_bytes(alloc, b"a+\xff", false);
-    assert!(rt; matches!(&bytes, Err(ScriptFault::Syntax(2))));
-    let body = parse_body(alloc, "(pick1 ?? 7) - 2", 1)?;
+fn scripts_and_a_body(rt: HostRuntime) -> Result<(), Fail> {
+    assert!(rt; is_printed(rt.alloc(), "( acc )+007", b"acc+7")?);
+    assert!(rt; place_in_bytes(rt.alloc(), b"a+\xff") == Some(2));
+    let body = parse_body(rt.alloc(), "(pick1 ?? 7) - 2", 1)?;
     assert!(rt; body.eval_body(&[Value::Int(5)]) == Value::Int(3));
     Ok(())
 }
