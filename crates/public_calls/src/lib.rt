@@ -7,6 +7,10 @@
 #[cfg(test)]
 mod devices;
 #[cfg(test)]
+mod lists;
+#[cfg(test)]
+mod orders;
+#[cfg(test)]
 mod replies;
 #[cfg(test)]
 mod reports;
