@@ -6,7 +6,7 @@ use std::alloc::Global;
 use std::test::Fail;
 
 // Texts that are no script where `acc` is not allowed, and the place of the first faulty word.
-const REFUSED: [(&str, u32); 34] = [
+const REFUSED: &[(&str, u32)] = &[
     ("", 0),
     (" \t", 2),
     ("(1", 2),
@@ -66,13 +66,17 @@ fn place_in_body(alloc: Global, text: &str) -> Option<u32> {
 }
 
 #[test]
-fn places_of_faults(rt: HostRuntime) {
+fn places_in_scripts(rt: HostRuntime) {
     for (text, place) in REFUSED {
-        assert_eq!(rt; place_in_script(rt.alloc(), text), Some(place), "{text}");
+        assert!(rt; place_in_script(rt.alloc(), text) == Some(*place), "{text}");
     }
-    for (text, place) in [("pick1 + a", 8), ("pick2", 0), ("acc", 0)] {
-        assert_eq!(rt; place_in_body(rt.alloc(), text), Some(place), "{text}");
-    }
+}
+
+#[test]
+fn places_in_bodies(rt: HostRuntime) {
+    assert!(rt; place_in_body(rt.alloc(), "pick1 + a") == Some(8));
+    assert!(rt; place_in_body(rt.alloc(), "pick2") == Some(0));
+    assert!(rt; place_in_body(rt.alloc(), "acc") == Some(0));
 }
 
 // Whether a script is printed in its canonical form.
