@@ -1,7 +1,13 @@
-// Scripts and bodies where there is memory, and the place of the first faulty word of a text that is none.
+// Scripts and bodies where there is memory, the place of the first faulty word of a text that is none, and how a line is cut.
+
+ghost use Rattle.std.specs.Prelude.{◌≤◌, length};
 
 use expr_script::limits::LINE_BYTES;
-use expr_script::{ScriptFault, Value, parse_body, parse_script, parse_script_bytes, print_script};
+use expr_script::pieces::{Piece, pieces};
+use expr_script::{
+    ScriptFault, Value, parse_body, parse_script, parse_script_bytes, parse_script_pieces,
+    print_script,
+};
 use std::alloc::Global;
 use std::test::Fail;
 
@@ -106,4 +112,52 @@ fn scripts_and_a_body(rt: HostRuntime) -> Result<(), Fail> {
     let body = parse_body(rt.alloc(), "(pick1 ?? 7) - 2", 1)?;
     assert!(rt; body.eval_body(&[Value::Int(5)]) == Value::Int(3));
     Ok(())
+}
+
+// Where the first faulty word is, if the pieces of a text from one number up to another are no script.
+fn place_in_part(alloc: Global, text: &[u8], from: usize, to: usize, acc: bool) -> Option<u32>
+    requires { length text.now ≤ LINE_BYTES }
+{
+    let Ok(cut) = pieces(alloc, text) else {
+        return None;
+    };
+    let found = cut.as_slice();
+    let (until, _) = found.split_at(to.min(found.len()));
+    let (_, part) = until.split_at(from.min(until.len()));
+    match parse_script_pieces(alloc, text, part, acc) {
+        Err(ScriptFault::Syntax(place)) => Some(place),
+        _ => None,
+    }
+}
+
+#[test]
+fn places_in_a_part_of_a_line(rt: HostRuntime) {
+    let line = b"f = 0 : acc + a , pick1";
+    assert!(rt; place_in_part(rt.alloc(), line, 4, 7, true).is_none());
+    assert!(rt; place_in_part(rt.alloc(), line, 4, 7, false) == Some(8));
+    assert!(rt; place_in_part(rt.alloc(), line, 4, 6, true) == Some(23));
+}
+
+fn is_cut(alloc: Global, text: &[u8], places: &[Piece]) -> bool {
+    match pieces(alloc, text) {
+        Ok(found) => found.as_slice() == places,
+        Err(_) => false,
+    }
+}
+
+const PLACES: &[Piece] = &[
+    Piece { from: 0, len: 1 },
+    Piece { from: 1, len: 2 },
+    Piece { from: 3, len: 1 },
+    Piece { from: 5, len: 2 },
+    Piece { from: 8, len: 1 },
+];
+
+const SIGNS: &[Piece] = &[Piece { from: 0, len: 2 }, Piece { from: 2, len: 1 }];
+
+#[test]
+fn pieces_of_a_line(rt: HostRuntime) {
+    assert!(rt; is_cut(rt.alloc(), b"a<==\tb1 \xff", PLACES));
+    assert!(rt; is_cut(rt.alloc(), b" \t", &[]));
+    assert!(rt; is_cut(rt.alloc(), b"???", SIGNS));
 }
