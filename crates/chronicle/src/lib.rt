@@ -12,6 +12,3 @@ mod writer;
 pub use entry::{Entry, Named, Names};
 pub use note::Note;
 pub use writer::Writer;
-
-#[cfg(test)]
-mod tests;

@@ -7,5 +7,3 @@ pub use list::NodeList;
 mod entry;
 pub mod laws;
 mod list;
-#[cfg(test)]
-mod tests;

@@ -8,8 +8,6 @@ pub mod laws;
 mod order;
 mod pair;
 mod slot_set;
-#[cfg(test)]
-mod tests;
 
 /// The largest number of callers, and so of slots.
 pub const MAX_CALLERS: u32 = 256;

@@ -1,16 +1,19 @@
-//! Tests of the public calls of the crates below, of what no clause says: vectors from outside, the rows that a reader
-//! worked out by hand, and that a call answers otherwise than want of memory where there is memory. They stand together,
-//! since a crate with tests is proved twice. There is no code here.
+//! Tests of public calls that the program does not make, and of what no clause says: a vector or a row that a reader
+//! worked out by hand for each, and that a call answers otherwise than want of memory where there is memory. They stand
+//! together, since a crate with tests is proved twice; what the built program shows stands in the scripts under tests/.
+//! There is no code here.
 #![tactic(auto)]
 
 #[cfg(test)]
-mod decks;
-#[cfg(test)]
 mod devices;
 #[cfg(test)]
-mod graphs;
+mod histories;
 #[cfg(test)]
-mod lines;
+mod lists;
+#[cfg(test)]
+mod orders;
+#[cfg(test)]
+mod replies;
 #[cfg(test)]
 mod reports;
 #[cfg(test)]
@@ -19,7 +22,3 @@ mod runs;
 mod scripts;
 #[cfg(test)]
 mod serial_runs;
-#[cfg(test)]
-mod tokens;
-#[cfg(test)]
-mod words;

@@ -1,14 +1,15 @@
-// The worked example, and a list with Marks between Dones whose first part has ended.
+// Lists of a node, worked out by hand.
+
 ghost use Rattle.std.specs.Prelude.{◌≡◌, pos, nat_lt, [], ◌∷◌, Some, None, true, false, IfOk};
 ghost use Rattle.script_tree.specs.declared.value.Value.TheVariants.{Int};
-ghost use Rattle.node_versions.specs.Entries.{Mark, Frame, Done, HasEndedPrefix, collected, with_entries};
+ghost use Rattle.node_versions.specs.declared.entry.State.TheVariants.{Mark, Frame, Done};
+ghost use Rattle.node_versions.specs.Entries.{HasEndedPrefix, collected, with_entries};
 
-use crate::{Entry, NodeList, State};
+use node_versions::{Entry, NodeList, State};
 use script_tree::memory::OutOfMemory;
 use script_tree::picks::Picks;
 use script_tree::value::Value;
 use std::alloc::Global;
-use std::process::Abort;
 use std::test::Fail;
 
 fn mark(version: u32) -> Entry
@@ -31,26 +32,17 @@ fn frame(version: u32) -> Entry
     }
 }
 
-// A Mark is 'm', a Frame 'f', a Done that changed 'd', and one that didn't 's'.
-fn letter(state: &State) -> char {
-    match state {
-        State::Mark => 'm',
-        State::Frame => 'f',
-        State::Done { changed, .. } => { if *changed { 'd' } else { 's' } }
-    }
-}
-
-// The entries' versions, slots and states, in order.
-fn compare(rt: &impl Abort, list: &NodeList, expected: &[(u32, u32, char)]) {
-    assert_eq!(rt; list.len() as usize, expected.len());
-    for (index, row) in expected.iter().enumerate() {
-        if index < list.len() as usize {
-            let entry = list.get(index as u32);
-            let found = (entry.version, entry.slot, letter(&entry.state));
-            assert_eq!(rt; found, *row, "entry {index}");
-            assert_eq!(rt; list.entry_of(entry.version), Some(index as u32));
-        }
-    }
+#[test]
+fn a_mark_is_raised_and_finished(rt: HostRuntime) -> Result<(), Fail> {
+    let mut list = NodeList::new(rt.alloc(), 4, 1, Value::Int(5), Picks::new())?;
+    list.insert_at(1, mark(2));
+    assert!(rt; list.entry_of(2) == Some(1) && list.first_open().is_none());
+    list.raise_mark(2);
+    assert!(rt; list.first_open() == Some(1));
+    list.finish(2, Value::Int(6), true, Picks::new());
+    assert!(rt; list.value_for(2) == Value::Int(6) && list.value_before(2) == Value::Int(5));
+    assert!(rt; list.first_open().is_none());
+    Ok(())
 }
 
 fn picks_of(first: Option<u32>, second: Option<u32>) -> Picks
@@ -81,22 +73,6 @@ fn sample(alloc: Global) -> Result<NodeList, OutOfMemory>
     Ok(list)
 }
 
-#[test]
-fn worked_example(rt: HostRuntime) -> Result<(), Fail> {
-    let mut list = NodeList::new(rt.alloc(), 4, 1, Value::Int(5), Picks::new())?;
-    compare(&rt, &list, &[(0, 0, 's')]);
-    list.insert_at(1, mark(2));
-    compare(&rt, &list, &[(0, 0, 's'), (2, 3, 'm')]);
-    list.raise_mark(2);
-    assert_eq!(rt; list.first_open(), Some(1));
-    list.finish(2, Value::Int(6), true, Picks::new());
-    compare(&rt, &list, &[(0, 0, 's'), (2, 3, 'd')]);
-    assert_eq!(rt; list.value_for(2), Value::Int(6));
-    assert_eq!(rt; list.value_before(2), Value::Int(5));
-    assert!(rt; list.first_open().is_none());
-    Ok(())
-}
-
 // Collects as if the calls with a version below the limit had ended.
 fn collect_below(list: &mut NodeList, limit: u32) -> u32
     requires { HasEndedPrefix (λ e. nat_lt e.version limit) list.old.entries }
@@ -106,11 +82,13 @@ fn collect_below(list: &mut NodeList, limit: u32) -> u32
 }
 
 #[test]
-fn collecting(rt: HostRuntime) -> Result<(), Fail> {
+fn ended_entries_are_collected(rt: HostRuntime) -> Result<(), Fail> {
     let mut list = sample(rt.alloc())?;
-    assert_eq!(rt; list.place_of(|entry| entry.slot == 3), 1);
-    assert_eq!(rt; collect_below(&mut list, 5), 2);
-    compare(&rt, &list, &[(2, 4, 'd'), (9, 3, 'm'), (6, 4, 'f')]);
+    assert!(rt; list.place_of(|entry| entry.slot == 3) == 1);
+    assert!(rt; collect_below(&mut list, 5) == 2 && list.len() == 3);
+    assert!(rt;
+        list.entry_of(2) == Some(0) && list.entry_of(9) == Some(1) && list.entry_of(6) == Some(2)
+    );
     Ok(())
 }
 

@@ -1,9 +1,11 @@
+// Histories and notes of them, in one thread and in two, and entries that lie on the heap.
+
 ghost use Rattle.std.specs.Prelude.{◌≡◌, Some, IsSome};
 
-use super::*;
+use chronicle::{Named, Names, Note, Writer};
 use std::mem::size_of;
 use std::snapshot::Snapshot;
-use std::test::*;
+use std::test::Fail;
 use std::thread::{Threads, join_mut};
 
 // Names a number that a caller sent to a node.
