@@ -56,7 +56,7 @@ seat_taken callers nodes capacity seats live order k kept taken = slot_used call
     go true e = refl
     go false e = absurd (taken (kept.free k e))
 
-free-step : (n k : ℕ) (calls : List LiveCall) (b : Bool) → uses_slot k calls ≡ b → free_slot (suc n) k calls ≡ elim b [ true ↦ free_slot n (suc k) calls | false ↦ k ]
+pub free-step : (n k : ℕ) (calls : List LiveCall) (b : Bool) → uses_slot k calls ≡ b → free_slot (suc n) k calls ≡ elim b [ true ↦ free_slot n (suc k) calls | false ↦ k ]
 free-step n k calls b e = ap (λ (b : Bool). elim b [ true ↦ free_slot n (suc k) calls | false ↦ k ]) e
 
 pub free_here : (callers k all : ℕ) (calls : List LiveCall) → k < callers → free_slot (callers - k) k calls ≡ all → uses_slot k calls ≡ false → k ≡ all
@@ -116,7 +116,7 @@ few_live callers nodes capacity seats live order k kept h none =
 
 -- ---- the seats with one more call
 
-slot-more : (live : List Tenant) (n : Tenant) (k : ℕ) → has_slot (live ++ n ∷ []) k ≡ (has_slot live k || (n.slot == k))
+pub slot-more : (live : List Tenant) (n : Tenant) (k : ℕ) → has_slot (live ++ n ∷ []) k ≡ (has_slot live k || (n.slot == k))
 slot-more [] n k = or_none (n.slot == k)
   where
     or_none : (b : Bool) → (b || false) ≡ b

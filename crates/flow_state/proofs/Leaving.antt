@@ -33,13 +33,13 @@ agree seats live t k (x ∷ xs) says there e ok within = (
   agree seats live t k xs says there e ok.3 (λ j h. within j (or_there (x.slot == j) _ h)),
 )
 
-tenants-agree : (seats : List Seated) (live : List Tenant) (t k : ℕ) → AreTenants seats live → IsSlotOf seats live t k → Agree t k live
+pub tenants-agree : (seats : List Seated) (live : List Tenant) (t k : ℕ) → AreTenants seats live → IsSlotOf seats live t k → Agree t k live
 tenants-agree seats live t k ok at = agree seats live t k live (tells seats live ok) at.there at.version ok (λ j h. h)
 
 left-cons : (x : Tenant) (xs : List Tenant) (t : ℕ) (b : Bool) → (x.version == t) ≡ b → without_tenant (x ∷ xs) t ≡ cond (not b) (x ∷ without_tenant xs t) (without_tenant xs t)
 left-cons x xs t b e = ap (λ b. cond (not b) (x ∷ without_tenant xs t) (without_tenant xs t)) e
 
-slot-left : (xs : List Tenant) (t k j : ℕ) → Agree t k xs → has_slot (without_tenant xs t) j ≡ (has_slot xs j && not (j == k))
+pub slot-left : (xs : List Tenant) (t k j : ℕ) → Agree t k xs → has_slot (without_tenant xs t) j ≡ (has_slot xs j && not (j == k))
 slot-left [] t k j a = refl
 slot-left (x ∷ xs) t k j a = ap (λ ys. has_slot ys j) (left-cons x xs t (x.slot == k) a.0) ∙ go (x.slot == k) refl (slot-left xs t k j a.1)
   where

@@ -1,10 +1,11 @@
 -- Walks over lists, one item at a time.
-use Rattle.std.proofs.Common.{◌≡◌, ◌≢◌, ℕ, ◌+◌, ◌<◌, Bool, true, false, ◌==◌, ◌||◌, List, ◌∷◌, length, get_or, drop, sym, ap, ◌∙◌, add-one, Some}
+use Rattle.std.proofs.Common.{◌≡◌, ◌≢◌, ℕ, ◌+◌, ◌<◌, Bool, true, false, ◌==◌, ◌||◌, List, [], ◌∷◌, length, get_or, drop, sym, ap, ◌∙◌, add-one, Some, None, zero, suc, arith}
 use Rattle.std.proofs.Math.Seq.{drop-cons}
 use Rattle.std.proofs.lemmas.Bool.{eq-eqb, ne_eqb}
 use Rattle.script_tree.specs.declared.value.Value.{Value}
 use Rattle.flow_model.specs.Machine.Words.{gathered_of, set_value}
 use Rattle.flow_state.specs.declared.seating.Tenant.{Tenant}
+use Rattle.flow_state.specs.Booked.{AreApart}
 use Rattle.flow_state.specs.Seats.{slot_in, has_version}
 
 -- the rest of a list after one item more
@@ -43,3 +44,15 @@ set_found xs n i v all new d h so e is = ap (λ w. set_value n w (drop (i + 1) x
 
 pub set_more : (xs : List (ℕ × Value)) (n i : ℕ) (v all new : Value) (d : ℕ × Value) → i < length xs → set_value n v (drop i xs) ≡ all → (get_or xs i d).0 ≢ n → new ≡ v → set_value n new (drop (i + 1) xs) ≡ all
 set_more xs n i v all new d h so e is = ap (λ w. set_value n w (drop (i + 1) xs)) is ∙ sym (set-here n v (get_or xs i d) (drop (i + 1) xs) false (ne_eqb _ n e)) ∙ sym (ap (set_value n v) (rest_is xs i d h)) ∙ so
+
+-- where no two values are of one node, the value at any place is the node's
+pub gathered_there : (xs : List (ℕ × Value)) (m i : ℕ) (d : ℕ × Value) → AreApart xs → i < length xs → (get_or xs i d).0 ≡ m → Some (get_or xs i d).1 ≡ gathered_of m xs
+gathered_there [] m i d apart h e = absurd (omega (arith, h))
+gathered_there (x ∷ xs) m zero d apart h e = sym (gathered-here m x xs true (eq-eqb x.0 m e))
+gathered_there (x ∷ xs) m (suc i) d apart h e =
+    let r = gathered_there xs m i d apart.1 (omega (arith, h)) e in
+    let other : x.0 ≢ m = λ same. some≢none (get_or xs i d).1 (r ∙ ap (λ k. gathered_of k xs) (sym same) ∙ apart.0) in
+    r ∙ sym (gathered-here m x xs false (ne_eqb x.0 m other))
+  where
+    some≢none : (v : Value) → Some v ≡ None → ⊥
+    some≢none v e = cc

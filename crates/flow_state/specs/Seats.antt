@@ -7,6 +7,7 @@ use Rattle.order_graph.specs.Order.{Order, reaches, is_recorded, retired}
 use Rattle.flow_model.specs.Machine.Steps.{without_call}
 use Rattle.flow_model.specs.Machine.State.{LiveCall, no_call, call_of, call_or, change_call}
 use Rattle.std.specs.Prelude.{is_some}
+use Rattle.node_set.specs.Members.{Members}
 use Rattle.flow_model.specs.Parts.Books.{Work}
 use Rattle.flow_state.specs.declared.seating.Tenant.{Tenant}
 use Rattle.flow_state.specs.declared.seating.TheConstants.{HINTS}
@@ -130,10 +131,16 @@ pub record AreSeats (callers nodes capacity : ℕ) (seats : List Seated) (live :
   pub linked : AreLinked live order.pairs
   pub room : callers ≤ capacity
 
--- Seats with hints: in which seat a call may sit, by the last bits of its version. A hint may be wrong.
-pub record IsSeating (callers nodes capacity : ℕ) (seats : List Seated) (live : List Tenant) (order : Order) (hints : List ℕ) : Type 0 where
+-- The set of slots that no call has.
+pub record IsFree (callers : ℕ) (live : List Tenant) (free : Members) : Type 0 where
+  pub size : free.size ≡ callers
+  pub slots : (k : ℕ) → k < callers → is_in k free.nodes ≡ not (has_slot live k)
+
+-- Seats with hints and free slots. A hint says in which seat a call may sit, by the last bits of its version; it may be wrong.
+pub record IsSeating (callers nodes capacity : ℕ) (seats : List Seated) (live : List Tenant) (order : Order) (hints : List ℕ) (free : Members) : Type 0 where
   pub kept : AreSeats callers nodes capacity seats live order
   pub hint_count : length hints ≡ HINTS
+  pub free_kept : IsFree callers live free
 
 -- a free seat
 abbrev pub free_seat : ℕ → ℕ → Seated

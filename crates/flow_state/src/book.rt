@@ -24,6 +24,7 @@ ghost use Rattle.flow_state.specs.Jobs.{found_items, answer_of, IsJob};
 
 use crate::found::Finding;
 use crate::job::Job;
+use crate::outcome::Answer;
 use crate::room::Room;
 use crate::seating::Seating;
 use crate::shelf::Shelf;
@@ -391,6 +392,14 @@ impl Book {
         self.shelves[node as usize].gathered(input)
     }
 
+    /// The same, at once where the value was the one at this place, counted from 0, to be gathered for the node.
+    pub fn gathered_near(&self, node: u32, place: u32, input: u32) -> Option<Value>
+        requires { node < node_count self.now }
+        ensures { result ≡ gathered_of input (work_at self.now node).gathered }
+    {
+        self.shelves[node as usize].gathered_near(place, input)
+    }
+
     /// What is found for a node.
     pub fn found(&self, node: u32) -> Option<&Finding>
         requires { node < node_count self.now }
@@ -423,6 +432,21 @@ impl Book {
             acc,
             gathered: shelf.pairs(),
             found: shelf.found_items(),
+        }
+    }
+
+    /// The answer of a node's job for a call, as `job` and `Job::evaluate` give it, over what is gathered as it stands.
+    /// `acc` is the node's value before the call. Takes no memory.
+    pub fn evaluate(&self, graph: &Graph, version: u32, node: u32, acc: Value) -> Answer
+        requires nodes { node_count self.now ≡ length graph.now.nodes }
+        requires job { IsJob graph.now node (found_items (work_at self.now node).found) }
+        ensures { result ≡ answer_of graph.now version node (work_at self.now node).gathered acc (found_items (work_at self.now node).found) }
+    {
+        let outcome = self.shelves[node as usize].outcome(graph.node(node), acc);
+        Answer {
+            version,
+            node,
+            outcome,
         }
     }
 

@@ -1,6 +1,6 @@
 // Jobs: evaluations that need no book.
 
-ghost use Rattle.std.specs.Prelude.{◌≡◌, ◌≤◌, length, map, Some, None};
+ghost use Rattle.std.specs.Prelude.{◌≡◌, ◌≤◌, length, map, take, Some, None};
 ghost use Rattle.std.specs.Option.{option_copied};
 ghost use Rattle.std.specs.List.{AllByRecursion};
 ghost use Rattle.script_tree.specs.declared.limits.TheConstants.{INPUTS, SELECTORS};
@@ -11,11 +11,15 @@ ghost use Rattle.signal_graph.specs.Values.{select};
 ghost use Rattle.signal_graph.specs.Evaluation.{CanRun, CanSelect, CanEvaluate};
 ghost use Rattle.flow_model.specs.Machine.Words.{gathered_of, run_over, pick_over, first_pick_over, body_over, finds};
 ghost use Rattle.flow_state.specs.Found.{selection_of};
-ghost use Rattle.flow_state.specs.Jobs.{read_from, found_as, outcome_in, HasFew, FitsBody};
+ghost use Rattle.signal_graph.specs.Graph.{body_of};
+ghost use Rattle.flow_state.specs.Booked.{AreApart};
+ghost use Rattle.flow_state.specs.Jobs.{read_from, found_as, outcome_in, outcome_of, HasFew, FitsBody};
 
 use crate::found::{Found, FoundList};
 use crate::outcome::{Answer, Outcome};
 use crate::row::{Pairs, Row};
+use crate::shelf::gathered_near;
+use script_tree::limits::INPUTS;
 use script_tree::script::Script;
 use script_tree::value::{Fault, Value};
 use signal_graph::graph::Graph;
@@ -37,12 +41,13 @@ pub struct Job<'g> {
 impl<'g> Model for Job<'g> {
     ghost use Rattle.flow_state.specs.declared.outcome.Answer.{Answer};
     ghost use Rattle.flow_state.specs.Jobs.{answer_of, IsJob};
+    ghost use Rattle.flow_state.specs.Booked.{AreApart};
 
     ghost Value = { Answer };
 
     ghost view = { λ j. answer_of j.graph.now j.version j.node j.gathered j.acc j.found };
 
-    ghost invariant = { λ j. IsJob j.graph.now j.node j.found };
+    ghost invariant = { λ j. (IsJob j.graph.now j.node j.found) × AreApart j.gathered };
 }
 
 impl Job<'_> {
@@ -58,16 +63,32 @@ impl Job<'_> {
         ensures { result ≡ self.now }
     {
         let node = self.graph.node(self.node);
-        let gathered = self.gathered.as_slice();
-        let outcome = match &self.found {
-            None => evaluated(node, gathered, self.acc),
-            Some(found) => Outcome::Body(body_value(node.body(), found, gathered)),
-        };
+        let outcome = outcome(node, self.gathered.as_slice(), self.acc, &self.found);
         Answer {
             version: self.version,
             node: self.node,
             outcome,
         }
+    }
+}
+
+/// What a node's scripts find over what is gathered, or where something is found already the value of its body. No two
+/// values are gathered of one node. Takes no memory.
+pub(crate) fn outcome(
+    node: &Node,
+    gathered: &[(u32, Value)],
+    acc: Value,
+    found: &Option<FoundList>,
+) -> Outcome
+    requires apart { AreApart gathered.now }
+    requires can { CanEvaluate node.now }
+    requires few { HasFew node.now }
+    requires body { FitsBody (body_of node.now) found.now }
+    ensures { result ≡ outcome_of node.now gathered.now acc found.now }
+{
+    match found {
+        None => evaluated(node, gathered, acc),
+        Some(found) => Outcome::Body(body_value(node.body(), found, gathered)),
     }
 }
 
@@ -83,17 +104,58 @@ fn read_from(gathered: &[(u32, Value)], input: u32) -> Value
     Value::Fault(Fault::NoChoice)
 }
 
+// The same, at once where the value stands at this place.
+fn read_near(gathered: &[(u32, Value)], place: usize, input: u32) -> Value
+    requires { AreApart gathered.now }
+    ensures { result ≡ read_from gathered.now input }
+{
+    match gathered_near(gathered, place, input) {
+        Some(value) => value,
+        None => Value::Fault(Fault::NoChoice),
+    }
+}
+
+// The gathered values of inputs in their order, in the front of an array. They are mostly gathered in that order.
+fn gather<const N: usize>(inputs: &[u32], gathered: &[(u32, Value)]) -> [Value; N]
+    requires apart { AreApart gathered.now }
+    requires fits { length inputs.now ≤ N }
+    ensures { take (length inputs.now) result ≡ map (read_from gathered.now) inputs.now }
+{
+    let mut values = [Value::Fault(Fault::NoChoice); N];
+    for (place, input) in inputs.iter().enumerate() {
+        values[place] = read_near(gathered, place, *input);
+    }
+    values
+}
+
+// Most scripts have no more inputs. An array of so many values is made faster than one for as many as there may be.
+const FEW: usize = 4;
+
 // The value of a script over what is gathered.
 fn run(script: &Script, inputs: &[u32], gathered: &[(u32, Value)], acc: Value) -> Value
+    requires apart { AreApart gathered.now }
     requires fits { CanRun script.now inputs.now }
     requires few { length inputs.now ≤ INPUTS }
     ensures { result ≡ run_over script.now inputs.now (read_from gathered.now) acc }
 {
-    let mut row = Row::new();
-    for input in inputs {
-        row.push(read_from(gathered, *input));
+    let count = inputs.len();
+    if count > FEW {
+        return run_long(script, inputs, gathered, acc);
     }
-    script.eval(row.as_slice(), acc)
+    let values = gather::<FEW>(inputs, gathered);
+    script.eval(&values[..count], acc)
+}
+
+// The same for a script with as many inputs as there may be.
+fn run_long(script: &Script, inputs: &[u32], gathered: &[(u32, Value)], acc: Value) -> Value
+    requires apart { AreApart gathered.now }
+    requires fits { CanRun script.now inputs.now }
+    requires few { length inputs.now ≤ INPUTS }
+    ensures { result ≡ run_over script.now inputs.now (read_from gathered.now) acc }
+{
+    let count = inputs.len();
+    let values = gather::<INPUTS>(inputs, gathered);
+    script.eval(&values[..count], acc)
 }
 
 // The candidate that a selector's value selects, or the fault in its place.
@@ -117,6 +179,7 @@ fn select(value: Value, candidates: &[u32]) -> Found
 
 // What all selectors select.
 fn select_all(selectors: &[Selector], gathered: &[(u32, Value)]) -> FoundList
+    requires apart { AreApart gathered.now }
     requires can { AllByRecursion CanSelect selectors.now }
     requires few { AllByRecursion (λ s. length s.inputs ≤ INPUTS) selectors.now }
     requires count { length selectors.now ≤ SELECTORS }
@@ -137,6 +200,7 @@ fn select_all(selectors: &[Selector], gathered: &[(u32, Value)]) -> FoundList
 
 // What the scripts of a node find.
 fn evaluated(node: &Node, gathered: &[(u32, Value)], acc: Value) -> Outcome
+    requires apart { AreApart gathered.now }
     requires can { CanEvaluate node.now }
     requires few { HasFew node.now }
     ensures { result ≡ outcome_in (finds node.now (read_from gathered.now) acc) }

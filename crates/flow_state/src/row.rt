@@ -1,32 +1,32 @@
 // Values in rows of fixed length.
 
 ghost use Rattle.std.specs.Prelude.{◌≡◌, ◌<◌, [], ◌∷◌, ◌++◌, length};
-ghost use Rattle.script_tree.specs.declared.limits.TheConstants.{INPUTS};
+ghost use Rattle.script_tree.specs.declared.limits.TheConstants.{SELECTORS};
 
-use script_tree::limits::INPUTS;
+use script_tree::limits::SELECTORS;
 use script_tree::value::{Fault, Value};
 use std::marker::Model;
 
 /// The most values that are gathered for a node: one for each input and each pick.
 pub(crate) const PAIRS: usize = 68;
 
-/// At most as many values as a script has inputs. Contracts see the list of the values.
+/// At most as many values as a body has picks. Contracts see the list of the values.
 #[derive(Drop)]
 pub(crate) struct Row {
-    values: [Value; INPUTS],
+    values: [Value; SELECTORS],
     len: usize,
 }
 
 impl Model for Row {
     ghost use Rattle.std.specs.Prelude.{List, take, ◌≤◌};
     ghost use Rattle.script_tree.specs.declared.value.Value.{Value as Held};
-    ghost use Rattle.script_tree.specs.declared.limits.TheConstants.{INPUTS};
+    ghost use Rattle.script_tree.specs.declared.limits.TheConstants.{SELECTORS};
 
     ghost Value = { List Held };
 
     ghost view = { λ r. take r.len r.values };
 
-    ghost invariant = { λ r. r.len ≤ INPUTS };
+    ghost invariant = { λ r. r.len ≤ SELECTORS };
 }
 
 impl Row {
@@ -35,14 +35,14 @@ impl Row {
         ensures { result ≡ [] }
     {
         Row {
-            values: [Value::Fault(Fault::NoChoice); INPUTS],
+            values: [Value::Fault(Fault::NoChoice); SELECTORS],
             len: 0,
         }
     }
 
     /// Adds a value at the end.
     pub(crate) fn push(&mut self, value: Value)
-        requires { length self.old < INPUTS }
+        requires { length self.old < SELECTORS }
         ensures { self.new ≡ self.old ++ value ∷ [] }
     {
         self.values[self.len] = value;

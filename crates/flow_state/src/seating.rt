@@ -3,6 +3,7 @@
 ghost use Rattle.std.specs.Prelude.{◌≡◌, ◌≢◌, ◌==◌, ◌<◌, ◌≤◌, ◌+◌, ◌^◌, ℕ, true, false, [], length, map, vec_capacity, slice_index_or, None, Some, IfOk, IfSome};
 ghost use Rattle.std.specs.List.{range_with_len};
 ghost use Rattle.script_tree.specs.declared.limits.TheConstants.{NODES, SETS, LOOKS};
+ghost use Rattle.signal_graph.specs.Graph.{is_in};
 ghost use Rattle.order_graph.specs.Order.{reaches, linked, is_recorded};
 ghost use Rattle.flow_model.specs.Machine.State.{no_call, call_of};
 ghost use Rattle.flow_model.specs.Machine.Changes.{closed};
@@ -13,6 +14,7 @@ ghost use Rattle.signal_graph.specs.Machine.{sets_of, looks_of, misnamed};
 ghost use Rattle.flow_state.specs.Seats.{find_call, has_call, on_live, stops_live, presses_live, pressed_live, before_live, framing_before_live, LeadsToLive, with_pairs, one_call_more, slot_in, has_version, free_seat, no_calls, left_calls, without_tenant};
 
 use crate::seat::Seat;
+use node_set::NodeSet;
 use order_graph::{MAX_CALLERS, OrderGraph};
 use script_tree::limits::NODES;
 use script_tree::memory::OutOfMemory;
@@ -34,7 +36,7 @@ pub(crate) struct Tenant {
 }
 
 /// The live calls in the order of their beginnings, each in the seat of its slot, and their recorded order. Only `new`
-/// takes memory.
+/// takes memory. `free` has the slots that no call has.
 ///
 /// Hints tell by a version's last bits in which seat its call may sit, so that most calls are found without a walk.
 #[derive(Drop)]
@@ -45,6 +47,7 @@ pub(crate) struct Seating {
     live: Vec<Tenant>,
     order: OrderGraph,
     hints: Vec<u16>,
+    free: NodeSet,
 }
 
 impl Model for Seating {
@@ -55,7 +58,7 @@ impl Model for Seating {
 
     ghost view = { λ s. live_calls s.callers s.nodes s.seats.items s.live.items s.order };
 
-    ghost invariant = { λ s. IsSeating s.callers s.nodes (vec_capacity s.live) s.seats.items s.live.items s.order s.hints.items };
+    ghost invariant = { λ s. IsSeating s.callers s.nodes (vec_capacity s.live) s.seats.items s.live.items s.order s.hints.items s.free };
 }
 
 impl Seating {
@@ -70,6 +73,7 @@ impl Seating {
         let live = Vec::with_capacity(alloc, callers as usize)?;
         let order = OrderGraph::new(alloc, callers)?;
         let hints = vec![in alloc; 0; HINTS]?;
+        let free = all_slots(alloc, callers)?;
         Ok(Seating {
             callers,
             nodes,
@@ -77,6 +81,7 @@ impl Seating {
             live,
             order,
             hints,
+            free,
         })
     }
 
@@ -166,13 +171,11 @@ impl Seating {
         ensures slot { result ≡ free_slot self.now.callers 0 self.now.calls }
         ensures free { result < self.now.callers → uses_slot result self.now.calls ≡ false }
     {
-        for slot in 0..self.callers {
-            let seat = &self.seats[slot as usize];
-            if seat.version() == 0 {
-                return slot;
-            }
+        self.free.is_kept();
+        match self.free.first() {
+            Some(slot) => slot,
+            None => self.callers,
         }
-        self.callers
     }
 
     /// A call begins, with a version above those of all live calls, in the least free slot. It names what it has to in this
@@ -200,6 +203,7 @@ impl Seating {
         self.live.push_reserved(Tenant { version, slot });
         self.seats[slot as usize].begin(graph, version, caller, call, looked);
         self.hints[version as usize % HINTS] = slot as u16;
+        self.free.remove(slot);
     }
 
     /// Opens a node that the call wanted.
@@ -428,6 +432,7 @@ impl Seating {
         let slot = self.slot_of(version);
         self.order.retire(slot);
         take_tenant(&mut self.live, version);
+        self.free.insert(slot);
         self.seats[slot as usize].end()
     }
 }
@@ -452,6 +457,19 @@ fn free_seats(alloc: Global, callers: u32, nodes: u32) -> Result<Vec<Seat>, OutO
         seats.push(seat)?;
     }
     Ok(seats)
+}
+
+// The set of all slots.
+fn all_slots(alloc: Global, callers: u32) -> Result<NodeSet, OutOfMemory>
+    requires { callers ≤ NODES }
+    ensures size { IfOk result (λ slots. slots.size ≡ callers) }
+    ensures all { IfOk result (λ slots. (k : ℕ) → k < callers → is_in k slots.nodes ≡ true) }
+{
+    let mut slots = NodeSet::new(alloc, callers)?;
+    for slot in 0..callers {
+        slots.insert(slot);
+    }
+    Ok(slots)
 }
 
 // Takes out the tenant with this version.

@@ -7,12 +7,17 @@ ghost use Rattle.flow_state.specs.Booked.{AreApart};
 ghost use Rattle.flow_model.specs.Parts.Books.{no_work, with_gathered, with_found, with_body, forgotten};
 ghost use Rattle.flow_state.specs.Found.{found_of, found_option};
 ghost use Rattle.flow_state.specs.Seats.{with_work};
-ghost use Rattle.flow_state.specs.Jobs.{found_items, items_of};
+ghost use Rattle.signal_graph.specs.Graph.{body_of};
+ghost use Rattle.signal_graph.specs.Evaluation.{CanEvaluate};
+ghost use Rattle.flow_state.specs.Jobs.{found_items, items_of, outcome_of, HasFew, FitsBody};
 
 use crate::found::{Finding, FoundList};
+use crate::job::outcome;
+use crate::outcome::Outcome;
 use crate::row::Pairs;
 use script_tree::memory::OutOfMemory;
 use script_tree::value::Value;
+use signal_graph::node::Node;
 use std::alloc::Global;
 use std::marker::Model;
 
@@ -60,10 +65,30 @@ impl Shelf {
         gathered_in(self.gathered.as_slice(), input)
     }
 
-    /// All gathered values.
+    /// The same, at once where the value stands at this place.
+    pub(crate) fn gathered_near(&self, place: u32, input: u32) -> Option<Value>
+        ensures { result ≡ gathered_of input self.now.work.gathered }
+    {
+        gathered_near(self.gathered.as_slice(), place as usize, input)
+    }
+
+    /// What a node's scripts find over what is gathered, or where something is found already the value of its body. Takes
+    /// no memory.
+    pub(crate) fn outcome(&self, node: &Node, acc: Value) -> Outcome
+        requires can { CanEvaluate node.now }
+        requires few { HasFew node.now }
+        requires body { FitsBody (body_of node.now) (found_items self.now.work.found) }
+        ensures { result ≡ outcome_of node.now self.now.work.gathered acc (found_items self.now.work.found) }
+    {
+        let found = self.found_items();
+        outcome(node, self.gathered.as_slice(), acc, &found)
+    }
+
+    /// All gathered values, no two of one node.
     pub(crate) fn pairs(&self) -> Pairs
         requires { length self.now.work.gathered ≤ 68 }
-        ensures { result ≡ self.now.work.gathered }
+        ensures pairs { result ≡ self.now.work.gathered }
+        ensures apart { AreApart self.now.work.gathered }
     {
         pairs_of(self.gathered.as_slice())
     }
@@ -145,6 +170,20 @@ fn pairs_of(gathered: &[(u32, Value)]) -> Pairs
         pairs.push(*node, *value);
     }
     pairs
+}
+
+/// The value that is gathered of a node, at once where it stands at this place. No two values are gathered of one node.
+pub(crate) fn gathered_near(gathered: &[(u32, Value)], place: usize, input: u32) -> Option<Value>
+    requires { AreApart gathered.now }
+    ensures { result ≡ gathered_of input gathered.now }
+{
+    if place < gathered.len() {
+        let pair = gathered[place];
+        if pair.0 == input {
+            return Some(pair.1);
+        }
+    }
+    gathered_in(gathered, input)
 }
 
 fn gathered_in(gathered: &[(u32, Value)], input: u32) -> Option<Value>

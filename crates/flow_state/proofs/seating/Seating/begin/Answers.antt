@@ -6,6 +6,7 @@ use Rattle.flow_state.specs.Booked.{begun_call}
 use Rattle.flow_state.specs.Seats.{Seated, LiveCalls, has_call, has_slot, has_version}
 use Rattle.flow_state.proofs.SeatLemmas.{calls-has}
 use Rattle.flow_state.proofs.Beginning.{slot_used, few_live, read_version, taken_by, begun_kept, begun_seen}
+use Rattle.flow_state.proofs.FreeSlots.{free_taken}
 use Rattle.flow_state.proofs.seating.Seating.begin.Goals as goal
 
 pub push_reserved-requires : goal.push_reserved-requires
@@ -17,6 +18,15 @@ push_reserved-requires c =
     let few = few_live s.callers s.nodes (vec_capacity s.live) s.seats.items s.live.items s.order k c.self.invariant.kept below unused in
     let room = c.self.invariant.kept.room in
     omega (arith, few, room)
+
+pub remove-requires : goal.remove-requires
+remove-requires c =
+    let s = c.self.inside in
+    let h = c.requires.slot in
+    let e = c.free_slot-slot.ensures.slot in
+    let v = ap (λ (l : LiveCalls). l.callers) c.self.view_is in
+    let size = c.self.invariant.free_kept.size in
+    omega (arith, h, e, v, size)
 
 pub invariant_of-self : goal.invariant_of-self
 invariant_of-self c =
@@ -34,6 +44,7 @@ invariant_of-self c =
       kept = begun_kept s.callers s.nodes (vec_capacity s.live) _ s.seats.items s.live.items c.push_reserved.new.self.items s.order n c.begin.new.self c.self.invariant.kept below
           (taken_by c.args.graph.now c.args.caller c.args.version k s.nodes c.args.call c.index_mut.result.now c.begin.new.self c.requires.some slot size c.begin.ensures) newest unused c.push_reserved.ensures.items c.push_reserved.ensures.capacity;
       hint_count = length-set _ _ _ ∙ c.self.invariant.hint_count;
+      free_kept = free_taken s.callers s.live.items c.push_reserved.new.self.items n s.free c.remove.new.self c.self.invariant.free_kept c.push_reserved.ensures.items c.remove.ensures.nodes;
     }
 
 pub returns : goal.returns

@@ -5,6 +5,7 @@ use Rattle.flow_state.specs.Seats.{live_calls, AreSeats}
 use Rattle.flow_state.specs.declared.seating.Tenant.{Tenant}
 use Rattle.flow_state.proofs.SeatLemmas.{slot_read, seat_read, read_call}
 use Rattle.flow_state.proofs.PairLemmas.{slot_fits}
+use Rattle.flow_state.proofs.FreeSlots.{free_given}
 use Rattle.flow_state.proofs.Leaving.{none_before, left_kept, left_seen, left_fewer}
 use Rattle.flow_state.proofs.seating.Seating.end.Goals as goal
 
@@ -41,7 +42,20 @@ invariant_of-self c =
     let kept = left_kept s.callers s.nodes (vec_capacity s.live) s.seats.items s.live.items s.order c.retire.new.self c.args.version c.slot_of-slot.result c.index_mut.result.now c.end.new.self c.self.invariant.kept at
     (seat_read s.seats.items c.slot_of-slot.result c.index_mut.result.now at.inside c.index_mut.ensures.value) (record { version = c.end.ensures.version; slot = c.end.ensures.slot; size = c.end.ensures.size })
     c.retire.ensures.callers c.retire.ensures.pairs in
-    record { kept = subst (λ (cap : ℕ). P cap c.take_tenant.new.live.items) (sym c.take_tenant.ensures.capacity) (subst (P (vec_capacity s.live)) (sym c.take_tenant.ensures.items) kept); hint_count = c.self.invariant.hint_count }
+    record {
+      kept = subst (λ (cap : ℕ). P cap c.take_tenant.new.live.items) (sym c.take_tenant.ensures.capacity) (subst (P (vec_capacity s.live)) (sym c.take_tenant.ensures.items) kept);
+      hint_count = c.self.invariant.hint_count;
+      free_kept = free_given s.callers s.seats.items s.live.items c.take_tenant.new.live.items c.args.version c.slot_of-slot.result s.free c.insert.new.self (vec_capacity s.live) s.nodes s.order c.self.invariant.kept at c.self.invariant.free_kept c.take_tenant.ensures.items c.insert.ensures.nodes;
+    }
+
+pub insert-requires : goal.insert-requires
+insert-requires c =
+    let s = c.self.inside in
+    let at = slot_read s.callers s.nodes (vec_capacity s.live) s.seats.items s.live.items s.order c.args.version c.slot_of-slot.result c.args.self.now c.self.invariant.kept c.self.view_is c.requires.live c.slot_of-slot.ensures in
+    let inside = at.inside in
+    let count = c.self.invariant.kept.count in
+    let size = c.self.invariant.free_kept.size in
+    omega (arith, inside, count, size)
 
 pub returns-clause-left : goal.returns-clause-left
 returns-clause-left c =

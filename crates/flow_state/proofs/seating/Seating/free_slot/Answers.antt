@@ -1,33 +1,29 @@
-use Rattle.std.proofs.Common.{◌≡◌, sym, ap, ◌∙◌, arith}
+use Rattle.std.proofs.Common.{◌<◌, subst, arith}
 use Rattle.std.specs.Vec.{vec_capacity}
-use Rattle.flow_model.specs.Machine.Steps.{free_slot, uses_slot}
-use Rattle.flow_state.specs.Seats.{Seated, LiveCalls, calls_of, version_at}
-use Rattle.flow_state.proofs.Beginning.{seat_free, seat_taken, free_here, free_later, read_version}
+use Rattle.flow_state.specs.Seats.{LiveCalls, calls_of}
+use Rattle.flow_state.proofs.FreeSlots.{IsLeast, free_by_calls, first_tells, none_tells}
 use Rattle.flow_state.proofs.seating.Seating.free_slot.Goals as goal
 
-pub returns-then-version-eq0-clause-slot : goal.returns-then-version-eq0-clause-slot
-returns-then-version-eq0-clause-slot c =
+pub returns-in-Some-clause-slot : goal.returns-in-Some-clause-slot
+returns-in-Some-clause-slot c =
     let s = c.self.inside in
-    let count = c.self.invariant.kept.count in
-    let read = read_version s.seats.items c.loop-slot.slot c.index-seat.result.now (omega (arith, count)) c.index-seat.ensures in
-    let zero_there : version_at s.seats.items c.loop-slot.slot ≡ 0 = ap (λ (x : Seated). x.call.version) (sym read) ∙ sym c.version.ensures ∙ c.if-version-eq0.true in
-    let free = seat_free s.callers s.nodes (vec_capacity s.live) s.seats.items s.live.items s.order c.loop-slot.slot c.self.invariant.kept zero_there in
-    free_here s.callers c.loop-slot.slot _ (calls_of s.seats.items s.live.items) (omega arith) c.loop-slot.invariant free
-    ∙ ap (λ (l : LiveCalls). free_slot l.callers 0 l.calls) c.self.view_is
+    let size = c.self.invariant.free_kept.size in
+    let tells = free_by_calls s.callers s.nodes (vec_capacity s.live) s.seats.items s.live.items s.order s.free c.self.invariant.kept c.self.invariant.free_kept in
+    let here = first_tells s.callers (calls_of s.seats.items s.live.items) s.free.nodes c.is_kept.ensures.ascending (λ q h. let i = c.is_kept.ensures.inside q h in omega (arith, i, size)) tells c.in-Some.slot c.in-Some.ensures in
+    (subst (λ (l : LiveCalls). IsLeast l.callers l.calls c.in-Some.slot) c.self.view_is here).slot
 
-pub returns-then-version-eq0-clause-free : goal.returns-then-version-eq0-clause-free
-returns-then-version-eq0-clause-free c = λ _.
+pub returns-in-Some-clause-free : goal.returns-in-Some-clause-free
+returns-in-Some-clause-free c =
     let s = c.self.inside in
-    let count = c.self.invariant.kept.count in
-    let read = read_version s.seats.items c.loop-slot.slot c.index-seat.result.now (omega (arith, count)) c.index-seat.ensures in
-    let zero_there : version_at s.seats.items c.loop-slot.slot ≡ 0 = ap (λ (x : Seated). x.call.version) (sym read) ∙ sym c.version.ensures ∙ c.if-version-eq0.true in
-    let free = seat_free s.callers s.nodes (vec_capacity s.live) s.seats.items s.live.items s.order c.loop-slot.slot c.self.invariant.kept zero_there in
-    sym (ap (λ (l : LiveCalls). uses_slot c.loop-slot.slot l.calls) c.self.view_is) ∙ free
+    let size = c.self.invariant.free_kept.size in
+    let tells = free_by_calls s.callers s.nodes (vec_capacity s.live) s.seats.items s.live.items s.order s.free c.self.invariant.kept c.self.invariant.free_kept in
+    let here = first_tells s.callers (calls_of s.seats.items s.live.items) s.free.nodes c.is_kept.ensures.ascending (λ q h. let i = c.is_kept.ensures.inside q h in omega (arith, i, size)) tells c.in-Some.slot c.in-Some.ensures in
+    (subst (λ (l : LiveCalls). IsLeast l.callers l.calls c.in-Some.slot) c.self.view_is here).free
 
-pub loop-slot-preserved : goal.loop-slot-preserved
-loop-slot-preserved c =
+pub returns-in-None-clause-slot : goal.returns-in-None-clause-slot
+returns-in-None-clause-slot c =
     let s = c.self.inside in
-    let count = c.self.invariant.kept.count in
-    let read = read_version s.seats.items c.loop-slot.slot c.index-seat.result.now (omega (arith, count)) c.index-seat.ensures in
-    let taken = seat_taken s.callers s.nodes (vec_capacity s.live) s.seats.items s.live.items s.order c.loop-slot.slot c.self.invariant.kept (λ e. c.if-version-eq0.false (c.version.ensures ∙ ap (λ (x : Seated). x.call.version) read ∙ e)) in
-    free_later s.callers c.loop-slot.slot _ (calls_of s.seats.items s.live.items) (omega arith) c.loop-slot.invariant taken
+    let size = c.self.invariant.free_kept.size in
+    let tells = free_by_calls s.callers s.nodes (vec_capacity s.live) s.seats.items s.live.items s.order s.free c.self.invariant.kept c.self.invariant.free_kept in
+    let here = none_tells s.callers (calls_of s.seats.items s.live.items) s.free.nodes tells c.in-None.ensures in
+    (subst (λ (l : LiveCalls). IsLeast l.callers l.calls s.callers) c.self.view_is here).slot

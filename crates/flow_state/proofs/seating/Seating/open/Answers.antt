@@ -20,7 +20,7 @@ open-requires c =
 pub invariant_of-self : goal.invariant_of-self
 invariant_of-self c =
     let at = slot_read c.self.inside.callers c.self.inside.nodes (vec_capacity c.self.inside.live) c.self.inside.seats.items c.self.inside.live.items c.self.inside.order c.args.version c.slot_of-slot.result c.args.self.now c.self.invariant.kept c.self.view_is c.requires.live c.slot_of-slot.ensures in
-    record { kept = changed_kept c.self.inside.callers c.self.inside.nodes (vec_capacity c.self.inside.live) c.self.inside.seats.items c.self.inside.live.items c.self.inside.order c.args.version c.slot_of-slot.result c.index_mut.result.now c.open.new.self (opened_one c.args.node) (record { version = λ _. refl; slot = λ _. refl; looks = λ _. refl }) c.self.invariant.kept at c.index_mut.ensures.value c.open.ensures; hint_count = c.self.invariant.hint_count }
+    record { kept = changed_kept c.self.inside.callers c.self.inside.nodes (vec_capacity c.self.inside.live) c.self.inside.seats.items c.self.inside.live.items c.self.inside.order c.args.version c.slot_of-slot.result c.index_mut.result.now c.open.new.self (opened_one c.args.node) (record { version = λ _. refl; slot = λ _. refl; looks = λ _. refl }) c.self.invariant.kept at c.index_mut.ensures.value c.open.ensures; hint_count = c.self.invariant.hint_count; free_kept = c.self.invariant.free_kept }
 
 pub returns : goal.returns
 returns c =
