@@ -1,17 +1,15 @@
 -- Runs of a core are histories of the machine.
-use Rattle.std.proofs.Common.{◌≡◌, ℕ, zero, suc, ◌+◌, ◌-◌, ◌<◌, ◌⊎◌, inl, inr, Bool, true, false, ◌&&◌, List, [], ◌∷◌, ◌++◌, nat_lt, refl, sym, ap, ◌∙◌, subst, arith}
+use Rattle.std.proofs.Common.{◌≡◌, ℕ, suc, ◌⊎◌, inl, inr, Bool, true, false, List, [], ◌∷◌, ◌++◌, nat_lt, refl, sym, ap, ◌∙◌, arith}
 use Rattle.std.proofs.lemmas.Bool.{true≢false}
-use Rattle.signal_graph.specs.declared.call.Call.{Call}
-use Rattle.signal_graph.specs.Graph.{Graph, IsGraph}
+use Rattle.signal_graph.specs.Graph.{Graph}
 use Rattle.flow_model.specs.declared.step.Step.{Step}
-use Rattle.flow_model.specs.Machine.State.{Core}
-use Rattle.flow_model.specs.Machine.Steps.{can_begin, begin, allowed, apply}
-use Rattle.flow_model.specs.Machine.Histories.{Move, Begin, Make, may_all, after_moves, state, is_history}
+use Rattle.flow_model.specs.Machine.Steps.{can_begin, allowed}
+use Rattle.flow_model.specs.Machine.Histories.{Move, Begin, Make, may_all, after_moves, is_history}
 use Rattle.flow_model.proofs.General.Truths.{and_both, and_make, true_or_false}
 use Rattle.interleave_core.specs.Whole.{Whole, after}
 use Rattle.interleave_core.specs.Opening.{opened_core}
 use Rattle.interleave_core.specs.Rooms.{one_room_more, one_room_less, after_beginning}
-use Rattle.interleave_core.specs.Runs.{Act, MakeRoom, GiveBack, BeginCall, MakeStep, can, after_act, after_acts, can_all, is_run, core_after, moves_of, acts_of}
+use Rattle.interleave_core.specs.Runs.{Act, MakeRoom, GiveBack, BeginCall, MakeStep, can, after_acts, can_all, is_run, moves_of, acts_of}
 
 pub record IsAtMoves (core : Whole) (acts : List Act) : Type 0 where
   pub may : may_all core.graph core.state (moves_of acts) ≡ true

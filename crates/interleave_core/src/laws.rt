@@ -77,16 +77,16 @@ pub fn runs_go_on()
     ensures next { (graph : Graph) → IsGraph graph → (callers limit : ℕ) (acts : List Act) → is_run graph callers limit acts ≡ true
         → (t : ℕ) → live (core_after graph callers limit acts).state t ≡ true
         → ((v : ℕ) → live (core_after graph callers limit acts).state v ≡ true
-            → precedes (core_after graph callers limit acts).state v t ≡ false)
+        → precedes (core_after graph callers limit acts).state v t ≡ false)
         → ((step : Step) × (next graph (core_after graph callers limit acts).state t ≡ Turn.Step step)
-            × (allowed graph (core_after graph callers limit acts).state step ≡ true))
+        × (allowed graph (core_after graph callers limit acts).state step ≡ true))
         ⊎ ((next graph (core_after graph callers limit acts).state t ≡ Turn.Ready)
-            × (allowed graph (core_after graph callers limit acts).state (Steps.End t) ≡ true)) }
+        × (allowed graph (core_after graph callers limit acts).state (Steps.End t) ≡ true)) }
     ensures room { (graph : Graph) → IsGraph graph → (callers limit : ℕ) (acts : List Act) → is_run graph callers limit acts ≡ true
         → (n : ℕ) → has_room (core_after graph callers limit acts).state n ≡ false
         → (allowed graph (core_after graph callers limit acts).state (Steps.Collect n) ≡ true)
         × (length (entries (apply graph (core_after graph callers limit acts).state (Steps.Collect n)) n)
-            ≤ (core_after graph callers limit acts).state.callers + 1) }
+        ≤ (core_after graph callers limit acts).state.callers + 1) }
     ensures bounded { (graph : Graph) → IsGraph graph → (callers limit : ℕ) (acts : List Act) → is_run graph callers limit acts ≡ true
         → length (moves_of acts) ≤ count_begins (moves_of acts) * (140 * length graph.nodes + 200) }
 {

@@ -1,8 +1,7 @@
-use Rattle.std.proofs.Common.{◌≡◌, false, [], sym, ap, ◌∙◌, subst}
+use Rattle.std.proofs.Common.{◌≡◌, false, sym, subst}
 use Rattle.order_graph.specs.Order.{reaches}
-use Rattle.signal_graph.specs.Legal.{Legal, finals}
+use Rattle.signal_graph.specs.Legal.{Legal}
 use Rattle.flow_model.specs.Machine.State.{Core}
-use Rattle.flow_model.specs.Machine.Histories.{last_values}
 use Rattle.flow_model.specs.Kept.Lawful.{IsLawful}
 use Rattle.interleave_core.specs.Runs.{moves_of}
 use Rattle.interleave_core.proofs.laws.runs_are_right.Goals as goal

@@ -1,9 +1,9 @@
-use Rattle.std.proofs.Common.{◌≡◌, true, List, [], ◌∷◌, ◌++◌, sym, ap, ◌∙◌, subst}
+use Rattle.std.proofs.Common.{◌≡◌, List, [], ◌∷◌, ◌++◌, sym, ap, ◌∙◌}
 use Rattle.signal_graph.specs.Values.{val}
 use Rattle.signal_graph.specs.Legal.{state_after}
 use Rattle.flow_model.specs.declared.step.Step.TheVariants as Steps
 use Rattle.flow_model.specs.Machine.State.{Core}
-use Rattle.flow_model.specs.Machine.Histories.{Move, Make, state, is_history}
+use Rattle.flow_model.specs.Machine.Histories.{Make, state, is_history}
 use Rattle.interleave_core.specs.Runs.{Act, MakeStep, moves_of}
 use Rattle.interleave_core.proofs.RunLemmas.{step_twice, no_run, moves-append}
 use Rattle.interleave_core.proofs.laws.runs_read_one_state.Goals as goal
