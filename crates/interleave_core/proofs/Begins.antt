@@ -1,5 +1,5 @@
 -- The core before any call, and after a beginning.
-use Rattle.std.proofs.Common.{◌≡◌, ℕ, zero, suc, ◌+◌, ◌-◌, ◌<◌, true, Result, Ok, Err, List, [], ◌∷◌, length, map, refl, sym, ap, ◌∙◌, subst, arith}
+use Rattle.std.proofs.Common.{◌≡◌, ℕ, suc, ◌+◌, ◌-◌, ◌<◌, true, Result, Ok, Err, List, [], ◌∷◌, length, map, refl, sym, ap, ◌∙◌, subst}
 use Rattle.std.specs.Prelude.{IfOk}
 use Rattle.script_tree.specs.declared.memory.OutOfMemory.{OutOfMemory}
 use Rattle.signal_graph.specs.Machine.{looks_of}
@@ -10,9 +10,8 @@ use Rattle.node_versions.specs.Entries.{Versions}
 use Rattle.flow_model.specs.Machine.State.{Core, Cell, start_cell, opening}
 use Rattle.flow_model.specs.Machine.Steps.{can_begin, begin}
 use Rattle.flow_model.specs.Kept.Lawful.{IsLawful}
-use Rattle.flow_model.specs.Parts.Books.{Work, work_in, book_of}
+use Rattle.flow_model.specs.Parts.Books.{Work, work_in}
 use Rattle.flow_state.specs.Booked.{Booked, opened_book}
-use Rattle.flow_state.specs.Fitting.{choosers}
 use Rattle.flow_state.specs.Rooms.{Roomy}
 use Rattle.framing.specs.Begins.{book_begun, IsBeginning}
 use Rattle.interleave_core.specs.Whole.{Whole, cells_of, state_of, whole_of, HaveRooms, IsWhole}

@@ -1,8 +1,8 @@
 -- What is counted when the nodes below n are told.
-use Rattle.std.proofs.Common.{◌≡◌, ℕ, zero, suc, ◌+◌, ◌<◌, ◌≤◌, Bool, true, false, not, ◌&&◌, ◌||◌, ◌==◌, List, [], ◌∷◌, ◌++◌, length, map, filter, cond, take, replicate, get_or, refl, sym, ap, ◌∙◌, subst, arith}
-use Rattle.std.specs.List.{range_with_len, list_any, AllByRecursion}
+use Rattle.std.proofs.Common.{◌≡◌, ℕ, zero, suc, ◌+◌, ◌<◌, Bool, true, false, not, ◌&&◌, ◌||◌, ◌==◌, List, [], ◌∷◌, ◌++◌, length, map, filter, take, replicate, get_or, refl, sym, ap, ◌∙◌, subst, arith}
+use Rattle.std.specs.List.{range_with_len, AllByRecursion}
 use Rattle.std.proofs.Math.Seq.{take-suc}
-use Rattle.std.proofs.lemmas.List.{ext_get_or, get_or-replicate, get_or_past}
+use Rattle.std.proofs.lemmas.List.{ext_get_or}
 use Rattle.std.proofs.lemmas.List.Folds.{list_any-append}
 use Rattle.std.proofs.lemmas.List.FromFn.{length-map-range_with_len, get_or-map-range_with_len, map-range_with_len_more}
 use Rattle.std.proofs.lemmas.List.Elements.{filter-append}
@@ -12,10 +12,8 @@ use Rattle.signal_graph.specs.declared.node.Node.TheVariants.{Source, Signal, Fo
 use Rattle.signal_graph.specs.declared.node.Selector.{Selector}
 use Rattle.signal_graph.specs.Graph.{Graph, node_at, numbers, numbers_from, selectors_of, is_in, IsNode, IsSelector}
 use Rattle.flow_model.specs.Kept.Lawful.{lists_candidate}
-use Rattle.flow_model.proofs.General.Truths.{true_or_false}
 use Rattle.flow_state.specs.Fitting.{choosers}
 use Rattle.interleave_core.specs.Choosers.{number_at, one_if, IsUpTo, Tells}
-use Rattle.interleave_core.proofs.Telling.{tells_by, tells_more}
 
 -- ---- ranges
 
@@ -77,7 +75,8 @@ counting_begins graph counts marks c m = (
     counts_size = ap length c ∙ length-zeros (length graph.nodes);
     marks_size = ap length m ∙ length-zeros (length graph.nodes);
     counted = λ k h. ap (λ ns. number_at ns k) c ∙ zeros_at (length graph.nodes) k;
-  })
+  },
+)
 
 pub counting_more : (graph : Graph) (n : ℕ) (a b c d : List ℕ) → IsUpTo n a b → IsCounted graph n a b → Tells n (λ m. lists graph m n) a b c d → IsCounted graph (n + 1) c d
 counting_more graph n a b c d u so t = record {

@@ -1,5 +1,5 @@
 -- What evaluations need, and that their answers are right.
-use Rattle.std.proofs.Common.{◌≡◌, ℕ, zero, suc, ◌+◌, ◌<◌, ◌≤◌, Bool, true, false, ◌⊎◌, inl, inr, List, [], ◌∷◌, length, map, get_or, Option, Some, None, Result, Ok, Err, is_some, refl, sym, ap, ◌∙◌, subst, arith}
+use Rattle.std.proofs.Common.{◌≡◌, ℕ, zero, suc, ◌+◌, ◌<◌, ◌≤◌, true, false, inl, inr, List, [], ◌∷◌, length, map, get_or, Option, Some, None, Result, Ok, Err, is_some, refl, sym, ap, ◌∙◌, subst, arith}
 use Rattle.std.specs.Prelude.{slice_index_or}
 use Rattle.std.specs.List.{AllByRecursion}
 use Rattle.std.specs.Option.{IsSome}
@@ -22,7 +22,7 @@ use Rattle.flow_model.specs.declared.step.Step.TheVariants as step
 use Rattle.flow_model.specs.Machine.Keys.{list_of_step}
 use Rattle.flow_model.specs.Machine.State as state
 use Rattle.flow_model.specs.Machine.State.{Core, Cell, no_cell, cell, entries}
-use Rattle.flow_model.specs.Machine.Words.{at_front, heads, is_found, finds, found_now, body_now, body_over, value_gathered, selections_of}
+use Rattle.flow_model.specs.Machine.Words.{at_front, finds, found_now, body_over, value_gathered, selections_of}
 use Rattle.flow_model.specs.Machine.Steps.{allowed}
 use Rattle.flow_model.specs.Kept.Lawful.{IsLawful}
 use Rattle.flow_model.specs.Parts.Books.{Work, work_in, no_work}

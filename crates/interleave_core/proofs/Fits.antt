@@ -1,5 +1,5 @@
 -- The state of a book and lists fits them, and what steps make of these is the state after the step.
-use Rattle.std.proofs.Common.{◌≡◌, ℕ, zero, suc, ◌+◌, ◌<◌, ◌==◌, ◌≢◌, Bool, true, false, List, [], ◌∷◌, length, map, Option, Some, None, get_or, set, refl, sym, ap, ◌∙◌, subst, arith, length-set}
+use Rattle.std.proofs.Common.{◌≡◌, ℕ, zero, suc, ◌+◌, ◌<◌, ◌==◌, ◌≢◌, Bool, true, false, List, [], ◌∷◌, length, map, Some, None, get_or, set, refl, sym, ap, ◌∙◌, subst, arith, length-set}
 use Rattle.std.specs.Prelude.{slice_index_or}
 use Rattle.signal_graph.specs.Graph.{Graph, IsGraph}
 use Rattle.node_versions.specs.Entries.{Versions}
@@ -10,11 +10,11 @@ use Rattle.flow_model.specs.Machine.Words.{is_some_of}
 use Rattle.flow_model.specs.Machine.Keys.{list_of_step}
 use Rattle.flow_model.specs.Machine.Steps.{allowed, apply}
 use Rattle.flow_model.specs.Kept.Lawful.{IsLawful}
-use Rattle.flow_model.specs.Parts.Books.{Work, work_in, Listing, listing, listing_in, book_of, Book}
+use Rattle.flow_model.specs.Parts.Books.{Work, work_in, listing, listing_in, book_of}
 use Rattle.flow_model.proofs.OneStep.SameLengths.{step-parts}
 use Rattle.flow_model.proofs.Books.StepsChangeOneListing.{changed-node, other-listings}
 use Rattle.flow_model.proofs.Books.StatesAreBooks.{state-whole}
-use Rattle.flow_state.specs.Booked.{Booked, with_book}
+use Rattle.flow_state.specs.Booked.{Booked}
 use Rattle.flow_state.specs.Fitting.{IsBookOf, IsBookStep, IsListStep, MakesBook, MakesList, MakesRead, list_of, choosers, book_after}
 use Rattle.flow_state.specs.declared.outcome.Answer.{Answer}
 use Rattle.flow_state.specs.Answers.{step_of, IsRight, IsAnswerStep, MakesAnswer}

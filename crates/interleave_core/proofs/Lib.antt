@@ -4,5 +4,6 @@ pub mod Ends
 pub mod Evaluations
 pub mod Fits
 pub mod NodesRead
+pub mod RunLemmas
 pub mod StartEdges
 pub mod Telling

@@ -1,11 +1,10 @@
 -- The nodes at which steps read are nodes of the graph.
-use Rattle.std.proofs.Common.{◌≡◌, ℕ, ◌<◌, ◌==◌, ◌||◌, Bool, true, ◌⊎◌, inl, inr, Some, length, ◌∙◌, arith}
-use Rattle.std.specs.List.{list_any}
+use Rattle.std.proofs.Common.{◌≡◌, ℕ, ◌<◌, ◌==◌, true, ◌⊎◌, inl, inr, Some, length, ◌∙◌, arith}
 use Rattle.std.proofs.lemmas.List.Folds.{list_any-append}
 use Rattle.signal_graph.specs.Graph.{Graph, IsGraph, node_at, is_in, inputs_of}
 use Rattle.flow_model.specs.declared.step.Step.TheVariants as step
 use Rattle.flow_model.specs.Machine.State.{Core, call}
-use Rattle.flow_model.specs.Machine.Words.{at_front, heads, is_candidate, prior_picks, next_look}
+use Rattle.flow_model.specs.Machine.Words.{at_front, is_candidate, prior_picks, next_look}
 use Rattle.flow_model.specs.Machine.Steps.{allowed}
 use Rattle.flow_model.specs.Kept.Lawful.{IsLawful}
 use Rattle.flow_model.proofs.General.Truths.{or_cases, or_left}

@@ -1,7 +1,7 @@
 -- The out-edges that lists begin with.
-use Rattle.std.proofs.Common.{◌≡◌, ◌≢◌, ℕ, zero, suc, ◌+◌, ◌-◌, ◌<◌, ◌≤◌, ◌⊎◌, inl, inr, Bool, true, false, not, ◌&&◌, ◌||◌, ◌==◌, List, [], ◌∷◌, ◌++◌, Option, Some, None, length, map, filter, take, set, get_or, refl, sym, ap, ◌∙◌, subst, arith, length-set}
+use Rattle.std.proofs.Common.{◌≡◌, ℕ, zero, suc, ◌+◌, ◌-◌, ◌<◌, ◌≤◌, ◌⊎◌, inl, inr, Bool, true, false, not, ◌&&◌, ◌||◌, ◌==◌, List, [], ◌∷◌, ◌++◌, Option, Some, None, length, map, filter, take, set, get_or, refl, sym, ap, ◌∙◌, subst, arith, length-set}
 use Rattle.std.specs.Prelude.{slice_get}
-use Rattle.std.specs.List.{range_with_len, list_any}
+use Rattle.std.specs.List.{range_with_len}
 use Rattle.std.proofs.Math.Seq.{take-suc}
 use Rattle.std.proofs.lemmas.List.{ext_get_or, get_or-set_same, get_or-set_other, get_or_default, map-append}
 use Rattle.std.proofs.lemmas.List.Folds.{list_any-append}
@@ -10,11 +10,9 @@ use Rattle.std.proofs.lemmas.Option.{get_or_from_slice_get, slice_get-get_or, no
 use Rattle.std.proofs.lemmas.Bool.Decides.{eqb_tells}
 use Rattle.std.proofs.lemmas.Bool.{true≢false, false≢true}
 use Rattle.script_tree.specs.declared.value.Value.{Value}
-use Rattle.signal_graph.specs.Graph.{Graph, IsGraph, is_in, numbers, node_at, selectors_of}
+use Rattle.signal_graph.specs.Graph.{Graph, IsGraph, is_in, numbers}
 use Rattle.signal_graph.specs.Values.{nodes_in, val, picks, start}
 use Rattle.node_versions.specs.Entries.{Versions, OutEdge, opened, has_out, with_out, with_outs}
-use Rattle.flow_model.specs.Machine.State.{start_outs, start_entry}
-use Rattle.flow_model.specs.Kept.Lawful.{lists_candidate}
 use Rattle.flow_model.proofs.General.Truths.{true_or_false, same_number, other_number, equal_test, or_cases, or_left, or_right}
 use Rattle.flow_model.proofs.Opening.OpeningLists.{picks_at_start, start_picks-listed, candidate-earlier}
 use Rattle.flow_state.specs.Fitting.{choosers}

@@ -1,5 +1,5 @@
 -- The values that lists end with.
-use Rattle.std.specs.Prelude.{ℕ, ◌<◌, List, length, slice_index_or}
+use Rattle.std.specs.Prelude.{ℕ, ◌<◌, List, length}
 use Rattle.std.specs.Option.{IsSome}
 use Rattle.script_tree.specs.declared.value.Value.{Value}
 use Rattle.node_versions.specs.Entries.{Versions, IsUnique, last_done, state_of, value_of}

@@ -2,4 +2,5 @@ pub mod Choosers
 pub mod Ending
 pub mod Opening
 pub mod Rooms
+pub mod Runs
 pub mod Whole

@@ -1,5 +1,5 @@
 -- What a core begins with: the list of each node, with the out-edges of the nodes that pick it at the start.
-use Rattle.std.specs.Prelude.{◌≡◌, ℕ, ◌+◌, ◌<◌, ◌==◌, Bool, true, false, ◌&&◌, not, List, [], ◌∷◌, length, map, take, Option, Some, slice_get, slice_index_or}
+use Rattle.std.specs.Prelude.{◌≡◌, ℕ, ◌+◌, ◌<◌, ◌==◌, Bool, true, false, ◌&&◌, not, List, [], ◌∷◌, length, take, Option, Some, slice_get, slice_index_or}
 use Rattle.signal_graph.specs.Graph.{Graph, is_in}
 use Rattle.signal_graph.specs.Values.{nodes_in, val, picks, start}
 use Rattle.node_versions.specs.Entries.{Versions, opened, has_out, with_out, with_outs}

@@ -19,7 +19,7 @@ use std::alloc::Global;
 
 impl<'g> Core<'g> {
     /// The core of a graph before any call, for so many callers, 1 to 256, and versions, at most 4,000,000. Takes all memory that
-    /// it will need but for rooms, in time linear in what the graph's scripts name and its chooses list.
+    /// it will need but for rooms. Goes over all candidates of the graph's nodes once.
     pub fn new(
         alloc: Global,
         graph: &'g Graph,

@@ -8,6 +8,7 @@ mod beginning;
 mod choosers;
 mod core_state;
 mod ending;
+pub mod laws;
 mod opening;
 mod parts;
 mod steps;

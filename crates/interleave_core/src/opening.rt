@@ -17,7 +17,7 @@ use std::alloc::Global;
 const SPARE_ENTRIES: u32 = 9;
 
 /// The list of each node before any call: the start value and picks as version 0, and an out-edge to each node that picks
-/// it at the start. Takes all memory that the lists will need, in time linear in what the graph's scripts name and list.
+/// it at the start. Takes all memory that the lists will need. Goes over the nodes twice and over all candidates once.
 pub(crate) fn opening_lists(
     alloc: Global,
     graph: &Graph,

@@ -1,8 +1,4 @@
-use Rattle.std.proofs.Common.{◌≡◌, ◌<◌, ℕ, length, filter}
-use Rattle.std.specs.List.{range_with_len}
-use Rattle.signal_graph.specs.Graph.{node_at, selectors_of}
-use Rattle.flow_model.specs.Kept.Lawful.{lists_candidate}
-use Rattle.interleave_core.specs.Choosers.{IsUpTo, number_at}
+use Rattle.interleave_core.specs.Choosers.{IsUpTo}
 use Rattle.interleave_core.proofs.Counted.{IsCounted}
 use Rattle.interleave_core.proofs.choosers.count_choosers.Given as goal
 

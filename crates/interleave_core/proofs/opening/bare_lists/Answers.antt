@@ -1,8 +1,5 @@
-use Rattle.std.proofs.Common.{ap, ◌∙◌, ◌+◌, sym, ℕ, List, map, arith}
+use Rattle.std.proofs.Common.{ap, ◌∙◌, sym, map, arith}
 use Rattle.std.specs.List.{range_with_len}
-use Rattle.signal_graph.specs.Values.{val, picks, start}
-use Rattle.node_versions.specs.Entries.{opened}
-use Rattle.flow_state.specs.Fitting.{choosers}
 use Rattle.flow_state.proofs.Openings.{one_more}
 use Rattle.interleave_core.specs.Opening.{bare_list}
 use Rattle.interleave_core.proofs.StartEdges.{bare_is}
@@ -24,7 +21,7 @@ loop-node-preserved c =
     let h = c.loop-node-test.true in
     let count = chooser_at graph c.in_ok-choosers.choosers.items n c.index.result.now c.in_ok-choosers.ensures (omega (arith, e, h)) c.index.ensures in
     one_more (bare_list graph c.args.callers) n c.loop-node.lists.items _ c.in_ok-list.list c.in_ok-push.ensures.items c.loop-node.invariant
-        (bare_is graph c.args.callers n _ _ _ c.in_ok-list.list c.in_ok-list.ensures count c.start_value.ensures c.start_picks.ensures)
+    (bare_is graph c.args.callers n _ _ _ c.in_ok-list.list c.in_ok-list.ensures count c.start_value.ensures c.start_picks.ensures)
 
 pub returns : goal.returns
 returns c =

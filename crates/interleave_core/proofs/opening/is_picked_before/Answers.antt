@@ -1,4 +1,4 @@
-use Rattle.std.proofs.Common.{arith, sym, ap, ◌∙◌}
+use Rattle.std.proofs.Common.{arith, sym, ◌∙◌}
 use Rattle.interleave_core.proofs.StartEdges.{pick_in, not_further}
 use Rattle.interleave_core.proofs.opening.is_picked_before.Goals as goal
 

@@ -1,4 +1,4 @@
-use Rattle.std.proofs.Common.{◌≡◌, ◌+◌, take, length}
+use Rattle.std.proofs.Common.{◌+◌, take}
 use Rattle.signal_graph.specs.Graph.{is_in}
 use Rattle.interleave_core.specs.Choosers.{Tells, IsUpTo}
 use Rattle.interleave_core.proofs.choosers.Tally.count_all.Given as goal

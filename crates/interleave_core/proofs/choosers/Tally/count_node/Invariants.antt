@@ -1,4 +1,4 @@
-use Rattle.std.proofs.Common.{◌≡◌, ◌+◌, take}
+use Rattle.std.proofs.Common.{◌+◌, take}
 use Rattle.signal_graph.specs.Graph.{node_at, selectors_of}
 use Rattle.flow_model.specs.Kept.Lawful.{lists_candidate}
 use Rattle.interleave_core.specs.Choosers.{Tells, IsUpTo}

@@ -1,20 +1,12 @@
-use Rattle.std.proofs.Common.{◌≡◌, ◌<◌, ◌≤◌, true, length, refl, sym, ap, ◌∙◌, subst, arith}
+use Rattle.std.proofs.Common.{◌≡◌, ◌<◌, true, length, refl, sym, ap, ◌∙◌, subst, arith}
 use Rattle.std.specs.Bool.{IsTrue}
 use Rattle.std.specs.Option.{IsSome}
 use Rattle.node_versions.specs.Entries.{Versions, has, before, last_done, value_before}
-use Rattle.signal_graph.specs.declared.node.NodeKind.TheVariants as kinds
-use Rattle.signal_graph.specs.Graph.{kind_of, node_at}
-use Rattle.flow_model.specs.declared.step.Step.TheVariants as step
-use Rattle.flow_model.specs.Machine.State.{Core, cell, entries}
-use Rattle.flow_model.specs.Machine.Steps.{allowed}
-use Rattle.flow_model.specs.Parts.Books.{Work}
-use Rattle.flow_state.specs.Answers.{step_of, IsRight}
-use Rattle.flow_state.specs.declared.outcome.Answer.{Answer}
+use Rattle.flow_model.specs.Machine.State.{Core, entries}
 use Rattle.flow_state.specs.Fitting.{list_of}
-use Rattle.flow_state.specs.Jobs.{found_items, answer_of, IsJob}
 use Rattle.interleave_core.specs.Whole.{Whole, state_of, IsDue}
 use Rattle.interleave_core.proofs.Fits.{all_nodes, list_fits}
-use Rattle.interleave_core.proofs.Evaluations.{due-there, due-entry, due-done, due-job, due-few, work-there, answer-right, answer-scripts, answer-body}
+use Rattle.interleave_core.proofs.Evaluations.{due-there, due-entry, due-done}
 use Rattle.interleave_core.proofs.core_state.Core.acc.Goals as goal
 
 pub index-requires : goal.index-requires

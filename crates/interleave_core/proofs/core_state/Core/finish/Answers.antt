@@ -1,4 +1,4 @@
-use Rattle.std.proofs.Common.{◌≡◌, List, ap, ◌∙◌, sym, map, subst}
+use Rattle.std.proofs.Common.{List, ap, ◌∙◌, sym, map, subst}
 use Rattle.signal_graph.specs.Legal.{finals}
 use Rattle.node_versions.specs.Entries.{Versions}
 use Rattle.flow_model.specs.Machine.Histories.{last_values}

@@ -1,4 +1,4 @@
-use Rattle.std.proofs.Common.{◌<◌, length, refl, sym, ◌∙◌, arith}
+use Rattle.std.proofs.Common.{◌<◌, length, refl, arith}
 use Rattle.flow_model.specs.declared.step.Step.TheVariants as step
 use Rattle.interleave_core.specs.Whole.{state_of}
 use Rattle.interleave_core.proofs.Fits.{CanMake, can-here, all_nodes, can_list, read_step}

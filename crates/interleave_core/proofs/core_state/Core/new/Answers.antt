@@ -1,5 +1,4 @@
-use Rattle.std.proofs.Common.{ap, ◌∙◌, map, length, arith}
-use Rattle.interleave_core.specs.Opening.{start_list}
+use Rattle.std.proofs.Common.{arith}
 use Rattle.interleave_core.proofs.Begins.{opened_whole, opened_seen, start_size}
 use Rattle.interleave_core.proofs.core_state.Core.new.Goals as goal
 

@@ -1,4 +1,3 @@
-use Rattle.flow_state.specs.Answers.{step_of}
 use Rattle.interleave_core.proofs.Fits.{can_answer, answer_step}
 use Rattle.interleave_core.proofs.Evaluations.{answer-quiet}
 use Rattle.interleave_core.proofs.core_state.Core.put.Goals as goal
