@@ -7,3 +7,4 @@ pub mod NodesRead
 pub mod RunLemmas
 pub mod StartEdges
 pub mod Telling
+pub mod Callers

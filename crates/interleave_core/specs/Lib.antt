@@ -1,3 +1,4 @@
+pub mod Beginning
 pub mod Choosers
 pub mod Ending
 pub mod Opening

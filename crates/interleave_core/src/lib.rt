@@ -4,6 +4,7 @@
 pub use core_state::Core;
 
 mod answering;
+mod asking;
 mod beginning;
 mod choosers;
 mod core_state;

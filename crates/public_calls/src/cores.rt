@@ -1,0 +1,156 @@
+// Steps of the core, one by one, and what lists and calls come to, worked out by hand.
+
+use deck_text::read_deck;
+use flow_model::{Step, Turn};
+use interleave_core::Core;
+use signal_graph::call::{Call, Scripts};
+use signal_graph::graph::Graph;
+use std::alloc::Global;
+use std::test::Fail;
+
+const TWO_FIRES: &[u8] = b"source a = 0\nsignal b = a + 1\nthread\nfire a=1\nthread\nfire a=2\n";
+
+// Where thread 1 has fired, and thread 2 has changed `y`, thread 1 comes to pick `y`.
+const LATE_PICK: &[u8] = b"source s = 0\nsource x = 10\nsource y = 20\nsignal j = s + y\nchoose d = s among x, y\nsignal k = d + 1\nthread\nfire s=1 look k\nthread\nfire y=21 look k\n";
+
+const A: u32 = 0;
+const B: u32 = 1;
+
+// The first call of each thread; the second thread has one too.
+fn first_calls(scripts: Scripts) -> Result<(Call, Call), Fail> {
+    let mut threads = scripts.into_vec();
+    let second = threads.pop().ok_or("no thread 2")?;
+    let first = threads.pop().ok_or("no thread 1")?;
+    let second = second.into_vec().pop().ok_or("no call of thread 2")?;
+    let first = first.into_vec().pop().ok_or("no call of thread 1")?;
+    Ok((first, second))
+}
+
+fn begin(alloc: Global, core: &mut Core, caller: u32, call: Call) -> Result<(), Fail> {
+    if !core.can_begin(caller, &call) {
+        return Err(Fail::from("the call may not begin"));
+    }
+    let room = core.make_room(alloc, &call)?;
+    core.begin(caller, call, room);
+    Ok(())
+}
+
+fn make(core: &mut Core, step: Step) -> Result<(), Fail> {
+    if !core.allowed(step) {
+        return Err(Fail::from("the step is not allowed"));
+    }
+    core.apply(step);
+    Ok(())
+}
+
+// The next step of a live call, which is made, if there is one.
+fn go_on(core: &mut Core, version: u32) -> Option<Step> {
+    if !core.book().live(version) {
+        return None;
+    }
+    match core.next(version) {
+        Turn::Step(step) => {
+            core.apply(step);
+            Some(step)
+        }
+        _ => None,
+    }
+}
+
+fn go_on_often(core: &mut Core, version: u32, times: u32) {
+    for _ in 0..times {
+        let _ = go_on(core, version);
+    }
+}
+
+fn is_discover(step: Step) -> bool {
+    match step {
+        Step::Discover { .. } => true,
+        _ => false,
+    }
+}
+
+// Makes the steps of a call up to its first Discover. Answers whether there was one.
+fn go_on_to_discover(core: &mut Core, version: u32) -> bool {
+    for _ in 0..100 {
+        match go_on(core, version) {
+            Some(step) if is_discover(step) => return true,
+            Some(_) => {}
+            None => return false,
+        }
+    }
+    false
+}
+
+// Both calls have begun and have a Frame at the source, the first one first.
+fn at_the_source(alloc: Global, core: &mut Core, scripts: Scripts) -> Result<(), Fail> {
+    let (first, second) = first_calls(scripts)?;
+    begin(alloc, core, 1, first)?;
+    begin(alloc, core, 2, second)?;
+    make(core, Step::Frame { version: 1, node: A })?;
+    make(core, Step::Frame { version: 2, node: A })
+}
+
+// The second call frames the signal first, and the first call starts.
+fn at_the_signal(core: &mut Core) -> Result<(), Fail> {
+    make(core, Step::Frame { version: 2, node: B })?;
+    make(core, Step::Frame { version: 1, node: B })?;
+    make(core, Step::Start { version: 1 })
+}
+
+fn stands_before(core: &Core, before: u32, after: u32) -> bool {
+    let book = core.book();
+    book.live(before) && book.live(after) && book.reaches(before, after)
+}
+
+fn meet(alloc: Global, graph: &Graph, scripts: Scripts) -> Result<bool, Fail> {
+    let mut core = Core::new(alloc, graph, 2, 10)?;
+    at_the_source(alloc, &mut core, scripts)?;
+    if !stands_before(&core, 1, 2) || core.allowed(Step::Start { version: 2 }) {
+        return Ok(false);
+    }
+    at_the_signal(&mut core)?;
+    Ok(core.allowed(Step::Start { version: 2 }))
+}
+
+// A call that comes behind another at the source comes behind it at the signal too, though it was there first, and starts
+// after it.
+#[test]
+fn calls_meet_in_one_order(rt: HostRuntime) -> Result<(), Fail> {
+    let (graph, scripts) = read_deck(rt.alloc(), TWO_FIRES)?.into_parts();
+    assert!(rt; meet(rt.alloc(), &graph, scripts)?);
+    Ok(())
+}
+
+// Whether a live call wants this node of six, and no other.
+fn wants_only(core: &Core, version: u32, node: u32) -> bool {
+    let book = core.book();
+    if !book.live(version) {
+        return false;
+    }
+    for other in 0..6 {
+        if book.wants(version, other) != (other == node) {
+            return false;
+        }
+    }
+    true
+}
+
+// The first call frames all and starts, the second one too and sets `y`, and then the first one picks `y`.
+fn picks_late(alloc: Global, graph: &Graph, scripts: Scripts) -> Result<bool, Fail> {
+    let mut core = Core::new(alloc, graph, 2, 10)?;
+    let (first, second) = first_calls(scripts)?;
+    begin(alloc, &mut core, 1, first)?;
+    go_on_often(&mut core, 1, 5);
+    begin(alloc, &mut core, 2, second)?;
+    go_on_often(&mut core, 2, 4);
+    let discovered = go_on_to_discover(&mut core, 1);
+    Ok(discovered && wants_only(&core, 2, 4))
+}
+
+#[test]
+fn a_later_call_comes_to_want_what_picks_its_node(rt: HostRuntime) -> Result<(), Fail> {
+    let (graph, scripts) = read_deck(rt.alloc(), LATE_PICK)?.into_parts();
+    assert!(rt; picks_late(rt.alloc(), &graph, scripts)?);
+    Ok(())
+}
