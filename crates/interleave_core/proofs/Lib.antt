@@ -1,3 +1,5 @@
 pub mod Fits
+pub mod StepsMade
+pub mod StepForms
 pub mod NodesRead
 pub mod Evaluations
