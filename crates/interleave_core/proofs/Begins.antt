@@ -21,15 +21,18 @@ use Rattle.interleave_core.proofs.Fits.{works-back, fits, all_nodes}
 
 -- ---- before any call
 
-start_cells : (graph : Graph) (callers : ℕ) (ns : List ℕ) → cells_of (map work_in (map (start_cell graph) ns)) (map (start_list graph callers) ns) ≡ map (start_cell graph) ns
+start_cells : (graph : Graph) (callers : ℕ) (ns : List ℕ)
+    → cells_of (map work_in (map (start_cell graph) ns)) (map (start_list graph callers) ns) ≡ map (start_cell graph) ns
 start_cells graph callers [] = refl
 start_cells graph callers (n ∷ ns) = ap (λ (cs : List Cell). start_cell graph n ∷ cs) (start_cells graph callers ns)
 
-start_many : (graph : Graph) (callers : ℕ) (ns : List ℕ) → length (map (start_list graph callers) ns) ≡ length (map work_in (map (start_cell graph) ns))
+start_many : (graph : Graph) (callers : ℕ) (ns : List ℕ)
+    → length (map (start_list graph callers) ns) ≡ length (map work_in (map (start_cell graph) ns))
 start_many graph callers [] = refl
 start_many graph callers (n ∷ ns) = ap suc (start_many graph callers ns)
 
-start_rooms : (graph : Graph) (callers n : ℕ) (nodes : List Node) → HaveRooms graph callers n (map (start_list graph callers) (numbers_from n nodes))
+start_rooms : (graph : Graph) (callers n : ℕ) (nodes : List Node)
+    → HaveRooms graph callers n (map (start_list graph callers) (numbers_from n nodes))
 start_rooms graph callers n [] = tt
 start_rooms graph callers n (x ∷ xs) = (refl, refl, start_rooms graph callers (n + 1) xs)
 
@@ -37,10 +40,12 @@ start_rooms graph callers n (x ∷ xs) = (refl, refl, start_rooms graph callers 
 abbrev pub OpensLawful : Type 0
 OpensLawful = (graph : Graph) → IsGraph graph → (callers limit : ℕ) → IsLawful graph (opening graph callers limit)
 
-state_opened : (graph : Graph) (callers limit : ℕ) → state_of (opened_book graph callers limit).book (map (start_list graph callers) (numbers graph)) ≡ opening graph callers limit
+state_opened : (graph : Graph) (callers limit : ℕ)
+    → state_of (opened_book graph callers limit).book (map (start_list graph callers) (numbers graph)) ≡ opening graph callers limit
 state_opened graph callers limit = ap (λ (cs : List Cell). record (opening graph callers limit) { cells = cs }) (start_cells graph callers (numbers graph))
 
-pub opened_whole : OpensLawful → (graph : Graph) (callers limit : ℕ) (book : Booked) (lists : List Versions) → IsGraph graph → book ≡ opened_book graph callers limit → lists ≡ map (start_list graph callers) (numbers graph) → IsWhole graph book lists
+pub opened_whole : OpensLawful → (graph : Graph) (callers limit : ℕ) (book : Booked) (lists : List Versions) → IsGraph graph
+    → book ≡ opened_book graph callers limit → lists ≡ map (start_list graph callers) (numbers graph) → IsWhole graph book lists
 opened_whole law graph callers limit book lists kept is are = subst (λ (b : Booked). IsWhole graph b lists) (sym is) (subst (IsWhole graph (opened_book graph callers limit)) (sym are) (record {
   is_graph = kept;
   many = start_many graph callers (numbers graph);
@@ -49,8 +54,11 @@ opened_whole law graph callers limit book lists kept is are = subst (λ (b : Boo
   lawful = subst (IsLawful graph) (sym (state_opened graph callers limit)) (law graph kept callers limit);
 }))
 
-pub opened_seen : (graph : Graph) (callers limit : ℕ) (book : Booked) (lists : List Versions) → book ≡ opened_book graph callers limit → lists ≡ map (start_list graph callers) (numbers graph) → whole_of graph book lists ≡ opened_core graph callers limit
-opened_seen graph callers limit book lists is are = ap (λ (b : Booked). whole_of graph b lists) is ∙ ap (whole_of graph (opened_book graph callers limit)) are ∙ ap (λ (s : Core). record { graph = graph; state = s; rooms = 0 }) (state_opened graph callers limit)
+pub opened_seen : (graph : Graph) (callers limit : ℕ) (book : Booked) (lists : List Versions) → book ≡ opened_book graph callers limit
+    → lists ≡ map (start_list graph callers) (numbers graph) → whole_of graph book lists ≡ opened_core graph callers limit
+opened_seen graph callers limit book lists is are = ap (λ (b : Booked). whole_of graph b lists) is
+    ∙ ap (whole_of graph (opened_book graph callers limit)) are
+    ∙ ap (λ (s : Core). record { graph = graph; state = s; rooms = 0 }) (state_opened graph callers limit)
 
 -- ---- a beginning
 
@@ -58,10 +66,13 @@ opened_seen graph callers limit book lists is are = ap (λ (b : Booked). whole_o
 abbrev pub BeginsLawful : Type 0
 BeginsLawful = (graph : Graph) → IsGraph graph → (s : Core) (caller : ℕ) (call : Call) → IsLawful graph s → can_begin graph s caller call ≡ true → IsLawful graph (begin graph s caller call)
 
-state_begun : (graph : Graph) (book : Booked) (lists : List Versions) (caller : ℕ) (call : Call) → IsWhole graph book lists → state_of (book_begun graph (state_of book.book lists) caller call book).book lists ≡ begin graph (state_of book.book lists) caller call
+state_begun : (graph : Graph) (book : Booked) (lists : List Versions) (caller : ℕ) (call : Call) → IsWhole graph book lists
+    → state_of (book_begun graph (state_of book.book lists) caller call book).book lists ≡ begin graph (state_of book.book lists) caller call
 state_begun graph book lists caller call kept = ap (λ (ws : List Work). record (begin graph (state_of book.book lists) caller call) { cells = cells_of ws lists }) (works-back book.book.works lists kept.many)
 
-pub begun_whole : BeginsLawful → (graph : Graph) (book new : Booked) (lists : List Versions) (caller : ℕ) (call : Call) → IsWhole graph book lists → can_begin graph (state_of book.book lists) caller call ≡ true → new ≡ book_begun graph (state_of book.book lists) caller call book → IsWhole graph new lists
+pub begun_whole : BeginsLawful → (graph : Graph) (book new : Booked) (lists : List Versions) (caller : ℕ) (call : Call)
+    → IsWhole graph book lists → can_begin graph (state_of book.book lists) caller call ≡ true
+    → new ≡ book_begun graph (state_of book.book lists) caller call book → IsWhole graph new lists
 begun_whole law graph book new lists caller call kept can is = subst (λ (b : Booked). IsWhole graph b lists) (sym is) (record {
   is_graph = kept.is_graph;
   many = kept.many ∙ sym (ap length (works-back book.book.works lists kept.many));
@@ -70,24 +81,32 @@ begun_whole law graph book new lists caller call kept can is = subst (λ (b : Bo
   lawful = subst (IsLawful graph) (sym (state_begun graph book lists caller call kept)) (law graph kept.is_graph (state_of book.book lists) caller call kept.lawful can);
 })
 
-pub begun_seen : (graph : Graph) (book new : Booked) (lists : List Versions) (caller : ℕ) (call : Call) (seen : Whole) → IsWhole graph book lists → whole_of graph book lists ≡ seen → new ≡ book_begun graph (state_of book.book lists) caller call book → whole_of graph new lists ≡ after_beginning seen caller call
+pub begun_seen : (graph : Graph) (book new : Booked) (lists : List Versions) (caller : ℕ) (call : Call) (seen : Whole)
+    → IsWhole graph book lists → whole_of graph book lists ≡ seen → new ≡ book_begun graph (state_of book.book lists) caller call book
+    → whole_of graph new lists ≡ after_beginning seen caller call
 begun_seen graph book new lists caller call seen kept view is = ap (λ (b : Booked). whole_of graph b lists) is
     ∙ ap (λ (s : Core). record { graph = graph; state = s; rooms = book.rooms - 1 }) (state_begun graph book lists caller call kept)
     ∙ ap (λ (w : Whole). after_beginning w caller call) view
 
 -- ---- rooms
 
-pub works_nodes : (graph : Graph) (book : Booked) (lists : List Versions) → IsWhole graph book lists → length book.book.works ≡ length graph.nodes
+pub works_nodes : (graph : Graph) (book : Booked) (lists : List Versions) → IsWhole graph book lists
+    → length book.book.works ≡ length graph.nodes
 works_nodes graph book lists kept = sym kept.many ∙ all_nodes graph book lists kept
 
-pub room_is : (result : Result Roomy OutOfMemory) (looks nodes size : ℕ) → IfOk result (λ room. room ≡ record { looks = looks; nodes = nodes }) → nodes ≡ size → IfOk result (λ room. room ≡ record { looks = looks; nodes = size })
+pub room_is : (result : Result Roomy OutOfMemory) (looks nodes size : ℕ)
+    → IfOk result (λ room. room ≡ record { looks = looks; nodes = nodes }) → nodes ≡ size
+    → IfOk result (λ room. room ≡ record { looks = looks; nodes = size })
 room_is (Ok room) looks nodes size h e = h ∙ ap (λ (n : ℕ). record { looks = looks; nodes = n }) e
 room_is (Err f) looks nodes size h e = h
 
-pub can_begin_here : (graph : Graph) (book : Booked) (lists : List Versions) (caller : ℕ) (call : Call) (seen : Whole) → whole_of graph book lists ≡ seen → can_begin seen.graph seen.state caller call ≡ true → can_begin graph (state_of book.book lists) caller call ≡ true
+pub can_begin_here : (graph : Graph) (book : Booked) (lists : List Versions) (caller : ℕ) (call : Call) (seen : Whole)
+    → whole_of graph book lists ≡ seen → can_begin seen.graph seen.state caller call ≡ true
+    → can_begin graph (state_of book.book lists) caller call ≡ true
 can_begin_here graph book lists caller call seen view can = ap (λ (w : Whole). can_begin w.graph w.state caller call) view ∙ can
 
-pub is_beginning : (graph : Graph) (book : Booked) (lists : List Versions) (caller : ℕ) (call : Call) (room : Roomy) (seen : Whole) → IsWhole graph book lists → whole_of graph book lists ≡ seen → can_begin seen.graph seen.state caller call ≡ true
+pub is_beginning : (graph : Graph) (book : Booked) (lists : List Versions) (caller : ℕ) (call : Call) (room : Roomy) (seen : Whole)
+    → IsWhole graph book lists → whole_of graph book lists ≡ seen → can_begin seen.graph seen.state caller call ≡ true
     → room.looks ≡ length (looks_of call) → room.nodes ≡ length seen.graph.nodes → 0 < seen.rooms → IsBeginning graph book caller call room
 is_beginning graph book lists caller call room seen kept view can looks nodes out = record {
   state = state_of book.book lists;
@@ -98,7 +117,8 @@ is_beginning graph book lists caller call room seen kept view can looks nodes ou
   out = subst (λ (w : Whole). 0 < w.rooms) (sym view) out;
 }
 
-pub start_size : (graph : Graph) (callers : ℕ) (lists : List Versions) → lists ≡ map (start_list graph callers) (numbers graph) → length lists ≡ length graph.nodes
+pub start_size : (graph : Graph) (callers : ℕ) (lists : List Versions) → lists ≡ map (start_list graph callers) (numbers graph)
+    → length lists ≡ length graph.nodes
 start_size graph callers lists are = ap length are ∙ go 0 graph.nodes
   where
     go : (n : ℕ) (nodes : List Node) → length (map (start_list graph callers) (numbers_from n nodes)) ≡ length nodes

@@ -29,7 +29,8 @@ map_same [] = refl
 map_same (n ∷ ns) = ap (λ ms. n ∷ ms) (map_same ns)
 
 pub range_more : (n : ℕ) → range_with_len 0 (n + 1) ≡ range_with_len 0 n ++ n ∷ []
-range_more n = sym (map_same (range_with_len 0 (n + 1))) ∙ map-range_with_len_more (λ (k : ℕ). k) 0 n n (omega arith) ∙ ap (λ (ms : List ℕ). ms ++ n ∷ []) (map_same (range_with_len 0 n))
+range_more n = sym (map_same (range_with_len 0 (n + 1))) ∙ map-range_with_len_more (λ (k : ℕ). k) 0 n n (omega arith)
+    ∙ ap (λ (ms : List ℕ). ms ++ n ∷ []) (map_same (range_with_len 0 n))
 
 pub length-append : {X : Type 0} (xs ys : List X) → length (xs ++ ys) ≡ length xs + length ys
 length-append [] ys = omega arith
@@ -39,8 +40,10 @@ length-append (x ∷ xs) ys = let r = length-append xs ys in omega (arith, r)
 abbrev pub passing : (ℕ → Bool) → ℕ → List ℕ
 passing test n = filter test (range_with_len 0 n)
 
-pub passing_more : (test : ℕ → Bool) (n : ℕ) → passing test (n + 1) ≡ passing test n ++ elim (test n) as (λ _. List ℕ) [ true ↦ n ∷ [] | false ↦ [] ]
-passing_more test n = ap (filter test) (range_more n) ∙ filter-append test (range_with_len 0 n) (n ∷ []) ∙ ap (λ (ms : List ℕ). passing test n ++ ms) (one (test n) refl)
+pub passing_more : (test : ℕ → Bool) (n : ℕ)
+    → passing test (n + 1) ≡ passing test n ++ elim (test n) as (λ _. List ℕ) [ true ↦ n ∷ [] | false ↦ [] ]
+passing_more test n = ap (filter test) (range_more n) ∙ filter-append test (range_with_len 0 n) (n ∷ [])
+    ∙ ap (λ (ms : List ℕ). passing test n ++ ms) (one (test n) refl)
   where
     one : (b : Bool) → test n ≡ b → filter test (n ∷ []) ≡ elim b as (λ _. List ℕ) [ true ↦ n ∷ [] | false ↦ [] ]
     one true e = rw e refl
@@ -65,7 +68,8 @@ length-zeros : (n : ℕ) → length {A = ℕ} (replicate n 0) ≡ n
 length-zeros zero = refl
 length-zeros (suc n) = let r = length-zeros n in omega (arith, r)
 
-pub counting_begins : (graph : Graph) (counts marks : List ℕ) → counts ≡ replicate (length graph.nodes) 0 → marks ≡ replicate (length graph.nodes) 0 → IsUpTo 0 counts marks × IsCounted graph 0 counts marks
+pub counting_begins : (graph : Graph) (counts marks : List ℕ) → counts ≡ replicate (length graph.nodes) 0
+    → marks ≡ replicate (length graph.nodes) 0 → IsUpTo 0 counts marks × IsCounted graph 0 counts marks
 counting_begins graph counts marks c m = (
   record {
     within = λ k. let e = ap (λ ns. number_at ns k) m ∙ zeros_at (length graph.nodes) k in omega (arith, e);
@@ -78,7 +82,8 @@ counting_begins graph counts marks c m = (
   },
 )
 
-pub counting_more : (graph : Graph) (n : ℕ) (a b c d : List ℕ) → IsUpTo n a b → IsCounted graph n a b → Tells n (λ m. lists graph m n) a b c d → IsCounted graph (n + 1) c d
+pub counting_more : (graph : Graph) (n : ℕ) (a b c d : List ℕ) → IsUpTo n a b → IsCounted graph n a b
+    → Tells n (λ m. lists graph m n) a b c d → IsCounted graph (n + 1) c d
 counting_more graph n a b c d u so t = record {
   counts_size = t.counts_size ∙ so.counts_size;
   marks_size = t.marks_size ∙ so.marks_size;
@@ -102,7 +107,8 @@ counting_more graph n a b c d u so t = record {
     one_more true n = refl
     one_more false n = refl
 
-pub all_counted : (graph : Graph) (n : ℕ) (counts marks : List ℕ) → IsCounted graph n counts marks → n ≡ length graph.nodes → counts ≡ map (choosers graph) (numbers graph)
+pub all_counted : (graph : Graph) (n : ℕ) (counts marks : List ℕ) → IsCounted graph n counts marks → n ≡ length graph.nodes
+    → counts ≡ map (choosers graph) (numbers graph)
 all_counted graph n counts marks so all = ext_get_or 0 counts _ (so.counts_size ∙ sym (length-map-range_with_len (choosers graph) 0 (length graph.nodes)) ∙ sym (ap (λ (ns : List ℕ). length (map (choosers graph) ns)) (numbers_are graph))) (λ m h.
     let below : m < length graph.nodes = let s = so.counts_size in omega (arith, h, s) in
     so.counted m below
@@ -113,22 +119,27 @@ all_counted graph n counts marks so all = ext_get_or 0 counts _ (so.counts_size 
 
 -- ---- walks
 
-pub one_further : (m c : ℕ) (cs : List ℕ) (i : ℕ) → i < length cs → c ≡ get_or cs i c → (is_in m (take i cs) || (c == m)) ≡ is_in m (take (i + 1) cs)
+pub one_further : (m c : ℕ) (cs : List ℕ) (i : ℕ) → i < length cs → c ≡ get_or cs i c
+    → (is_in m (take i cs) || (c == m)) ≡ is_in m (take (i + 1) cs)
 one_further m c cs i h is =
     let z : i + 1 ≡ suc i = omega arith in
     let more = take-suc cs i c h ∙ ap (λ (x : ℕ). take i cs ++ x ∷ []) (sym is) in
-    or_false (is_in m (take i cs)) (c == m) ∙ sym (list_any-append (λ (k : ℕ). k == m) (take i cs) (c ∷ [])) ∙ ap (is_in m) (sym more) ∙ ap (λ (k : ℕ). is_in m (take k cs)) (sym z)
+    or_false (is_in m (take i cs)) (c == m) ∙ sym (list_any-append (λ (k : ℕ). k == m) (take i cs) (c ∷ [])) ∙ ap (is_in m) (sym more)
+        ∙ ap (λ (k : ℕ). is_in m (take k cs)) (sym z)
   where
     or_false : (x y : Bool) → (x || y) ≡ (x || (y || false))
     or_false true y = refl
     or_false false true = refl
     or_false false false = refl
 
-pub selector_further : (m : ℕ) (s : Selector) (ss : List Selector) (i : ℕ) → i < length ss → s ≡ get_or ss i s → (lists_candidate m (take i ss) || is_in m s.candidates) ≡ lists_candidate m (take (i + 1) ss)
+pub selector_further : (m : ℕ) (s : Selector) (ss : List Selector) (i : ℕ) → i < length ss → s ≡ get_or ss i s
+    → (lists_candidate m (take i ss) || is_in m s.candidates) ≡ lists_candidate m (take (i + 1) ss)
 selector_further m s ss i h is =
     let z : i + 1 ≡ suc i = omega arith in
     let more = take-suc ss i s h ∙ ap (λ (x : Selector). take i ss ++ x ∷ []) (sym is) in
-    or_false (lists_candidate m (take i ss)) (is_in m s.candidates) ∙ sym (list_any-append (λ (x : Selector). is_in m x.candidates) (take i ss) (s ∷ [])) ∙ ap (lists_candidate m) (sym more) ∙ ap (λ (k : ℕ). lists_candidate m (take k ss)) (sym z)
+    or_false (lists_candidate m (take i ss)) (is_in m s.candidates)
+        ∙ sym (list_any-append (λ (x : Selector). is_in m x.candidates) (take i ss) (s ∷ [])) ∙ ap (lists_candidate m) (sym more)
+        ∙ ap (λ (k : ℕ). lists_candidate m (take k ss)) (sym z)
   where
     or_false : (x y : Bool) → (x || y) ≡ (x || (y || false))
     or_false true y = refl
@@ -142,13 +153,15 @@ all_at P (x ∷ xs) (suc i) n all h is = all_at P xs i n all.1 (omega (arith, h)
 
 -- ---- what a node lists
 
-selectors_fit : (names : List (List ℕ)) (n : ℕ) (node : Node) → IsNode names n node → AllByRecursion (IsSelector names n) (selectors_of node)
+selectors_fit : (names : List (List ℕ)) (n : ℕ) (node : Node) → IsNode names n node
+    → AllByRecursion (IsSelector names n) (selectors_of node)
 selectors_fit names n (Source v) h = tt
 selectors_fit names n (Signal script inputs) h = tt
 selectors_fit names n (Fold v script inputs) h = tt
 selectors_fit names n (Choose selectors body inputs) h = h.2
 
-selector_at : (P : Selector → Type 0) (ss : List Selector) (i : ℕ) (s : Selector) → AllByRecursion P ss → i < length ss → s ≡ get_or ss i s → P s
+selector_at : (P : Selector → Type 0) (ss : List Selector) (i : ℕ) (s : Selector) → AllByRecursion P ss → i < length ss
+    → s ≡ get_or ss i s → P s
 selector_at P [] i s all h is = absurd (omega (arith, h))
 selector_at P (x ∷ xs) zero s all h is = subst P (sym is) all.0
 selector_at P (x ∷ xs) (suc i) s all h is = selector_at P xs i s all.1 (omega (arith, h)) is
@@ -157,13 +170,17 @@ below_all : (n size : ℕ) (cs : List ℕ) → n < size → AllByRecursion (λ c
 below_all n size [] h all = tt
 below_all n size (c ∷ cs) h all = let b = all.0 in (omega (arith, h, b), below_all n size cs h all.1)
 
-pub candidates_below : (names : List (List ℕ)) (n size : ℕ) (node : Node) (i : ℕ) (s : Selector) → IsNode names n node → n < size → i < length (selectors_of node) → s ≡ get_or (selectors_of node) i s → AllByRecursion (λ c. c < size) s.candidates
+pub candidates_below : (names : List (List ℕ)) (n size : ℕ) (node : Node) (i : ℕ) (s : Selector) → IsNode names n node → n < size
+    → i < length (selectors_of node) → s ≡ get_or (selectors_of node) i s → AllByRecursion (λ c. c < size) s.candidates
 candidates_below names n size node i s kept h inside is = below_all n size s.candidates h (selector_at (IsSelector names n) (selectors_of node) i s (selectors_fit names n node kept) inside is).candidates_earlier
 
 -- ---- reading counts
 
 pub choosers_many : (graph : Graph) (counts : List ℕ) → counts ≡ map (choosers graph) (numbers graph) → length counts ≡ length graph.nodes
-choosers_many graph counts e = ap length e ∙ ap (λ (ns : List ℕ). length (map (choosers graph) ns)) (numbers_are graph) ∙ length-map-range_with_len (choosers graph) 0 (length graph.nodes)
+choosers_many graph counts e = ap length e ∙ ap (λ (ns : List ℕ). length (map (choosers graph) ns)) (numbers_are graph)
+    ∙ length-map-range_with_len (choosers graph) 0 (length graph.nodes)
 
-pub chooser_at : (graph : Graph) (counts : List ℕ) (n k : ℕ) → counts ≡ map (choosers graph) (numbers graph) → n < length graph.nodes → k ≡ get_or counts n k → k ≡ choosers graph n
-chooser_at graph counts n k e h is = is ∙ ap (λ (ns : List ℕ). get_or ns n k) (e ∙ ap (map (choosers graph)) (numbers_are graph)) ∙ get_or-map-range_with_len (choosers graph) 0 (length graph.nodes) n n k h (omega arith)
+pub chooser_at : (graph : Graph) (counts : List ℕ) (n k : ℕ) → counts ≡ map (choosers graph) (numbers graph) → n < length graph.nodes
+    → k ≡ get_or counts n k → k ≡ choosers graph n
+chooser_at graph counts n k e h is = is ∙ ap (λ (ns : List ℕ). get_or ns n k) (e ∙ ap (map (choosers graph)) (numbers_are graph))
+    ∙ get_or-map-range_with_len (choosers graph) 0 (length graph.nodes) n n k h (omega arith)

@@ -42,7 +42,8 @@ last_is (x ∷ xs) (suc i) e u h got = go (true_or_false (x.version == e.version
     go (inl t) r = absurd (true≢false (sym r.has_entry ∙ subst (λ (v : ℕ). has xs v ≡ false) (same_number x.version e.version t) u.0))
     go (inr f) r = record {
       has_entry = or_right _ _ r.has_entry;
-      all = ap (λ (b : Bool). elim b as (λ _. List Entry) [ true ↦ x ∷ [] | false ↦ x ∷ up_to xs e.version ]) f ∙ ap (λ (ys : List Entry). x ∷ ys) r.all;
+      all = ap (λ (b : Bool). elim b as (λ _. List Entry) [ true ↦ x ∷ [] | false ↦ x ∷ up_to xs e.version ]) f
+          ∙ ap (λ (ys : List Entry). x ∷ ys) r.all;
     }
 
 -- ---- each list has a Done
@@ -51,7 +52,8 @@ pub done_some : (es : List Entry) (u : ℕ) → at is_done es u ≡ true → IsS
 done_some [] u h = absurd (false≢true h)
 done_some (e ∷ es) u h = go (e.version == u) h (done_some es u)
   where
-    first : (o : Option Entry) (b : Bool) → b ≡ true → IsSome (option_or o (elim b as (λ _. Option Entry) [ true ↦ Some e | false ↦ None ]))
+    first : (o : Option Entry) (b : Bool) → b ≡ true
+        → IsSome (option_or o (elim b as (λ _. Option Entry) [ true ↦ Some e | false ↦ None ]))
     first (Some x) b d = refl
     first None true d = refl
     first None false d = d
@@ -60,7 +62,8 @@ done_some (e ∷ es) u h = go (e.version == u) h (done_some es u)
     rest (Some x) p s = refl
     rest None p s = absurd (false≢true s)
 
-    go : (b : Bool) → elim b as (λ _. Bool) [ true ↦ is_done e.state | false ↦ at is_done es u ] ≡ true → (at is_done es u ≡ true → IsSome (last_done es)) → IsSome (last_done (e ∷ es))
+    go : (b : Bool) → elim b as (λ _. Bool) [ true ↦ is_done e.state | false ↦ at is_done es u ] ≡ true
+        → (at is_done es u ≡ true → IsSome (last_done es)) → IsSome (last_done (e ∷ es))
     go true d further = first (last_done es) (is_done e.state) d
     go false d further = rest (last_done es) (only_done e) (further d)
 
@@ -73,18 +76,21 @@ have_last_values graph book lists kept n below =
     let done = kept.lawful.ended_is_prefix.done n (omega (arith, below, many, all)) in
     subst HasLastValue (sym is) (record { unique = kept.lawful.one_entry n; done = done_some (entries s n) done.0 done.2 })
 
-pub last_at : (lists : List Versions) (n : ℕ) (list : Versions) → HaveLastValues lists → n < length lists → list ≡ get_or lists n list → HasLastValue list
+pub last_at : (lists : List Versions) (n : ℕ) (list : Versions) → HaveLastValues lists → n < length lists → list ≡ get_or lists n list
+    → HasLastValue list
 last_at lists n list have below is = subst HasLastValue (sym (is ∙ get_or_default lists n list no_list below)) (have n below)
 
 -- ---- the values of all lists
 
-values_are : (ws : List Work) (ls : List Versions) → length ls ≡ length ws → map last_value ls ≡ map (λ (c : Cell). value_of (state_in (last_done c.entries))) (cells_of ws ls)
+values_are : (ws : List Work) (ls : List Versions) → length ls ≡ length ws
+    → map last_value ls ≡ map (λ (c : Cell). value_of (state_in (last_done c.entries))) (cells_of ws ls)
 values_are [] [] h = refl
 values_are [] (l ∷ ls) h = absurd (omega (arith, h))
 values_are (w ∷ ws) [] h = refl
 values_are (w ∷ ws) (l ∷ ls) h = ap (λ (vs : List Value). last_value l ∷ vs) (values_are ws ls (omega (arith, h)))
 
-pub last_values_are : (graph : Graph) (book : Booked) (lists : List Versions) → IsWhole graph book lists → map last_value lists ≡ last_values (state_of book.book lists)
+pub last_values_are : (graph : Graph) (book : Booked) (lists : List Versions) → IsWhole graph book lists
+    → map last_value lists ≡ last_values (state_of book.book lists)
 last_values_are graph book lists kept = values_are book.book.works lists kept.many
 
 pub some_length : (es : List Entry) → IsSome (last_done es) → 0 < length es

@@ -31,12 +31,16 @@ use Rattle.flow_model.proofs.Histories.FoundUntilDone.{heads-entry}
 use Rattle.flow_model.proofs.Work.WorkAtOneNode.{evaluate-not_found, body-found}
 use Rattle.flow_model.proofs.Known.Bounds.{has-bounds}
 use Rattle.flow_model.proofs.Known.ListsAnswer.{lists-answer}
+use Rattle.flow_state.specs.Booked.{Booked, work_at}
+use Rattle.flow_state.specs.declared.outcome.Answer.{Answer}
 use Rattle.flow_state.specs.declared.outcome.Outcome.{Outcome}
 use Rattle.flow_state.specs.declared.outcome.Outcome.TheVariants as outcome
 use Rattle.flow_state.specs.Answers.{step_for, step_of, IsOutcome, IsRight}
 use Rattle.flow_state.specs.Found.{selection_of}
 use Rattle.flow_state.specs.Jobs.{read_from, found_as, outcome_in, items_of, found_items, outcome_of, answer_of, HasFew, FitsBody, IsJob}
-use Rattle.interleave_core.specs.Whole.{cells_of, IsDue}
+use Rattle.interleave_core.specs.Whole.{Whole, cells_of, state_of, whole_of, IsWhole, IsDue}
+use Rattle.interleave_core.proofs.Fits.{all_nodes}
+use Rattle.interleave_core.proofs.StepsMade.{CanMake, can_here}
 use Rattle.interleave_core.proofs.NodesRead.{front-there}
 
 -- ---- where a call evaluates
@@ -52,21 +56,26 @@ pub due-entry : (graph : Graph) (s : Core) → IsLawful graph s → (t n : ℕ) 
 due-entry graph s h t n a = heads-entry graph s h t n (at_front-heads graph s t n (due-front graph s t n a))
 
 pub due-done : (graph : Graph) (s : Core) → IsLawful graph s → (t n : ℕ) → IsDue graph s t n → IsSome (last_done (before (entries s n) t))
-due-done graph s h t n a = (lists-answer graph s h).done_before n t (executes-live s t (and_left _ _ (and_left _ _ (due-front graph s t n a)))) (due-entry graph s h t n a)
+due-done graph s h t n a =
+    (lists-answer graph s h).done_before n t (executes-live s t (and_left _ _ (and_left _ _ (due-front graph s t n a))))
+    (due-entry graph s h t n a)
 
 -- ---- the job
 
 -- the work at a node in a book is that in its state
-pub work-there : (ws : List Work) (ls : List Versions) (n : ℕ) → length ls ≡ length ws → slice_index_or ws n no_work ≡ work_in (slice_index_or (cells_of ws ls) n no_cell)
+pub work-there : (ws : List Work) (ls : List Versions) (n : ℕ) → length ls ≡ length ws
+    → slice_index_or ws n no_work ≡ work_in (slice_index_or (cells_of ws ls) n no_cell)
 work-there [] ls n h = refl
 work-there (w ∷ ws) [] n h = absurd (omega (arith, h))
 work-there (w ∷ ws) (l ∷ ls) zero h = refl
 work-there (w ∷ ws) (l ∷ ls) (suc n) h = work-there ws ls n (omega (arith, h))
 
-few-names : (names : List (List ℕ)) (script : Scripted) (inputs : List ℕ) → Resolves names script inputs → Kept script → length inputs ≤ INPUTS
+few-names : (names : List (List ℕ)) (script : Scripted) (inputs : List ℕ) → Resolves names script inputs → Kept script
+    → length inputs ≤ INPUTS
 few-names names script inputs r k = omega (arith, k.few, length-map inputs (λ n. get_or names n []), ap length r)
 
-few-each : (names : List (List ℕ)) (n : ℕ) (selectors : List Selector) → AllByRecursion (IsSelector names n) selectors → AllByRecursion (λ (x : Selector). length x.inputs ≤ INPUTS) selectors
+few-each : (names : List (List ℕ)) (n : ℕ) (selectors : List Selector) → AllByRecursion (IsSelector names n) selectors
+    → AllByRecursion (λ (x : Selector). length x.inputs ≤ INPUTS) selectors
 few-each names n [] h = tt
 few-each names n (x ∷ xs) h = (few-names names x.script x.inputs h.0.resolves h.0.kept, few-each names n xs h.1)
 
@@ -86,18 +95,21 @@ fits-nothing : (body : Option Scripted) → FitsBody body None
 fits-nothing None = tt
 fits-nothing (Some body) = tt
 
-fits-found : (node : Node) → CanEvaluate node → (read : ℕ → Value) (acc : Value) → FitsBody (body_of node) (Some (items_of (finds node read acc)))
+fits-found : (node : Node) → CanEvaluate node → (read : ℕ → Value) (acc : Value)
+    → FitsBody (body_of node) (Some (items_of (finds node read acc)))
 fits-found (Source start) can read acc = tt
 fits-found (Signal script inputs) can read acc = tt
 fits-found (Fold start script inputs) can read acc = tt
 fits-found (Choose selectors None inputs) can read acc = tt
-fits-found (Choose selectors (Some body) inputs) can read acc = (subst (λ (k : ℕ). k ≤ SELECTORS) (sym many) can.1, subst (λ (k : ℕ). IsBody k body) (sym many) can.2)
+fits-found (Choose selectors (Some body) inputs) can read acc =
+    (subst (λ (k : ℕ). k ≤ SELECTORS) (sym many) can.1, subst (λ (k : ℕ). IsBody k body) (sym many) can.2)
   where
     many : length (items_of (finds (Choose selectors (Some body) inputs) read acc)) ≡ length selectors
     many = length-map _ found_as ∙ length-map selectors _
 
 -- Where the node's job is due, it can be made.
-pub due-job : (graph : Graph) → IsGraph graph → (s : Core) → IsLawful graph s → (t n : ℕ) → IsDue graph s t n → IsJob graph n (found_items (cell s n).found)
+pub due-job : (graph : Graph) → IsGraph graph → (s : Core) → IsLawful graph s → (t n : ℕ) → IsDue graph s t n
+    → IsJob graph n (found_items (cell s n).found)
 due-job graph g s h t n a = record {
   inside = inside;
   evaluates = can;
@@ -113,12 +125,18 @@ due-job graph g s h t n a = record {
 
     body : (found : Option state.Found) → (cell s n).found ≡ found → FitsBody (body_of (node_at graph n)) (found_items found)
     body None e = fits-nothing (body_of (node_at graph n))
-    body (Some f) e = subst (λ (x : state.Found). FitsBody (body_of (node_at graph n)) (Some (items_of x))) (sym (h.values_are_read.found t n f (at_front-heads graph s t n (due-front graph s t n a)) e)) (fits-found (node_at graph n) can (value_gathered s n) (value_before (entries s n) t))
+    body (Some f) e =
+        subst (λ (x : state.Found). FitsBody (body_of (node_at graph n)) (Some (items_of x)))
+        (sym (h.values_are_read.found t n f (at_front-heads graph s t n (due-front graph s t n a)) e))
+        (fits-found (node_at graph n) can (value_gathered s n) (value_before (entries s n) t))
 
-pub due-few : (graph : Graph) → IsGraph graph → (s : Core) → IsLawful graph s → (t n : ℕ) → IsDue graph s t n → length (cell s n).gathered ≤ 68
+pub due-few : (graph : Graph) → IsGraph graph → (s : Core) → IsLawful graph s → (t n : ℕ) → IsDue graph s t n
+    → length (cell s n).gathered ≤ 68
 due-few graph g s h t n a =
     let b = (has-bounds graph g s h).gathered n in
-    let f = few-inputs (node_at graph n) graph.names (0 + n) (node_is graph.names 0 graph.nodes n (Source (Faulty Kind)) g.nodes (due-there graph s h t n a)) in
+    let f =
+    few-inputs (node_at graph n) graph.names (0 + n)
+    (node_is graph.names 0 graph.nodes n (Source (Faulty Kind)) g.nodes (due-there graph s h t n a)) in
     omega (arith, b, f)
 
 -- ---- its answer
@@ -137,18 +155,21 @@ outcome-right graph s t n (state.Gives v) e = e
 outcome-right graph s t n (state.Selects rs) e = e ∙ ap state.Selects (sym (selections-back rs))
 
 -- Only a fold reads its value before the call.
-finds-same : (node : Node) (read : ℕ → Value) (acc before : Value) → (kind_of node ≡ kinds.Fold → acc ≡ before) → finds node read acc ≡ finds node read before
+finds-same : (node : Node) (read : ℕ → Value) (acc before : Value) → (kind_of node ≡ kinds.Fold → acc ≡ before)
+    → finds node read acc ≡ finds node read before
 finds-same (Source start) read acc before e = refl
 finds-same (Signal script inputs) read acc before e = refl
 finds-same (Fold start script inputs) read acc before e = ap (finds (Fold start script inputs) read) (e refl)
 finds-same (Choose selectors body inputs) read acc before e = refl
 
 -- What the job answers is right.
-pub answer-right : (graph : Graph) (s : Core) (t n : ℕ) (acc : Value) → (kind_of (node_at graph n) ≡ kinds.Fold → acc ≡ value_before (entries s n) t)
+pub answer-right : (graph : Graph) (s : Core) (t n : ℕ) (acc : Value)
+    → (kind_of (node_at graph n) ≡ kinds.Fold → acc ≡ value_before (entries s n) t)
     → IsRight graph s (answer_of graph t n (cell s n).gathered acc (found_items (cell s n).found))
 answer-right graph s t n acc e = go (cell s n).found refl
   where
-    go : (found : Option state.Found) → (cell s n).found ≡ found → IsOutcome graph s t n (outcome_of (node_at graph n) (cell s n).gathered acc (found_items found))
+    go : (found : Option state.Found) → (cell s n).found ≡ found
+        → IsOutcome graph s t n (outcome_of (node_at graph n) (cell s n).gathered acc (found_items found))
     go None k =
         outcome-right graph s t n (finds (node_at graph n) (read_from (cell s n).gathered) acc)
         (sym (finds-same (node_at graph n) (value_gathered s n) acc (value_before (entries s n) t) e))
@@ -159,17 +180,21 @@ outcome-step t n (state.Gives v) = refl
 outcome-step t n (state.Selects rs) = refl
 
 -- Its step is the one that is due.
-pub answer-scripts : (graph : Graph) (s : Core) (t n : ℕ) (acc : Value) → allowed graph s (step.Evaluate t n) ≡ true → step_of (answer_of graph t n (cell s n).gathered acc (found_items (cell s n).found)) ≡ step.Evaluate t n
+pub answer-scripts : (graph : Graph) (s : Core) (t n : ℕ) (acc : Value) → allowed graph s (step.Evaluate t n) ≡ true
+    → step_of (answer_of graph t n (cell s n).gathered acc (found_items (cell s n).found)) ≡ step.Evaluate t n
 answer-scripts graph s t n acc a = go (cell s n).found (evaluate-not_found graph s t n a)
   where
-    go : (found : Option state.Found) → is_some found ≡ false → step_for t n (outcome_of (node_at graph n) (cell s n).gathered acc (found_items found)) ≡ step.Evaluate t n
+    go : (found : Option state.Found) → is_some found ≡ false
+        → step_for t n (outcome_of (node_at graph n) (cell s n).gathered acc (found_items found)) ≡ step.Evaluate t n
     go None k = outcome-step t n (finds (node_at graph n) (read_from (cell s n).gathered) acc)
     go (Some f) k = cc
 
-pub answer-body : (graph : Graph) (s : Core) (t n : ℕ) (acc : Value) → allowed graph s (step.Body t n) ≡ true → step_of (answer_of graph t n (cell s n).gathered acc (found_items (cell s n).found)) ≡ step.Body t n
+pub answer-body : (graph : Graph) (s : Core) (t n : ℕ) (acc : Value) → allowed graph s (step.Body t n) ≡ true
+    → step_of (answer_of graph t n (cell s n).gathered acc (found_items (cell s n).found)) ≡ step.Body t n
 answer-body graph s t n acc a = go (cell s n).found (body-found graph s t n a)
   where
-    go : (found : Option state.Found) → is_some found ≡ true → step_for t n (outcome_of (node_at graph n) (cell s n).gathered acc (found_items found)) ≡ step.Body t n
+    go : (found : Option state.Found) → is_some found ≡ true
+        → step_for t n (outcome_of (node_at graph n) (cell s n).gathered acc (found_items found)) ≡ step.Body t n
     go None k = cc
     go (Some f) k = refl
 
@@ -178,3 +203,51 @@ pub answer-quiet : (t n : ℕ) (o : Outcome) → list_of_step (step_for t n o) �
 answer-quiet t n (outcome.Value v) = refl
 answer-quiet t n (outcome.Found list) = refl
 answer-quiet t n (outcome.Body v) = refl
+
+-- ---- over a book and lists
+
+-- What is due in what is seen is due in the state.
+pub due_here : {graph : Graph} {book : Booked} {lists : List Versions} {seen : Whole} (t n : ℕ)
+    → IsWhole graph book lists → whole_of graph book lists ≡ seen → IsDue seen.graph seen.state t n
+    → IsDue graph (state_of book.book lists) t n
+due_here t n kept view due = subst (λ (w : Whole). IsDue w.graph w.state t n) (sym view) due
+
+pub due_below : {graph : Graph} {book : Booked} {lists : List Versions} (t n : ℕ)
+    → IsWhole graph book lists → IsDue graph (state_of book.book lists) t n → n < length lists
+due_below {graph} {book} {lists} t n kept due =
+    let node = due-there graph (state_of book.book lists) kept.lawful t n due in
+    let many = all_nodes graph book lists kept in
+    omega (arith, node, many)
+
+-- the answer of the job that a book gives
+abbrev pub booked_answer : Graph → Booked → ℕ → ℕ → Value → Answer
+booked_answer graph book t n acc = answer_of graph t n (work_at book n).gathered acc (found_items (work_at book n).found)
+
+pub same_answer : {graph : Graph} {book : Booked} {lists : List Versions} (t n : ℕ) (acc : Value) → IsWhole graph book lists
+    → booked_answer graph book t n acc
+    ≡ answer_of graph t n (cell (state_of book.book lists) n).gathered acc (found_items (cell (state_of book.book lists) n).found)
+same_answer {graph} {book} {lists} t n acc kept =
+    ap (λ (w : Work). answer_of graph t n w.gathered acc (found_items w.found)) (work-there book.book.works lists n kept.many)
+
+pub scripts_answered : {graph : Graph} {book : Booked} {lists : List Versions} {seen : Whole} (t n : ℕ) (acc : Value)
+    → CanMake graph book lists seen (step.Evaluate t n) → step_of (booked_answer graph book t n acc) ≡ step.Evaluate t n
+scripts_answered {graph} {book} {lists} t n acc can =
+    ap step_of (same_answer t n acc can.kept) ∙ answer-scripts graph (state_of book.book lists) t n acc (can_here can)
+
+pub body_answered : {graph : Graph} {book : Booked} {lists : List Versions} {seen : Whole} (t n : ℕ) (acc : Value)
+    → CanMake graph book lists seen (step.Body t n) → step_of (booked_answer graph book t n acc) ≡ step.Body t n
+body_answered {graph} {book} {lists} t n acc can =
+    ap step_of (same_answer t n acc can.kept) ∙ answer-body graph (state_of book.book lists) t n acc (can_here can)
+
+-- What a fold reads as its value before the call, where that is asked.
+abbrev pub IsAcc : Graph → Core → ℕ → ℕ → Value → Type 0
+IsAcc graph s t n acc = kind_of (node_at graph n) ≡ kinds.Fold → acc ≡ value_before (entries s n) t
+
+pub right_answered : {graph : Graph} {book : Booked} {lists : List Versions} {seen : Whole} (t n : ℕ) (acc : Value)
+    → IsWhole graph book lists → whole_of graph book lists ≡ seen → IsAcc seen.graph seen.state t n acc
+    → IsRight seen.graph seen.state (booked_answer graph book t n acc)
+right_answered {graph} {book} {lists} t n acc kept view reads =
+    let here = subst (λ (w : Whole). IsAcc w.graph w.state t n acc) (sym view) reads in
+    let right = answer-right graph (state_of book.book lists) t n acc here in
+    subst (λ (w : Whole). IsRight w.graph w.state (booked_answer graph book t n acc)) view
+    (subst (IsRight graph (state_of book.book lists)) (sym (same_answer t n acc kept)) right)

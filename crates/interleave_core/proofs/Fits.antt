@@ -1,25 +1,13 @@
--- The state of a book and lists fits them, and what steps make of these is the state after the step.
-use Rattle.std.proofs.Common.{◌≡◌, ℕ, zero, suc, ◌+◌, ◌<◌, ◌==◌, ◌≢◌, Bool, true, false, List, [], ◌∷◌, length, map, Some, None, get_or, set, refl, sym, ap, ◌∙◌, subst, arith, length-set}
+-- The state of a book and its lists fits them.
+use Rattle.std.proofs.Common.{◌≡◌, ℕ, zero, suc, ◌+◌, ◌<◌, List, [], ◌∷◌, length, map, get_or, refl, sym, ap, ◌∙◌, arith}
 use Rattle.std.specs.Prelude.{slice_index_or}
-use Rattle.signal_graph.specs.Graph.{Graph, IsGraph}
+use Rattle.signal_graph.specs.Graph.{Graph}
 use Rattle.node_versions.specs.Entries.{Versions}
-use Rattle.flow_model.specs.declared.step.Step.{Step}
-use Rattle.flow_model.specs.declared.step.Step.TheVariants.{Discover}
-use Rattle.flow_model.specs.Machine.State.{Core, Cell, no_cell}
-use Rattle.flow_model.specs.Machine.Words.{is_some_of}
-use Rattle.flow_model.specs.Machine.Keys.{list_of_step}
-use Rattle.flow_model.specs.Machine.Steps.{allowed, apply}
-use Rattle.flow_model.specs.Kept.Lawful.{IsLawful}
-use Rattle.flow_model.specs.Parts.Books.{Work, work_in, listing, listing_in, book_of}
-use Rattle.flow_model.proofs.OneStep.SameLengths.{step-parts}
-use Rattle.flow_model.proofs.Books.StepsChangeOneListing.{changed-node, other-listings}
-use Rattle.flow_model.proofs.Books.StatesAreBooks.{state-whole}
+use Rattle.flow_model.specs.Machine.State.{Cell, no_cell}
+use Rattle.flow_model.specs.Parts.Books.{Work, work_in}
 use Rattle.flow_state.specs.Booked.{Booked}
-use Rattle.flow_state.specs.Fitting.{IsBookOf, IsBookStep, IsListStep, MakesBook, MakesList, MakesRead, list_of, choosers, book_after}
-use Rattle.flow_state.specs.declared.outcome.Answer.{Answer}
-use Rattle.flow_state.specs.Answers.{step_of, IsRight, IsAnswerStep, MakesAnswer}
-use Rattle.flow_state.specs.Joining.{MakesJoined, IsJoinedOf, MakesTold}
-use Rattle.interleave_core.specs.Whole.{Whole, after, cells_of, state_of, whole_of, HaveRooms, IsWhole}
+use Rattle.flow_state.specs.Fitting.{IsBookOf, list_of, choosers}
+use Rattle.interleave_core.specs.Whole.{cells_of, state_of, HaveRooms, IsWhole}
 
 -- ---- a state, its book and its lists
 
@@ -28,17 +16,18 @@ works-back [] ls h = refl
 works-back (w ∷ ws) [] h = absurd (omega (arith, h))
 works-back (w ∷ ws) (l ∷ ls) h = ap (λ (xs : List Work). w ∷ xs) (works-back ws ls (omega (arith, h)))
 
-cells-many : (ws : List Work) (ls : List Versions) → length ls ≡ length ws → length (cells_of ws ls) ≡ length ls
+pub cells-many : (ws : List Work) (ls : List Versions) → length ls ≡ length ws → length (cells_of ws ls) ≡ length ls
 cells-many [] [] h = refl
 cells-many [] (l ∷ ls) h = absurd (omega (arith, h))
 cells-many (w ∷ ws) [] h = refl
 cells-many (w ∷ ws) (l ∷ ls) h = ap suc (cells-many ws ls (omega (arith, h)))
 
-length-works : (cs : List Cell) → length (map work_in cs) ≡ length cs
+pub length-works : (cs : List Cell) → length (map work_in cs) ≡ length cs
 length-works [] = refl
 length-works (c ∷ cs) = ap suc (length-works cs)
 
-pub fits : (graph : Graph) (book : Booked) (lists : List Versions) → IsWhole graph book lists → IsBookOf graph (state_of book.book lists) book
+pub fits : (graph : Graph) (book : Booked) (lists : List Versions) → IsWhole graph book lists
+    → IsBookOf graph (state_of book.book lists) book
 fits graph book lists kept = record {
   is_graph = kept.is_graph;
   lawful = kept.lawful;
@@ -46,8 +35,13 @@ fits graph book lists kept = record {
   room_for = kept.room_for;
 }
 
-list-back : (graph : Graph) (callers k : ℕ) (ws : List Work) (ls : List Versions) (n : ℕ) (was : Versions) → length ls ≡ length ws → HaveRooms graph callers k ls → n < length ls → was ≡ get_or ls n was
-    → was ≡ record { entries = (slice_index_or (cells_of ws ls) n no_cell).entries; outs = (slice_index_or (cells_of ws ls) n no_cell).outs; room = callers + 9; outs_room = choosers graph (k + n) }
+-- the list of a node whose cell and place are known
+abbrev placed-list : Graph → ℕ → Cell → ℕ → Versions
+placed-list graph callers c n = record { entries = c.entries; outs = c.outs; room = callers + 9; outs_room = choosers graph n }
+
+list-back : (graph : Graph) (callers k : ℕ) (ws : List Work) (ls : List Versions) (n : ℕ) (was : Versions) → length ls ≡ length ws
+    → HaveRooms graph callers k ls → n < length ls → was ≡ get_or ls n was
+    → was ≡ placed-list graph callers (slice_index_or (cells_of ws ls) n no_cell) (k + n)
 list-back graph callers k ws [] n was same rooms h e = absurd (omega (arith, h))
 list-back graph callers k [] (l ∷ ls) n was same rooms h e = absurd (omega (arith, same))
 list-back graph callers k (w ∷ ws) (l ∷ ls) zero was same rooms h e =
@@ -57,227 +51,15 @@ list-back graph callers k (w ∷ ws) (l ∷ ls) zero was same rooms h e =
 list-back graph callers k (w ∷ ws) (l ∷ ls) (suc n) was same rooms h e =
     let z : k + 1 + n ≡ k + suc n = omega arith in
     list-back graph callers (k + 1) ws ls n was (omega (arith, same)) rooms.2 (omega (arith, h)) e
-    ∙ ap (λ (m : ℕ). record { entries = (slice_index_or (cells_of ws ls) n no_cell).entries; outs = (slice_index_or (cells_of ws ls) n no_cell).outs; room = callers + 9; outs_room = choosers graph m }) z
+    ∙ ap (placed-list graph callers (slice_index_or (cells_of ws ls) n no_cell)) z
 
-pub list_fits : (graph : Graph) (book : Booked) (lists : List Versions) (n : ℕ) (was : Versions) → IsWhole graph book lists → n < length lists → was ≡ get_or lists n was → was ≡ list_of graph (state_of book.book lists) n
+pub list_fits : (graph : Graph) (book : Booked) (lists : List Versions) (n : ℕ) (was : Versions) → IsWhole graph book lists
+    → n < length lists → was ≡ get_or lists n was → was ≡ list_of graph (state_of book.book lists) n
 list_fits graph book lists n was kept h e =
     let z : 0 + n ≡ n = omega arith in
     list-back graph book.book.callers 0 book.book.works lists n was kept.many kept.rooms h e
-    ∙ ap (λ (m : ℕ). record { entries = (slice_index_or (cells_of book.book.works lists) n no_cell).entries; outs = (slice_index_or (cells_of book.book.works lists) n no_cell).outs; room = book.book.callers + 9; outs_room = choosers graph m }) z
+    ∙ ap (placed-list graph book.book.callers (slice_index_or (cells_of book.book.works lists) n no_cell)) z
 
 -- There are as many lists as nodes.
 pub all_nodes : (graph : Graph) (book : Booked) (lists : List Versions) → IsWhole graph book lists → length lists ≡ length graph.nodes
 all_nodes graph book lists kept = sym (cells-many book.book.works lists kept.many) ∙ kept.lawful.lists
-
--- ---- where a step may be made
-
--- The law that each allowed step keeps states lawful.
-abbrev pub StaysLawful : Type 0
-StaysLawful = (graph : Graph) → IsGraph graph → (s : Core) (step : Step) → IsLawful graph s → allowed graph s step ≡ true → IsLawful graph (apply graph s step)
-
-pub record CanMake (graph : Graph) (book : Booked) (lists : List Versions) (seen : Whole) (step : Step) : Type 0 where
-  pub kept : IsWhole graph book lists
-  pub view : whole_of graph book lists ≡ seen
-  pub allowed : allowed seen.graph seen.state step ≡ true
-
-pub can-here : (graph : Graph) (book : Booked) (lists : List Versions) (seen : Whole) (step : Step) → CanMake graph book lists seen step → allowed graph (state_of book.book lists) step ≡ true
-can-here graph book lists seen step h = ap (λ (w : Whole). allowed w.graph w.state step) h.view ∙ h.allowed
-
--- The node of a step's list is one of the lists.
-pub list_there : (graph : Graph) (book : Booked) (lists : List Versions) (seen : Whole) (step : Step) (n : ℕ) → CanMake graph book lists seen step → list_of_step step ≡ Some n → n < length lists
-list_there graph book lists seen step n h e = subst (λ (k : ℕ). n < k) (sym (all_nodes graph book lists h.kept)) (changed-node graph h.kept.is_graph (state_of book.book lists) h.kept.lawful step (can-here graph book lists seen step h) n e)
-
--- A step on the book alone may be made of the book.
-pub can_book : (graph : Graph) (book : Booked) (lists : List Versions) (seen : Whole) (step : Step) → CanMake graph book lists seen step → IsBookStep graph book step
-can_book graph book lists seen step h = record { state = state_of book.book lists; fits = fits graph book lists h.kept; allowed = can-here graph book lists seen step h }
-
--- A step on the book and a list may be made of the book and the node's list.
-pub can_list : (graph : Graph) (book : Booked) (lists : List Versions) (seen : Whole) (step : Step) (n : ℕ) (was : Versions) → CanMake graph book lists seen step → n < length lists → was ≡ get_or lists n was → IsListStep graph book n was step
-can_list graph book lists seen step n was h below e = record {
-  state = state_of book.book lists;
-  fits = fits graph book lists h.kept;
-  is_list = list_fits graph book lists n was h.kept below e;
-  allowed = can-here graph book lists seen step h;
-}
-
--- An answer is right in the state where it is so in what is seen.
-pub right-here : (graph : Graph) (book : Booked) (lists : List Versions) (seen : Whole) (answer : Answer) → whole_of graph book lists ≡ seen → IsRight seen.graph seen.state answer → IsRight graph (state_of book.book lists) answer
-right-here graph book lists seen answer view right = subst (λ (w : Whole). IsRight w.graph w.state answer) (sym view) right
-
--- An answer may be put.
-pub can_answer : (graph : Graph) (book : Booked) (lists : List Versions) (seen : Whole) (answer : Answer) → CanMake graph book lists seen (step_of answer) → IsRight seen.graph seen.state answer → IsAnswerStep graph book answer
-can_answer graph book lists seen answer h right = record {
-  state = state_of book.book lists;
-  fits = fits graph book lists h.kept;
-  allowed = can-here graph book lists seen (step_of answer) h;
-  right = right-here graph book lists seen answer h.view right;
-}
-
--- ---- what a step makes
-
-pub record IsMade (graph : Graph) (new : Booked) (lists : List Versions) (seen : Whole) (step : Step) : Type 0 where
-  pub kept : IsWhole graph new lists
-  pub view : whole_of graph new lists ≡ after seen step
-
--- The new lists have the listings of the state after the step, and the rooms.
-record AreAfter (graph : Graph) (s : Core) (lists : List Versions) : Type 0 where
-  many : length lists ≡ length s.cells
-  rooms : HaveRooms graph s.callers 0 lists
-  alike : (m : ℕ) → listing (state_of (book_of s) lists) m ≡ listing s m
-
-made : (graph : Graph) (book new : Booked) (lists news : List Versions) (seen : Whole) (step : Step) → StaysLawful → CanMake graph book lists seen step
-    → new ≡ book_after graph (state_of book.book lists) step book → AreAfter graph (apply graph (state_of book.book lists) step) news → IsMade graph new news seen step
-made graph book new lists news seen step law h is new_lists =
-    let s : Core = state_of book.book lists in
-    let q : Core = apply graph s step in
-    let whole : state_of (book_of q) news ≡ q = state-whole (state_of (book_of q) news) q (ap (λ (ws : List Work). record (book_of q) { works = ws }) (works-back (map work_in q.cells) news (new_lists.many ∙ sym (length-works q.cells)))) new_lists.alike in
-    let lawful : IsLawful graph q = law graph h.kept.is_graph s step h.kept.lawful (can-here graph book lists seen step h) in
-    record {
-      kept = subst (λ (b : Booked). IsWhole graph b news) (sym is) (record {
-        is_graph = h.kept.is_graph;
-        many = new_lists.many ∙ sym (length-works q.cells);
-        room_for = h.kept.room_for;
-        rooms = new_lists.rooms;
-        lawful = subst (IsLawful graph) (sym whole) lawful;
-      });
-      view = ap (λ (b : Booked). whole_of graph b news) is ∙ ap (λ (x : Core). record { graph = graph; state = x; rooms = book.rooms }) whole ∙ ap (λ (w : Whole). after w step) h.view;
-    }
-
-kept-listings : (ws vs : List Work) (ls : List Versions) (m : ℕ) → length ls ≡ length ws → length ls ≡ length vs → listing_in (slice_index_or (cells_of vs ls) m no_cell) ≡ listing_in (slice_index_or (cells_of ws ls) m no_cell)
-kept-listings [] [] ls m h k = refl
-kept-listings [] (v ∷ vs) ls m h k = absurd (omega (arith, h, k))
-kept-listings (w ∷ ws) [] ls m h k = absurd (omega (arith, h, k))
-kept-listings (w ∷ ws) (v ∷ vs) [] m h k = refl
-kept-listings (w ∷ ws) (v ∷ vs) (l ∷ ls) zero h k = refl
-kept-listings (w ∷ ws) (v ∷ vs) (l ∷ ls) (suc m) h k = kept-listings ws vs ls m (omega (arith, h)) (omega (arith, k))
-
-same-many : (graph : Graph) (book : Booked) (lists : List Versions) (step : Step) → IsWhole graph book lists → length lists ≡ length (apply graph (state_of book.book lists) step).cells
-same-many graph book lists step kept = sym ((step-parts graph (state_of book.book lists) step).cells ∙ cells-many book.book.works lists kept.many)
-
-same-rooms : (graph : Graph) (book : Booked) (lists : List Versions) (step : Step) → IsWhole graph book lists → HaveRooms graph (apply graph (state_of book.book lists) step).callers 0 lists
-same-rooms graph book lists step kept = subst (λ (k : ℕ). HaveRooms graph k 0 lists) (sym (step-parts graph (state_of book.book lists) step).callers) kept.rooms
-
--- a step that changes no list
-pub made_by_book : (graph : Graph) (book new : Booked) (lists : List Versions) (seen : Whole) (step : Step) → StaysLawful → CanMake graph book lists seen step
-    → list_of_step step ≡ None → new ≡ book_after graph (state_of book.book lists) step book → IsMade graph new lists seen step
-made_by_book graph book new lists seen step law h quiet is =
-    let s : Core = state_of book.book lists in
-    let q : Core = apply graph s step in
-    let many = same-many graph book lists step h.kept in
-    made graph book new lists lists seen step law h is (record {
-      many = many;
-      rooms = same-rooms graph book lists step h.kept;
-      alike = λ m. kept-listings book.book.works (map work_in q.cells) lists m h.kept.many (many ∙ sym (length-works q.cells)) ∙ sym (other-listings graph s step m (ap (λ o. is_some_of o m) quiet));
-    })
-
--- ---- one list changes
-
-new-listing : (vs : List Work) (ls : List Versions) (n : ℕ) (new : Versions) → length ls ≡ length vs → n < length ls → listing_in (slice_index_or (cells_of vs (set ls n new)) n no_cell) ≡ record { entries = new.entries; outs = new.outs }
-new-listing vs [] n new h below = absurd (omega (arith, below))
-new-listing [] (l ∷ ls) n new h below = absurd (omega (arith, h))
-new-listing (v ∷ vs) (l ∷ ls) zero new h below = refl
-new-listing (v ∷ vs) (l ∷ ls) (suc n) new h below = new-listing vs ls n new (omega (arith, h)) (omega (arith, below))
-
-other-listing : (vs : List Work) (ls : List Versions) (n m : ℕ) (new : Versions) → n ≢ m → listing_in (slice_index_or (cells_of vs (set ls n new)) m no_cell) ≡ listing_in (slice_index_or (cells_of vs ls) m no_cell)
-other-listing vs [] n m new d = refl
-other-listing [] (l ∷ ls) zero m new d = refl
-other-listing [] (l ∷ ls) (suc n) m new d = refl
-other-listing (v ∷ vs) (l ∷ ls) zero zero new d = absurd (d refl)
-other-listing (v ∷ vs) (l ∷ ls) zero (suc m) new d = refl
-other-listing (v ∷ vs) (l ∷ ls) (suc n) zero new d = refl
-other-listing (v ∷ vs) (l ∷ ls) (suc n) (suc m) new d = other-listing vs ls n m new (λ e. d (ap suc e))
-
-set-rooms : (graph : Graph) (callers k : ℕ) (ls : List Versions) (n : ℕ) (new : Versions) → HaveRooms graph callers k ls → new.room ≡ callers + 9 → new.outs_room ≡ choosers graph (k + n) → HaveRooms graph callers k (set ls n new)
-set-rooms graph callers k [] n new rooms a b = tt
-set-rooms graph callers k (l ∷ ls) zero new rooms a b = let z : k + 0 ≡ k = omega arith in (a, b ∙ ap (choosers graph) z, rooms.2)
-set-rooms graph callers k (l ∷ ls) (suc n) new rooms a b = let z : k + suc n ≡ k + 1 + n = omega arith in (rooms.0, rooms.1, set-rooms graph callers (k + 1) ls n new rooms.2 a (b ∙ ap (choosers graph) z))
-
--- a step that changes one list
-pub made_by_list : (graph : Graph) (book new : Booked) (lists : List Versions) (seen : Whole) (step : Step) (n : ℕ) (list : Versions) → StaysLawful → CanMake graph book lists seen step
-    → list_of_step step ≡ Some n → (new ≡ book_after graph (state_of book.book lists) step book) × (list ≡ list_of graph (apply graph (state_of book.book lists) step) n)
-    → IsMade graph new (set lists n list) seen step
-made_by_list graph book new lists seen step n list law h one made_so =
-    made graph book new lists (set lists n list) seen step law h made_so.0 (record {
-      many = length-set lists n list ∙ many;
-      rooms = let z : n ≡ 0 + n = omega arith in set-rooms graph q.callers 0 lists n list (same-rooms graph book lists step h.kept) (ap (λ (v : Versions). v.room) made_so.1) (ap (λ (v : Versions). v.outs_room) made_so.1 ∙ ap (choosers graph) z);
-      alike = λ m. alike m (n == m) refl;
-    })
-  where
-    s : Core
-    s = state_of book.book lists
-
-    q : Core
-    q = apply graph s step
-
-    many : length lists ≡ length q.cells
-    many = same-many graph book lists step h.kept
-
-    works : List Work
-    works = map work_in q.cells
-
-    works_many : length lists ≡ length works
-    works_many = many ∙ sym (length-works q.cells)
-
-    below : n < length lists
-    below = list_there graph book lists seen step n h one
-
-    there : listing (state_of (book_of q) (set lists n list)) n ≡ listing q n
-    there = new-listing works lists n list works_many below ∙ ap (λ (v : Versions). record { entries = v.entries; outs = v.outs }) made_so.1
-
-    alike : (m : ℕ) (same : Bool) → (n == m) ≡ same → listing (state_of (book_of q) (set lists n list)) m ≡ listing q m
-    alike m true e = let same : n ≡ m = grind (arith, e) in subst (λ (k : ℕ). listing (state_of (book_of q) (set lists n list)) k ≡ listing q k) same there
-    alike m false e = other-listing works lists n m list (λ x. grind (arith, e, x)) ∙ kept-listings book.book.works works lists m h.kept.many works_many ∙ sym (other-listings graph s step m (ap (λ o. is_some_of o m) one ∙ e))
-
--- ---- the forms of contracts
-
--- what a step on the book alone makes
-pub book_step : (graph : Graph) (book new : Booked) (lists : List Versions) (seen : Whole) (step : Step) → StaysLawful → CanMake graph book lists seen step
-    → list_of_step step ≡ None → MakesBook graph book step new → IsMade graph new lists seen step
-book_step graph book new lists seen step law h quiet makes =
-    made_by_book graph book new lists seen step law h quiet (makes (state_of book.book lists) (fits graph book lists h.kept) (can-here graph book lists seen step h))
-
--- what a step makes that reads one list and changes the book alone
-pub read_step : (graph : Graph) (book new : Booked) (lists : List Versions) (seen : Whole) (step : Step) (n : ℕ) (was : Versions) → StaysLawful → CanMake graph book lists seen step
-    → list_of_step step ≡ None → n < length lists → was ≡ get_or lists n was → MakesRead graph book n was step new → IsMade graph new lists seen step
-read_step graph book new lists seen step n was law h quiet below e makes =
-    made_by_book graph book new lists seen step law h quiet (makes (state_of book.book lists) (fits graph book lists h.kept) (list_fits graph book lists n was h.kept below e) (can-here graph book lists seen step h))
-
--- what a step on the book and one list makes
-pub list_step : (graph : Graph) (book new : Booked) (lists : List Versions) (seen : Whole) (step : Step) (n : ℕ) (was list : Versions) → StaysLawful → CanMake graph book lists seen step
-    → list_of_step step ≡ Some n → was ≡ get_or lists n was → MakesList graph book n was step new list → IsMade graph new (set lists n list) seen step
-list_step graph book new lists seen step n was list law h one e makes =
-    let below = list_there graph book lists seen step n h one in
-    made_by_list graph book new lists seen step n list law h one (makes (state_of book.book lists) (fits graph book lists h.kept) (list_fits graph book lists n was h.kept below e) (can-here graph book lists seen step h))
-
--- what an answer makes that is put
-pub answer_step : (graph : Graph) (book new : Booked) (lists : List Versions) (seen : Whole) (answer : Answer) → StaysLawful → CanMake graph book lists seen (step_of answer)
-    → list_of_step (step_of answer) ≡ None → IsRight seen.graph seen.state answer → MakesAnswer graph book answer new → IsMade graph new lists seen (step_of answer)
-answer_step graph book new lists seen answer law h quiet right makes =
-    made_by_book graph book new lists seen (step_of answer) law h quiet (makes (state_of book.book lists) (fits graph book lists h.kept) (can-here graph book lists seen (step_of answer) h) (right-here graph book lists seen answer h.view right))
-
--- ---- Discover, in two parts
-
--- Between the parts, the book and the list are those that the first part leaves.
-pub joined_of : (graph : Graph) (book new : Booked) (lists : List Versions) (seen : Whole) (t n m : ℕ) (was list : Versions) → CanMake graph book lists seen (Discover t n m)
-    → was ≡ get_or lists m was → MakesJoined graph book was t n m new list → IsJoinedOf graph (state_of book.book lists) t n m new list
-joined_of graph book new lists seen t n m was list h e makes =
-    let below = list_there graph book lists seen (Discover t n m) m h refl in
-    let can = can-here graph book lists seen (Discover t n m) h in
-    let made_so = makes (state_of book.book lists) (fits graph book lists h.kept) (list_fits graph book lists m was h.kept below e) can in
-    record {
-      lawful = h.kept.lawful;
-      allowed = can;
-      parts = ap (λ (b : Booked). b.book) made_so.0;
-      room_for = ap (λ (b : Booked). b.room_for) made_so.0 ∙ h.kept.room_for;
-      is_list = made_so.1;
-    }
-
--- what both parts make
-pub discover_step : (graph : Graph) (book new newer : Booked) (lists : List Versions) (seen : Whole) (t n m : ℕ) (was list : Versions) → StaysLawful → CanMake graph book lists seen (Discover t n m)
-    → was ≡ get_or lists m was → MakesJoined graph book was t n m new list → MakesTold graph t n m new list newer → IsMade graph newer (set lists m list) seen (Discover t n m)
-discover_step graph book new newer lists seen t n m was list law h e joins tells =
-    let s : Core = state_of book.book lists in
-    let below = list_there graph book lists seen (Discover t n m) m h refl in
-    let first = joins s (fits graph book lists h.kept) (list_fits graph book lists m was h.kept below e) (can-here graph book lists seen (Discover t n m) h) in
-    let told = tells s (joined_of graph book new lists seen t n m was list h e joins) in
-    made_by_list graph book newer lists seen (Discover t n m) m list law h refl (told.0 ∙ ap (book_after graph s (Discover t n m)) first.0, told.1)

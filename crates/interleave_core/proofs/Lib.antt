@@ -3,6 +3,8 @@ pub mod Counted
 pub mod Ends
 pub mod Evaluations
 pub mod Fits
+pub mod StepsMade
+pub mod StepForms
 pub mod NodesRead
 pub mod RunLemmas
 pub mod StartEdges

@@ -64,11 +64,13 @@ moves-append (BeginCall caller call ∷ acts) more = ap (λ (ms : List Move). Be
 moves-append (MakeStep step ∷ acts) more = ap (λ (ms : List Move). Make step ∷ ms) (moves-append acts more)
 
 -- a step twice in a run is twice in its history
-pub step_twice : (first more rest : List Act) (step : Step) → moves_of (first ++ (MakeStep step ∷ (more ++ (MakeStep step ∷ rest)))) ≡ moves_of first ++ (Make step ∷ (moves_of more ++ (Make step ∷ moves_of rest)))
+pub step_twice : (first more rest : List Act) (step : Step)
+    → moves_of (first ++ (MakeStep step ∷ (more ++ (MakeStep step ∷ rest)))) ≡ moves_of first ++ (Make step ∷ (moves_of more ++ (Make step ∷ moves_of rest)))
 step_twice first more rest step = moves-append first _ ∙ ap (λ (ms : List Move). moves_of first ++ (Make step ∷ ms)) (moves-append more _)
 
 -- no run has what no history has
-pub no_run : (graph : Graph) (callers limit : ℕ) (acts : List Act) (moves : List Move) → moves_of acts ≡ moves → is_history graph callers limit moves ≡ false → is_run graph callers limit acts ≡ false
+pub no_run : (graph : Graph) (callers limit : ℕ) (acts : List Act) (moves : List Move) → moves_of acts ≡ moves
+    → is_history graph callers limit moves ≡ false → is_run graph callers limit acts ≡ false
 no_run graph callers limit acts moves e f = go (true_or_false (is_run graph callers limit acts))
   where
     go : (is_run graph callers limit acts ≡ true) ⊎ (is_run graph callers limit acts ≡ false) → is_run graph callers limit acts ≡ false

@@ -21,7 +21,8 @@ tells_by n p q a b c d same t = record {
   mark = λ m. t.mark m ∙ ap (λ (x : Bool). elim x as (λ _. ℕ) [ true ↦ n + 1 | false ↦ number_at b m ]) (same m);
 }
 
-pub tells_more : (n : ℕ) (p q : ℕ → Bool) (a b c d e f : List ℕ) → Tells n p a b c d → Tells n q c d e f → Tells n (λ m. p m || q m) a b e f
+pub tells_more : (n : ℕ) (p q : ℕ → Bool) (a b c d e f : List ℕ) → Tells n p a b c d → Tells n q c d e f
+    → Tells n (λ m. p m || q m) a b e f
 tells_more n p q a b c d e f t u = record {
   counts_size = u.counts_size ∙ t.counts_size;
   marks_size = u.marks_size ∙ t.marks_size;
@@ -29,7 +30,8 @@ tells_more n p q a b c d e f t u = record {
   mark = λ m. mark (p m) (q m) (number_at b m) (number_at d m) (number_at f m) (t.mark m) (u.mark m);
 }
   where
-    mark : (x y : Bool) (b d f : ℕ) → d ≡ elim x as (λ _. ℕ) [ true ↦ n + 1 | false ↦ b ] → f ≡ elim y as (λ _. ℕ) [ true ↦ n + 1 | false ↦ d ] → f ≡ elim (x || y) as (λ _. ℕ) [ true ↦ n + 1 | false ↦ b ]
+    mark : (x y : Bool) (b d f : ℕ) → d ≡ elim x as (λ _. ℕ) [ true ↦ n + 1 | false ↦ b ]
+        → f ≡ elim y as (λ _. ℕ) [ true ↦ n + 1 | false ↦ d ] → f ≡ elim (x || y) as (λ _. ℕ) [ true ↦ n + 1 | false ↦ b ]
     mark true true b d f h k = k
     mark true false b d f h k = k ∙ h
     mark false true b d f h k = k
@@ -38,31 +40,39 @@ tells_more n p q a b c d e f t u = record {
     marked : (n : ℕ) → (n + 1 == n + 1) ≡ true
     marked n = grind (arith, eqb_tells)
 
-    count : (x y : Bool) (a b c d e : ℕ) → c ≡ a + one_if (x && not (b == n + 1)) → d ≡ elim x as (λ _. ℕ) [ true ↦ n + 1 | false ↦ b ] → e ≡ c + one_if (y && not (d == n + 1)) → e ≡ a + one_if ((x || y) && not (b == n + 1))
+    count : (x y : Bool) (a b c d e : ℕ) → c ≡ a + one_if (x && not (b == n + 1)) → d ≡ elim x as (λ _. ℕ) [ true ↦ n + 1 | false ↦ b ]
+        → e ≡ c + one_if (y && not (d == n + 1)) → e ≡ a + one_if ((x || y) && not (b == n + 1))
     count true true a b c d e g h k =
-        let z : one_if (not (d == n + 1)) ≡ 0 = ap (λ (d : ℕ). one_if (not (d == n + 1))) h ∙ ap (λ (x : Bool). one_if (not x)) (marked n) in
+        let z : one_if (not (d == n + 1)) ≡ 0 = ap (λ (d : ℕ). one_if (not (d == n + 1))) h
+            ∙ ap (λ (x : Bool). one_if (not x)) (marked n) in
         omega (arith, g, k, z)
     count true false a b c d e g h k = omega (arith, g, k)
     count false true a b c d e g h k = let z : one_if (not (d == n + 1)) ≡ one_if (not (b == n + 1)) = ap (λ (d : ℕ). one_if (not (d == n + 1))) h in omega (arith, g, k, z)
     count false false a b c d e g h k = omega (arith, g, k)
 
 -- one node is counted where it was not
-number_set : (ns : List ℕ) (c m x : ℕ) → c < length ns → number_at (set ns c x) m ≡ elim (c == m) as (λ _. ℕ) [ true ↦ x | false ↦ number_at ns m ]
+number_set : (ns : List ℕ) (c m x : ℕ) → c < length ns
+    → number_at (set ns c x) m ≡ elim (c == m) as (λ _. ℕ) [ true ↦ x | false ↦ number_at ns m ]
 number_set ns c m x h = go (true_or_false (c == m))
   where
-    go : ((c == m) ≡ true) ⊎ ((c == m) ≡ false) → number_at (set ns c x) m ≡ elim (c == m) as (λ _. ℕ) [ true ↦ x | false ↦ number_at ns m ]
+    go : ((c == m) ≡ true) ⊎ ((c == m) ≡ false)
+        → number_at (set ns c x) m ≡ elim (c == m) as (λ _. ℕ) [ true ↦ x | false ↦ number_at ns m ]
     go (inl e) = let same : c ≡ m = same_number c m e in rw e (subst (λ (k : ℕ). get_or (set ns c x) k 0 ≡ x) same (get_or-set_same ns c x 0 h))
     go (inr e) = rw e (get_or-set_other ns c m x 0 (λ same. other_number c m e (sym same)))
 
-pub tells_one : (n c mark count : ℕ) (counts marks : List ℕ) → c < length counts → length marks ≡ length counts → mark ≡ n + 1 → count ≡ number_at counts c + 1 → (number_at marks c == n + 1) ≡ false → Tells n (λ m. c == m) counts marks (set counts c count) (set marks c mark)
+pub tells_one : (n c mark count : ℕ) (counts marks : List ℕ) → c < length counts → length marks ≡ length counts → mark ≡ n + 1
+    → count ≡ number_at counts c + 1 → (number_at marks c == n + 1) ≡ false
+    → Tells n (λ m. c == m) counts marks (set counts c count) (set marks c mark)
 tells_one n c mark count counts marks h same is more new = record {
   counts_size = length-set counts c count;
   marks_size = length-set marks c mark;
   count = λ m. number_set counts c m count h ∙ counted m (true_or_false (c == m));
-  mark = λ m. number_set marks c m mark (omega (arith, h, same)) ∙ ap (λ (x : ℕ). elim (c == m) as (λ _. ℕ) [ true ↦ x | false ↦ number_at marks m ]) is;
+  mark = λ m. number_set marks c m mark (omega (arith, h, same))
+      ∙ ap (λ (x : ℕ). elim (c == m) as (λ _. ℕ) [ true ↦ x | false ↦ number_at marks m ]) is;
 }
   where
-    counted : (m : ℕ) → ((c == m) ≡ true) ⊎ ((c == m) ≡ false) → elim (c == m) as (λ _. ℕ) [ true ↦ count | false ↦ number_at counts m ] ≡ number_at counts m + one_if ((c == m) && not (number_at marks m == n + 1))
+    counted : (m : ℕ) → ((c == m) ≡ true) ⊎ ((c == m) ≡ false)
+        → elim (c == m) as (λ _. ℕ) [ true ↦ count | false ↦ number_at counts m ] ≡ number_at counts m + one_if ((c == m) && not (number_at marks m == n + 1))
     counted m (inl e) = let here : c ≡ m = same_number c m e in
         let f : (number_at marks m == n + 1) ≡ false = subst (λ (k : ℕ). (number_at marks k == n + 1) ≡ false) here new in
         let g : count ≡ number_at counts m + 1 = subst (λ (k : ℕ). count ≡ number_at counts k + 1) here more in
@@ -70,7 +80,8 @@ tells_one n c mark count counts marks h same is more new = record {
     counted m (inr e) = rw e (omega arith)
 
 -- it counts already
-pub tells_again : (n c : ℕ) (counts marks : List ℕ) → (number_at marks c == n + 1) ≡ true → Tells n (λ m. c == m) counts marks counts marks
+pub tells_again : (n c : ℕ) (counts marks : List ℕ) → (number_at marks c == n + 1) ≡ true
+    → Tells n (λ m. c == m) counts marks counts marks
 tells_again n c counts marks there = record {
   counts_size = refl;
   marks_size = refl;
@@ -78,13 +89,15 @@ tells_again n c counts marks there = record {
   mark = λ m. marked m (true_or_false (c == m));
 }
   where
-    counted : (m : ℕ) → ((c == m) ≡ true) ⊎ ((c == m) ≡ false) → number_at counts m ≡ number_at counts m + one_if ((c == m) && not (number_at marks m == n + 1))
+    counted : (m : ℕ) → ((c == m) ≡ true) ⊎ ((c == m) ≡ false)
+        → number_at counts m ≡ number_at counts m + one_if ((c == m) && not (number_at marks m == n + 1))
     counted m (inl e) = let here : c ≡ m = same_number c m e in
         let f : (number_at marks m == n + 1) ≡ true = subst (λ (k : ℕ). (number_at marks k == n + 1) ≡ true) here there in
         rw e (rw f (omega arith))
     counted m (inr e) = rw e (omega arith)
 
-    marked : (m : ℕ) → ((c == m) ≡ true) ⊎ ((c == m) ≡ false) → number_at marks m ≡ elim (c == m) as (λ _. ℕ) [ true ↦ n + 1 | false ↦ number_at marks m ]
+    marked : (m : ℕ) → ((c == m) ≡ true) ⊎ ((c == m) ≡ false)
+        → number_at marks m ≡ elim (c == m) as (λ _. ℕ) [ true ↦ n + 1 | false ↦ number_at marks m ]
     marked m (inl e) = let here : c ≡ m = same_number c m e in
         rw e (subst (λ (k : ℕ). number_at marks k ≡ n + 1) here (grind (arith, eqb_tells, there)))
     marked m (inr e) = rw e refl
@@ -101,7 +114,8 @@ up_to_told n test a b c d u t = record {
     within true b d h e = omega (arith, h, e)
     within false b d h e = omega (arith, h, e)
 
-    counted : (x : Bool) (a b c d : ℕ) → b ≤ n + 1 → a ≤ b → c ≡ a + one_if (x && not (b == n + 1)) → d ≡ elim x as (λ _. ℕ) [ true ↦ n + 1 | false ↦ b ] → c ≤ d
+    counted : (x : Bool) (a b c d : ℕ) → b ≤ n + 1 → a ≤ b → c ≡ a + one_if (x && not (b == n + 1))
+        → d ≡ elim x as (λ _. ℕ) [ true ↦ n + 1 | false ↦ b ] → c ≤ d
     counted true a b c d h k e f = go (true_or_false (b == n + 1))
       where
         go : ((b == n + 1) ≡ true) ⊎ ((b == n + 1) ≡ false) → c ≤ d

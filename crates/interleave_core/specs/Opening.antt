@@ -13,7 +13,12 @@ opened_core graph callers limit = record { graph = graph; state = opening graph 
 
 -- the list of a node before any call
 abbrev pub start_list : Graph → ℕ → ℕ → Versions
-start_list graph callers n = record { entries = start_entry graph n ∷ []; outs = start_outs graph n; room = callers + 9; outs_room = choosers graph n }
+start_list graph callers n = record {
+  entries = start_entry graph n ∷ [];
+  outs = start_outs graph n;
+  room = callers + 9;
+  outs_room = choosers graph n;
+}
 
 -- the same without out-edges
 abbrev pub bare_list : Graph → ℕ → ℕ → Versions

@@ -17,20 +17,34 @@ pub record Whole : Type 0 where
   pub state : Core
   pub rooms : ℕ
 
+-- the same with another state
 abbrev pub with_state : Whole → Core → Whole
 with_state whole s = record whole { state = s }
 
+-- after a step
 abbrev pub after : Whole → Step → Whole
 after whole step = with_state whole (apply whole.graph whole.state step)
 
+-- what is kept of each node: its list, and the work there
 abbrev pub cells_of : List Work → List Versions → List Cell
 cells_of [] lists = []
 cells_of (w ∷ ws) [] = []
-cells_of (w ∷ ws) (l ∷ ls) = record { entries = l.entries; outs = l.outs; gathered = w.gathered; found = w.found; body = w.body } ∷ cells_of ws ls
+cells_of (w ∷ ws) (l ∷ ls) =
+    record { entries = l.entries; outs = l.outs; gathered = w.gathered; found = w.found; body = w.body } ∷ cells_of ws ls
 
+-- the state of a book and lists
 abbrev pub state_of : Book → List Versions → Core
-state_of flow lists = record { callers = flow.callers; limit = flow.limit; begun = flow.begun; calls = flow.calls; cells = cells_of flow.works lists; pairs = flow.pairs; log = flow.log }
+state_of book lists = record {
+  callers = book.callers;
+  limit = book.limit;
+  begun = book.begun;
+  calls = book.calls;
+  cells = cells_of book.works lists;
+  pairs = book.pairs;
+  log = book.log;
+}
 
+-- what is seen of them
 abbrev pub whole_of : Graph → Booked → List Versions → Whole
 whole_of graph book lists = record { graph = graph; state = state_of book.book lists; rooms = book.rooms }
 

@@ -49,8 +49,10 @@ impl Core<'_> {
     // What the evaluation that is due at the node finds, of its scripts or of its body.
     fn answer(&self, version: u32, node: u32) -> Answer
         requires { IsDue self.now.graph self.now.state version node }
-        ensures scripts { allowed self.now.graph self.now.state (step.Evaluate version node) ≡ true → step_of result ≡ step.Evaluate version node }
-        ensures body { allowed self.now.graph self.now.state (step.Body version node) ≡ true → step_of result ≡ step.Body version node }
+        ensures scripts { allowed self.now.graph self.now.state (step.Evaluate version node) ≡ true
+            → step_of result ≡ step.Evaluate version node }
+        ensures body { allowed self.now.graph self.now.state (step.Body version node) ≡ true
+            → step_of result ≡ step.Body version node }
         ensures right { IsRight self.now.graph self.now.state result }
     {
         let acc = self.acc(version, node);

@@ -44,7 +44,8 @@ impl Tally {
         requires marks { length self.old.marks.items ≡ length graph.now.nodes }
         requires up_to { IsUpTo node self.old.counts.items self.old.marks.items }
         ensures up_to { IsUpTo (node + 1) self.new.counts.items self.new.marks.items }
-        ensures tells { Tells node (λ m. lists_candidate m (selectors_of (node_at graph.now node))) self.old.counts.items self.old.marks.items self.new.counts.items self.new.marks.items }
+        ensures tells { Tells node (λ m. lists_candidate m (selectors_of (node_at graph.now node)))
+            self.old.counts.items self.old.marks.items self.new.counts.items self.new.marks.items }
     {
         for selector in graph.node(node).selectors() {
             self.count_all(node, selector.candidates.as_slice());
@@ -58,7 +59,8 @@ impl Tally {
         requires marks { length self.old.marks.items ≡ length self.old.counts.items }
         requires up_to { IsUpTo (node + 1) self.old.counts.items self.old.marks.items }
         ensures up_to { IsUpTo (node + 1) self.new.counts.items self.new.marks.items }
-        ensures tells { Tells node (λ m. is_in m candidates.now) self.old.counts.items self.old.marks.items self.new.counts.items self.new.marks.items }
+        ensures tells { Tells node (λ m. is_in m candidates.now)
+            self.old.counts.items self.old.marks.items self.new.counts.items self.new.marks.items }
     {
         for candidate in candidates {
             self.count_one(node, *candidate);
@@ -72,7 +74,8 @@ impl Tally {
         requires marks { length self.old.marks.items ≡ length self.old.counts.items }
         requires up_to { IsUpTo (node + 1) self.old.counts.items self.old.marks.items }
         ensures up_to { IsUpTo (node + 1) self.new.counts.items self.new.marks.items }
-        ensures tells { Tells node (λ m. candidate == m) self.old.counts.items self.old.marks.items self.new.counts.items self.new.marks.items }
+        ensures tells { Tells node (λ m. candidate == m)
+            self.old.counts.items self.old.marks.items self.new.counts.items self.new.marks.items }
     {
         let place = candidate as usize;
         let mark = node + 1;

@@ -1,42 +1,36 @@
-use Rattle.std.proofs.Common.{◌<◌, length, refl, sym, ◌∙◌, arith}
+use Rattle.std.proofs.Common.{refl, sym, ◌∙◌, arith}
 use Rattle.flow_model.specs.declared.step.Step.TheVariants as step
-use Rattle.interleave_core.specs.Whole.{state_of}
-use Rattle.interleave_core.proofs.Fits.{CanMake, can-here, all_nodes, can_list, read_step}
-use Rattle.interleave_core.proofs.NodesRead.{look-there}
+use Rattle.interleave_core.proofs.StepsMade.{can_make}
+use Rattle.interleave_core.proofs.StepForms.{can_list, read_step}
+use Rattle.interleave_core.proofs.NodesRead.{look_below}
 use Rattle.interleave_core.proofs.core_state.Core.look.Goals as goal
 
 pub index-list-requires : goal.index-list-requires
 index-list-requires c =
-    let m = c.self.inside in
-    let can : CanMake m.graph.now m.book m.lists.items c.args.self.now (step.Look c.args.version) = record { kept = c.self.invariant; view = c.self.view_is; allowed = c.requires.allowed } in
-    let node = look-there m.graph.now c.self.invariant.is_graph (state_of m.book.book m.lists.items) c.self.invariant.lawful c.args.version c.in-Some.node (can-here m.graph.now m.book m.lists.items c.args.self.now (step.Look c.args.version) can) (sym c.next_look.ensures ∙ c.in-Some.is) in
-    let many = all_nodes m.graph.now m.book m.lists.items c.self.invariant in
-    let below : c.in-Some.node < length m.lists.items = omega (arith, node, many) in
+    let looks = sym c.next_look.ensures ∙ c.in-Some.is in
+    let can = can_make (step.Look c.args.version) c.self.invariant c.self.view_is c.requires.allowed in
+    let below = look_below c.args.version c.in-Some.node can looks in
     omega (arith, below)
 
 pub look-requires : goal.look-requires
 look-requires c =
-    let m = c.self.inside in
-    let can : CanMake m.graph.now m.book m.lists.items c.args.self.now (step.Look c.args.version) = record { kept = c.self.invariant; view = c.self.view_is; allowed = c.requires.allowed } in
-    let node = look-there m.graph.now c.self.invariant.is_graph (state_of m.book.book m.lists.items) c.self.invariant.lawful c.args.version c.in-Some.node (can-here m.graph.now m.book m.lists.items c.args.self.now (step.Look c.args.version) can) (sym c.next_look.ensures ∙ c.in-Some.is) in
-    let many = all_nodes m.graph.now m.book m.lists.items c.self.invariant in
-    let below : c.in-Some.node < length m.lists.items = omega (arith, node, many) in
-    (m.graph.now, c.in-Some.node, (sym c.next_look.ensures ∙ c.in-Some.is), (can_list m.graph.now m.book m.lists.items c.args.self.now (step.Look c.args.version) c.in-Some.node c.index-list.result.now can below c.index-list.ensures))
+    let looks = sym c.next_look.ensures ∙ c.in-Some.is in
+    let can = can_make (step.Look c.args.version) c.self.invariant c.self.view_is c.requires.allowed in
+    let below = look_below c.args.version c.in-Some.node can looks in
+    (c.self.inside.graph.now, c.in-Some.node, looks, can_list can below c.index-list.ensures)
 
 pub invariant_of-self : goal.invariant_of-self
 invariant_of-self c =
-    let m = c.self.inside in
-    let can : CanMake m.graph.now m.book m.lists.items c.args.self.now (step.Look c.args.version) = record { kept = c.self.invariant; view = c.self.view_is; allowed = c.requires.allowed } in
-    let node = look-there m.graph.now c.self.invariant.is_graph (state_of m.book.book m.lists.items) c.self.invariant.lawful c.args.version c.in-Some.node (can-here m.graph.now m.book m.lists.items c.args.self.now (step.Look c.args.version) can) (sym c.next_look.ensures ∙ c.in-Some.is) in
-    let many = all_nodes m.graph.now m.book m.lists.items c.self.invariant in
-    let below : c.in-Some.node < length m.lists.items = omega (arith, node, many) in
-    (read_step m.graph.now m.book c.look.new.book m.lists.items c.args.self.now (step.Look c.args.version) c.in-Some.node c.index-list.result.now c.lawful_stays.ensures.step can refl below c.index-list.ensures (c.look.ensures m.graph.now c.in-Some.node (sym c.next_look.ensures ∙ c.in-Some.is))).kept
+    let looks = sym c.next_look.ensures ∙ c.in-Some.is in
+    let can = can_make (step.Look c.args.version) c.self.invariant c.self.view_is c.requires.allowed in
+    let below = look_below c.args.version c.in-Some.node can looks in
+    let makes = c.look.ensures c.self.inside.graph.now c.in-Some.node looks in
+    (read_step c.lawful_stays.ensures.step can refl below c.index-list.ensures makes).kept
 
 pub returns : goal.returns
 returns c =
-    let m = c.self.inside in
-    let can : CanMake m.graph.now m.book m.lists.items c.args.self.now (step.Look c.args.version) = record { kept = c.self.invariant; view = c.self.view_is; allowed = c.requires.allowed } in
-    let node = look-there m.graph.now c.self.invariant.is_graph (state_of m.book.book m.lists.items) c.self.invariant.lawful c.args.version c.in-Some.node (can-here m.graph.now m.book m.lists.items c.args.self.now (step.Look c.args.version) can) (sym c.next_look.ensures ∙ c.in-Some.is) in
-    let many = all_nodes m.graph.now m.book m.lists.items c.self.invariant in
-    let below : c.in-Some.node < length m.lists.items = omega (arith, node, many) in
-    (read_step m.graph.now m.book c.look.new.book m.lists.items c.args.self.now (step.Look c.args.version) c.in-Some.node c.index-list.result.now c.lawful_stays.ensures.step can refl below c.index-list.ensures (c.look.ensures m.graph.now c.in-Some.node (sym c.next_look.ensures ∙ c.in-Some.is))).view
+    let looks = sym c.next_look.ensures ∙ c.in-Some.is in
+    let can = can_make (step.Look c.args.version) c.self.invariant c.self.view_is c.requires.allowed in
+    let below = look_below c.args.version c.in-Some.node can looks in
+    let makes = c.look.ensures c.self.inside.graph.now c.in-Some.node looks in
+    (read_step c.lawful_stays.ensures.step can refl below c.index-list.ensures makes).view

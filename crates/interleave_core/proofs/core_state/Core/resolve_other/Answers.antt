@@ -1,26 +1,26 @@
 use Rattle.std.proofs.Common.{refl, arith}
 use Rattle.flow_model.specs.declared.step.Step.TheVariants as step
-use Rattle.interleave_core.proofs.Fits.{list_there, can_list, list_step}
+use Rattle.interleave_core.proofs.StepsMade.{can_make, list_there}
+use Rattle.interleave_core.proofs.StepForms.{can_list, list_step}
 use Rattle.interleave_core.proofs.core_state.Core.resolve_other.Goals as goal
 
 pub index_mut-list-requires : goal.index_mut-list-requires
 index_mut-list-requires c =
-    let m = c.self.inside in
-    let below = list_there m.graph.now m.book m.lists.items c.args.self.now (step.Resolve c.args.version c.args.node) c.args.node (record { kept = c.self.invariant; view = c.self.view_is; allowed = c.requires.allowed }) refl in
+    let can = can_make (step.Resolve c.args.version c.args.node) c.self.invariant c.self.view_is c.requires.allowed in
+    let below = list_there can refl in
     omega (arith, below)
 
 pub resolve-requires : goal.resolve-requires
 resolve-requires c =
-    let m = c.self.inside in
-    let below = list_there m.graph.now m.book m.lists.items c.args.self.now (step.Resolve c.args.version c.args.node) c.args.node (record { kept = c.self.invariant; view = c.self.view_is; allowed = c.requires.allowed }) refl in
-    (can_list m.graph.now m.book m.lists.items c.args.self.now (step.Resolve c.args.version c.args.node) c.args.node c.index_mut-list.result.now (record { kept = c.self.invariant; view = c.self.view_is; allowed = c.requires.allowed }) below c.index_mut-list.ensures.value)
+    let can = can_make (step.Resolve c.args.version c.args.node) c.self.invariant c.self.view_is c.requires.allowed in
+    can_list can (list_there can refl) c.index_mut-list.ensures.value
 
 pub invariant_of-self : goal.invariant_of-self
 invariant_of-self c =
-    let m = c.self.inside in
-    (list_step m.graph.now m.book c.resolve.new.book m.lists.items c.args.self.now (step.Resolve c.args.version c.args.node) c.args.node c.index_mut-list.result.now c.resolve.new.list c.lawful_stays.ensures.step (record { kept = c.self.invariant; view = c.self.view_is; allowed = c.requires.allowed }) refl c.index_mut-list.ensures.value c.resolve.ensures).kept
+    let can = can_make (step.Resolve c.args.version c.args.node) c.self.invariant c.self.view_is c.requires.allowed in
+    (list_step c.lawful_stays.ensures.step can refl c.index_mut-list.ensures.value c.resolve.ensures).kept
 
 pub returns : goal.returns
 returns c =
-    let m = c.self.inside in
-    (list_step m.graph.now m.book c.resolve.new.book m.lists.items c.args.self.now (step.Resolve c.args.version c.args.node) c.args.node c.index_mut-list.result.now c.resolve.new.list c.lawful_stays.ensures.step (record { kept = c.self.invariant; view = c.self.view_is; allowed = c.requires.allowed }) refl c.index_mut-list.ensures.value c.resolve.ensures).view
+    let can = can_make (step.Resolve c.args.version c.args.node) c.self.invariant c.self.view_is c.requires.allowed in
+    (list_step c.lawful_stays.ensures.step can refl c.index_mut-list.ensures.value c.resolve.ensures).view
