@@ -1,5 +1,5 @@
 -- Where a hint is right.
-use Rattle.std.proofs.Common.{◌≡◌, ◌≢◌, ℕ, ◌<◌, Bool, true, false, List, length, sym, ap, ◌∙◌, subst, arith, refl}
+use Rattle.std.proofs.Common.{◌≡◌, ◌≢◌, ℕ, ◌<◌, Bool, true, false, List, sym, ap, ◌∙◌, subst, refl}
 use Rattle.order_graph.specs.Order.{Order}
 use Rattle.flow_model.specs.Machine.State.{LiveCall}
 use Rattle.flow_state.specs.declared.seating.Tenant.{Tenant}

@@ -1,5 +1,5 @@
 -- What a `Book` holds: a state of interleaved calls without its lists, with how many rooms are out.
-use Rattle.std.specs.Prelude.{◌≡◌, ℕ, zero, suc, ◌+◌, ◌-◌, ◌<◌, Bool, true, false, not, ◌||◌, ◌&&◌, List, [], ◌∷◌, ◌++◌, length, map, Option, Some, None, slice_get, slice_index_or}
+use Rattle.std.specs.Prelude.{◌≡◌, ℕ, suc, ◌+◌, ◌-◌, ◌<◌, Bool, true, false, not, ◌||◌, ◌&&◌, List, [], ◌∷◌, ◌++◌, length, map, Option, None, slice_get, slice_index_or}
 use Rattle.std.specs.List.{AllByRecursion, list_any}
 use Rattle.script_tree.specs.declared.limits.TheConstants.{SELECTORS}
 use Rattle.script_tree.specs.declared.value.Value.{Value}
@@ -7,13 +7,11 @@ use Rattle.signal_graph.specs.declared.call.Call.{Call}
 use Rattle.signal_graph.specs.declared.call.Call.TheVariants.{Fire, Read}
 use Rattle.signal_graph.specs.declared.call.Reply.{Reply}
 use Rattle.signal_graph.specs.declared.call.Reply.TheVariants.{Fire as Fired, Read as Seen}
-use Rattle.signal_graph.specs.declared.log.Logged.{Logged}
 use Rattle.signal_graph.specs.Graph.{Graph, numbers, number_of, node_at, inputs_of, is_in}
-use Rattle.order_graph.specs.declared.pair.Pair.{Pair}
 use Rattle.order_graph.specs.Order.{reaches, linked, retired}
 use Rattle.flow_model.specs.Machine.Sets.{put, put_all, take_out}
 use Rattle.flow_model.specs.Machine.Lists.{is_empty}
-use Rattle.flow_model.specs.Machine.State.{Core, Cell, LiveCall, Found, call_of, call_or, change_call, opening, no_call}
+use Rattle.flow_model.specs.Machine.State.{LiveCall, call_of, call_or, change_call, opening, no_call}
 use Rattle.std.specs.Prelude.{is_some}
 use Rattle.flow_model.specs.Machine.Words.{gathered_of}
 use Rattle.flow_model.specs.Parts.Books.{Book, Work, book_of, no_work}

@@ -430,7 +430,7 @@ impl Book {
             version,
             node,
             acc,
-            gathered: shelf.pairs(),
+            gathered: shelf.held(),
             found: shelf.found_items(),
         }
     }

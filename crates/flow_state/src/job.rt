@@ -17,7 +17,7 @@ ghost use Rattle.flow_state.specs.Jobs.{read_from, found_as, outcome_in, outcome
 
 use crate::found::{Found, FoundList};
 use crate::outcome::{Answer, Outcome};
-use crate::row::{Pairs, Row};
+use crate::row::{Held, Row, held_slice};
 use crate::shelf::gathered_near;
 use script_tree::limits::INPUTS;
 use script_tree::script::Script;
@@ -34,20 +34,20 @@ pub struct Job<'g> {
     pub(crate) version: u32,
     pub(crate) node: u32,
     pub(crate) acc: Value,
-    pub(crate) gathered: Pairs,
+    pub(crate) gathered: Held,
     pub(crate) found: Option<FoundList>,
 }
 
 impl<'g> Model for Job<'g> {
     ghost use Rattle.flow_state.specs.declared.outcome.Answer.{Answer};
-    ghost use Rattle.flow_state.specs.Jobs.{answer_of, IsJob};
+    ghost use Rattle.flow_state.specs.Jobs.{answer_of, held_pairs, IsJob};
     ghost use Rattle.flow_state.specs.Booked.{AreApart};
 
     ghost Value = { Answer };
 
-    ghost view = { λ j. answer_of j.graph.now j.version j.node j.gathered j.acc j.found };
+    ghost view = { λ j. answer_of j.graph.now j.version j.node (held_pairs j.gathered) j.acc j.found };
 
-    ghost invariant = { λ j. (IsJob j.graph.now j.node j.found) × AreApart j.gathered };
+    ghost invariant = { λ j. (IsJob j.graph.now j.node j.found) × AreApart (held_pairs j.gathered) };
 }
 
 impl Job<'_> {
@@ -63,7 +63,7 @@ impl Job<'_> {
         ensures { result ≡ self.now }
     {
         let node = self.graph.node(self.node);
-        let outcome = outcome(node, self.gathered.as_slice(), self.acc, &self.found);
+        let outcome = outcome(node, held_slice(&self.gathered), self.acc, &self.found);
         Answer {
             version: self.version,
             node: self.node,

@@ -9,12 +9,12 @@ ghost use Rattle.flow_state.specs.Found.{found_of, found_option};
 ghost use Rattle.flow_state.specs.Seats.{with_work};
 ghost use Rattle.signal_graph.specs.Graph.{body_of};
 ghost use Rattle.signal_graph.specs.Evaluation.{CanEvaluate};
-ghost use Rattle.flow_state.specs.Jobs.{found_items, items_of, outcome_of, HasFew, FitsBody};
+ghost use Rattle.flow_state.specs.Jobs.{found_items, items_of, held_pairs, outcome_of, HasFew, FitsBody};
 
 use crate::found::{Finding, FoundList};
 use crate::job::outcome;
 use crate::outcome::Outcome;
-use crate::row::Pairs;
+use crate::row::{FEW_PAIRS, FewPairs, Held, Pairs};
 use script_tree::memory::OutOfMemory;
 use script_tree::value::Value;
 use signal_graph::node::Node;
@@ -85,12 +85,12 @@ impl Shelf {
     }
 
     /// All gathered values, no two of one node.
-    pub(crate) fn pairs(&self) -> Pairs
+    pub(crate) fn held(&self) -> Held
         requires { length self.now.work.gathered ≤ 68 }
-        ensures pairs { result ≡ self.now.work.gathered }
+        ensures pairs { held_pairs result ≡ self.now.work.gathered }
         ensures apart { AreApart self.now.work.gathered }
     {
-        pairs_of(self.gathered.as_slice())
+        held_of(self.gathered.as_slice())
     }
 
     /// What the selectors have selected, where something is found.
@@ -159,6 +159,28 @@ fn items_of(found: &Finding) -> FoundList
         Finding::Gives(_) => FoundList::new(),
         Finding::Selects(list) => list.copy(),
     }
+}
+
+// A copy of what is gathered.
+fn held_of(gathered: &[(u32, Value)]) -> Held
+    requires { length gathered.now ≤ 68 }
+    ensures { held_pairs result ≡ gathered.now }
+{
+    if gathered.len() > FEW_PAIRS {
+        return Held::Many(pairs_of(gathered));
+    }
+    Held::Few(few_of(gathered))
+}
+
+fn few_of(gathered: &[(u32, Value)]) -> FewPairs
+    requires { length gathered.now ≤ 4 }
+    ensures { result ≡ gathered.now }
+{
+    let mut pairs = FewPairs::new();
+    for (node, value) in gathered {
+        pairs.push(*node, *value);
+    }
+    pairs
 }
 
 fn pairs_of(gathered: &[(u32, Value)]) -> Pairs

@@ -1,7 +1,7 @@
 use Rattle.std.proofs.Common.{◌<◌, ℕ, length, sym, ap, ◌∙◌, arith}
 use Rattle.order_graph.specs.Order.{is_recorded}
-use Rattle.flow_state.specs.Seats.{Seated, LiveCalls, has_call, before_live}
-use Rattle.flow_state.proofs.SeatLemmas.{calls-has, seat_read}
+use Rattle.flow_state.specs.Seats.{LiveCalls, has_call, before_live}
+use Rattle.flow_state.proofs.SeatLemmas.{calls-has}
 use Rattle.flow_state.proofs.Leaving.{tenant_at}
 use Rattle.flow_state.proofs.Firsts.{first_found, first_more, first_ends}
 use Rattle.flow_state.proofs.seating.Seating.first_before.Goals as goal

@@ -1,5 +1,4 @@
-use Rattle.std.proofs.Common.{◌<◌, ℕ, length, sym, ap, ◌∙◌, arith}
-use Rattle.order_graph.specs.Order.{is_recorded}
+use Rattle.std.proofs.Common.{◌<◌, length, sym, ap, ◌∙◌, arith}
 use Rattle.flow_state.specs.Seats.{Seated, LiveCalls, has_call, framing_before_live}
 use Rattle.flow_state.proofs.SeatLemmas.{calls-has, seat_read}
 use Rattle.flow_state.proofs.Leaving.{tenant_at}

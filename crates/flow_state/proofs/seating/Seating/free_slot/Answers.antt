@@ -1,4 +1,4 @@
-use Rattle.std.proofs.Common.{◌<◌, subst, arith}
+use Rattle.std.proofs.Common.{subst, arith}
 use Rattle.std.specs.Vec.{vec_capacity}
 use Rattle.flow_state.specs.Seats.{LiveCalls, calls_of}
 use Rattle.flow_state.proofs.FreeSlots.{IsLeast, free_by_calls, first_tells, none_tells}
