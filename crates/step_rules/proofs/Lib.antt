@@ -1,2 +1,4 @@
 mod Seen
 pub mod Going
+pub mod Wholes
+pub mod Works
