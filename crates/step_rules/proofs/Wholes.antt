@@ -69,3 +69,15 @@ picks_there false picks some e = absurd (cc)
 pub picks_away : (b : Bool) (picks : List (Option ℕ)) → picks_if b picks ≡ None → b ≡ false
 picks_away true picks e = absurd (cc)
 picks_away false picks e = refl
+
+-- ---- picks of a node where a call works
+
+-- They are the picks before the call, and so what the node rests on is of the graph.
+pub given_below : (graph : Graph) (book : Booked) (lists : ℕ → Versions) (count t n : ℕ) (b : Bool) (picks : List (Option ℕ)) → IsWhole graph book lists count → n < count
+    → Some picks ≡ picks_if b (picks_before (lists n).entries t) → AreBelow (node_count book) (rests_on graph n picks)
+given_below graph book lists count t n b picks w h e =
+    subst (λ (ps : List (Option ℕ)). AreBelow (node_count book) (rests_on graph n ps)) (sym (picks_are b (picks_before (lists n).entries t) picks (sym e))) (rests_below graph book lists count t n w h)
+
+-- other lists with the same in them
+pub same_whole : (graph : Graph) (book : Booked) (lists others : ℕ → Versions) (count other : ℕ) → others ≡ lists → other ≡ count → IsWhole graph book lists count → IsWhole graph book others other
+same_whole graph book lists others count other e k w = subst (λ (l : ℕ → Versions). IsWhole graph book l other) (sym e) (subst (λ (j : ℕ). IsWhole graph book lists j) (sym k) w)

@@ -60,7 +60,9 @@ pub(crate) fn due_picks<L: Lists>(book: &Book, graph: &Graph, lists: &mut L, ver
     ensures lists { L.listing_of lists.new ≡ L.listing_of lists.old }
     ensures nodes { L.nodes lists.new ≡ L.nodes lists.old }
 {
-    let picks = work_picks(book, graph, lists, version, node)?;
+    let Some(picks) = work_picks(book, graph, lists, version, node) else {
+        return None;
+    };
     if !is_touched(book, graph, version, node, &picks) {
         return None;
     }

@@ -1,12 +1,14 @@
 // Where a value can be read: for a node, and for a look.
 
-ghost use Rattle.std.specs.Prelude.{◌≡◌, ◌<◌, true, Some, None, ◌&&◌};
+ghost use Rattle.std.specs.Prelude.{◌≡◌, ◌<◌, true, Some, None, ◌&&◌, not, length};
 ghost use Rattle.flow_model.specs.declared.step.Step.TheVariants as step;
 ghost use Rattle.flow_model.specs.Parts.Books.{allowed_in};
-ghost use Rattle.flow_state.specs.Booked.{live_in};
+ghost use Rattle.flow_state.specs.Booked.{live_in, node_count};
 ghost use Rattle.step_rules.specs.Fits.{IsWhole, listed};
 ghost use Rattle.std.specs.List.{list_any};
-ghost use Rattle.flow_model.specs.Machine.Words.{is_idle, next_look, is_some_of};
+ghost use Rattle.signal_graph.specs.Graph.{is_in, inputs_of, node_at};
+ghost use Rattle.signal_graph.specs.Values.{nodes_in};
+ghost use Rattle.flow_model.specs.Machine.Words.{is_gathered, is_candidate, is_idle, next_look, is_some_of};
 ghost use Rattle.flow_model.specs.Machine.State.{call};
 ghost use Rattle.flow_model.specs.Parts.Books.{bare, asks_for_in};
 
@@ -14,6 +16,7 @@ use crate::fronts::{due_picks, has_room, wants_nothing};
 use crate::lists::Lists;
 use crate::working::{has_pick, is_among, is_candidate, is_gathered, is_read};
 use flow_state::Book;
+use script_tree::picks::Picks;
 use signal_graph::graph::Graph;
 
 /// Whether the step Gather is allowed: the node is due and reads the input, whose value is not gathered yet, and the call
@@ -27,9 +30,9 @@ pub(crate) fn may_gather<L: Lists>(book: &Book, graph: &Graph, lists: &mut L, ve
     ensures lists { L.listing_of lists.new ≡ L.listing_of lists.old }
     ensures nodes { L.nodes lists.new ≡ L.nodes lists.old }
 {
-    if due_picks(book, graph, lists, version, node).is_none() {
+    let Some(_) = due_picks(book, graph, lists, version, node) else {
         return false;
-    }
+    };
     if !is_read(book, graph, node, input) {
         return false;
     }
@@ -121,31 +124,54 @@ fn is_asked_for<L: Lists>(book: &Book, graph: &Graph, lists: &mut L, version: u3
     ensures nodes { L.nodes lists.new ≡ L.nodes lists.old }
 {
     let mut from = 0;
-    while let Some(open) = book.next_open(version, from) {
-        if asks_for(book, graph, lists, version, node, open) {
+    while let Some(asking) = book.next_open(version, from) {
+        if asks_for(book, graph, lists, version, node, asking) {
             return true;
         }
-        from = open + 1;
+        from = asking + 1;
     }
     false
 }
 
 // Whether an open node asks the call to enter another: as an input whose value is not gathered, or as a candidate that is
 // found and had been picked before the call.
-fn asks_for<L: Lists>(book: &Book, graph: &Graph, lists: &mut L, version: u32, node: u32, open: u32) -> bool
+fn asks_for<L: Lists>(book: &Book, graph: &Graph, lists: &mut L, version: u32, node: u32, asking: u32) -> bool
     requires whole { IsWhole graph.now book.now (L.listing_of lists.old) (L.nodes lists.old) }
     requires live { live_in book.now version ≡ true }
     requires node { node < L.nodes lists.old }
-    requires open { open < L.nodes lists.old }
-    ensures asks { result ≡ asks_for_in graph.now book.now.book (listed (L.listing_of lists.old)) version node open }
+    requires asking { asking < L.nodes lists.old }
+    ensures asks { result ≡ asks_for_in graph.now book.now.book (listed (L.listing_of lists.old)) version node asking }
     ensures lists { L.listing_of lists.new ≡ L.listing_of lists.old }
     ensures nodes { L.nodes lists.new ≡ L.nodes lists.old }
 {
-    let Some(picks) = due_picks(book, graph, lists, version, open) else {
+    let Some(picks) = due_picks(book, graph, lists, version, asking) else {
         return false;
     };
-    if is_candidate(book, open, node) && has_pick(&picks, node) {
+    if is_missing_input(book, graph, asking, node) {
         return true;
     }
-    is_among(graph.inputs(open), node) && !is_gathered(book, open, node)
+    is_picked_again(book, asking, node, &picks)
+}
+
+// Whether a node's scripts name an input whose value is not gathered.
+fn is_missing_input(book: &Book, graph: &Graph, node: u32, input: u32) -> bool
+    requires node { node < node_count book.now }
+    requires known { node < length graph.now.nodes }
+    ensures { result ≡ (is_in input (inputs_of (node_at graph.now node)) && not (is_gathered (bare book.now.book) node input)) }
+{
+    if !is_among(graph.inputs(node), input) {
+        return false;
+    }
+    !is_gathered(book, node, input)
+}
+
+// Whether a candidate is found for a node and among these picks.
+fn is_picked_again(book: &Book, node: u32, candidate: u32, picks: &Picks) -> bool
+    requires { node < node_count book.now }
+    ensures { result ≡ (is_candidate (bare book.now.book) node candidate && is_in candidate (nodes_in picks.now)) }
+{
+    if !is_candidate(book, node, candidate) {
+        return false;
+    }
+    has_pick(picks, candidate)
 }
