@@ -1,6 +1,8 @@
 -- The book and lists decide whether a step is allowed; one that names no live call, or another node than the graph's, is not.
 use Rattle.std.proofs.Common.{◌≡◌, ℕ, zero, suc, ◌<◌, ◌⊎◌, inl, inr, Bool, true, false, ◌&&◌, ◌||◌, ◌==◌, nat_lt, List, [], ◌∷◌, ◌++◌, length, Option, Some, None, refl, sym, ap, ◌∙◌, subst, arith, true≢false}
-use Rattle.std.specs.Prelude.{slice_get, slice_index_or}
+use Rattle.std.specs.Prelude.{◌≤◌, slice_get, slice_index_or}
+use Rattle.script_tree.specs.declared.limits.TheConstants.{NODES}
+use Rattle.flow_model.specs.Machine.Sets.{IsSet}
 use Rattle.std.specs.List.{list_any, list_all}
 use Rattle.std.proofs.lemmas.Bool.{lt-ltb}
 use Rattle.std.proofs.lemmas.Bool.Decides.{nat_tests}
@@ -192,3 +194,9 @@ ended_first graph book lists count n w h =
     let e = (lists-answer graph s fits.lawful).ended n (subst (λ (j : ℕ). n < j) (w.whole.many ∙ sym fits.lawful.lists) h) in
     subst (λ (v : Versions). HasEndedPrefix (ended (bare book.book)) v.entries) (sym (w.whole.each n h))
     (subst (λ (b : Book). HasEndedPrefix (ended (bare b)) (entries s n)) (sym fits.parts) e)
+
+pub open_set : (graph : Graph) (book : Booked) (lists : ℕ → Versions) (count t : ℕ) → IsWhole graph book lists count → IsSet (call (bare book.book) t).open_nodes
+open_set graph book lists count t w = subst (λ (b : Book). IsSet (call (bare b) t).open_nodes) (sym w.whole.fits.parts) (w.whole.fits.lawful.sets_are_sets.open_nodes t)
+
+pub few_nodes : (graph : Graph) (book : Booked) (lists : ℕ → Versions) (count : ℕ) → IsWhole graph book lists count → count ≤ NODES
+few_nodes graph book lists count w = subst (λ (j : ℕ). j ≤ NODES) (sym w.whole.many) w.whole.fits.is_graph.few

@@ -30,7 +30,7 @@ pub(crate) fn may_gather<L: Lists>(book: &Book, graph: &Graph, lists: &mut L, ve
     ensures lists { L.listing_of lists.new ≡ L.listing_of lists.old }
     ensures nodes { L.nodes lists.new ≡ L.nodes lists.old }
 {
-    let Some(_) = due_picks(book, graph, lists, version, node) else {
+    let Some(_picks) = due_picks(book, graph, lists, version, node) else {
         return false;
     };
     if !is_read(book, graph, node, input) {

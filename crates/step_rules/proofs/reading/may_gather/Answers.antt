@@ -20,5 +20,5 @@ returns-clause-allowed g c =
     let read = is_in m (inputs_of (node_at c.args.graph.now n)) || is_candidate (bare b) n m in
     let new = not (is_gathered (bare b) n m) in
     second_decides (due && read && new) (served (lists m).entries t) c.served.result
-    (both_hold (due && read) new (both_hold due read ? (sym c.is_read.ensures ∙ c.if-not-is_read.false)) (not_holds (is_gathered (bare b) n m) (sym c.is_gathered.ensures ∙ c.if-is_gathered.false)))
+    (both_hold (due && read) new (both_hold due read (picks_there _ _ c.in-Some._picks (sym c.in-Some.ensures.picks)) (sym c.is_read.ensures ∙ c.if-not-is_read.false)) (not_holds (is_gathered (bare b) n m) (sym c.is_gathered.ensures ∙ c.if-is_gathered.false)))
     (c.served.ensures.result ∙ ap (λ (ls : ℕ → Versions). served (ls m).entries t) c.due_picks.ensures.lists)
