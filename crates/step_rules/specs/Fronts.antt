@@ -8,7 +8,7 @@ use Rattle.flow_model.specs.Machine.State.{executes, call}
 use Rattle.flow_model.specs.Machine.Words.{is_some_of}
 use Rattle.flow_model.specs.Parts.Books.{bare}
 use Rattle.flow_state.specs.Booked.{Booked}
-use Rattle.step_rules.specs.Rests.{any_open, rests_on}
+use Rattle.step_rules.specs.Rests.{any_open, rests_on, is_touched}
 
 -- The call executes, and its Frame is the first of the list.
 abbrev pub is_first : Booked → List Entry → ℕ → Bool
@@ -35,3 +35,9 @@ front_picks graph book es t n = picks_if (is_first book es t && is_free graph bo
 abbrev pub work_picks : Graph → Booked → List Entry → ℕ → ℕ → Option (List (Option ℕ))
 work_picks graph book es t n =
     picks_if (wants_nothing book t && (is_first book es t && is_free graph book t n (picks_before es t))) (picks_before es t)
+
+-- the same where it has changed something that the node rests on besides
+abbrev pub due_picks : Graph → Booked → List Entry → ℕ → ℕ → Option (List (Option ℕ))
+due_picks graph book es t n = picks_if
+    ((wants_nothing book t && (is_first book es t && is_free graph book t n (picks_before es t))) && is_touched graph book t n (picks_before es t))
+    (picks_before es t)

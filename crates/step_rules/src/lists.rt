@@ -3,9 +3,13 @@
 ghost use Rattle.std.specs.Prelude.{◌≡◌, ◌<◌, ℕ, IsTrue, length, take};
 ghost use Rattle.std.specs.List.{position_or_len};
 ghost use Rattle.std.specs.Option.{IsSome};
-ghost use Rattle.node_versions.specs.Entries.{Versions, has, is_of, served, before, last_done, first_open, picks_before, has_out, has_node};
+ghost use Rattle.node_versions.specs.Entries.{Versions, HasEndedPrefix, has, is_of, served, before, last_done, first_open, picks_before, has_out, has_node};
+ghost use Rattle.flow_model.specs.Machine.State.{ended};
+ghost use Rattle.flow_model.specs.Parts.Books.{bare};
 ghost use Rattle.step_rules.specs.Sights.{sight_of, list_at};
+ghost use Rattle.step_rules.specs.Collecting.{shrinks};
 
+use flow_state::Book;
 use node_versions::NodeList;
 use script_tree::picks::Picks;
 
@@ -68,6 +72,15 @@ pub trait Lists {
         ensures result { result ≡ has_node (listing_of self.old node).outs chooser }
         ensures lists { listing_of self.new ≡ listing_of self.old }
         ensures nodes { nodes self.new ≡ nodes self.old };
+
+    /// Whether entries of ended calls can go from the node's list. The ended calls' entries are its first ones, and one of
+    /// them is Done. Takes no memory.
+    fn can_collect(&mut self, node: u32, book: &Book) -> bool
+        requires node { node < nodes self.old }
+        requires ended { HasEndedPrefix (ended (bare book.now.book)) (listing_of self.old node).entries }
+        ensures result { result ≡ shrinks book.now (listing_of self.old node).entries }
+        ensures lists { listing_of self.new ≡ listing_of self.old }
+        ensures nodes { nodes self.new ≡ nodes self.old };
 }
 
 /// All lists side by side, where one thread has them.
@@ -98,6 +111,10 @@ impl Lists for AllLists<'_> {
 
     fn has_node(&mut self, node: u32, chooser: u32) -> bool {
         has_node(&self.lists[node as usize], chooser)
+    }
+
+    fn can_collect(&mut self, node: u32, book: &Book) -> bool {
+        can_collect(&self.lists[node as usize], book)
     }
 }
 
@@ -190,4 +207,16 @@ fn has_node(list: &NodeList, chooser: u32) -> bool
         }
     }
     false
+}
+
+/// Whether entries of ended calls can go from a list, which is where two have ended. The ended calls' entries are its
+/// first ones, and one of them is Done. Takes no memory.
+pub fn can_collect(list: &NodeList, book: &Book) -> bool
+    requires { HasEndedPrefix (ended (bare book.now.book)) list.now.entries }
+    ensures { result ≡ shrinks book.now list.now.entries }
+{
+    if list.len() < 2 {
+        return false;
+    }
+    !book.live(list.get(1).version)
 }

@@ -1,0 +1,58 @@
+-- The work at a node, as the words of states read it.
+use Rattle.std.proofs.Common.{◌≡◌, ℕ, ◌<◌, ◌≤◌, ◌+◌, suc, List, [], ◌∷◌, ◌++◌, Option, Some, None, length, map, take, get_or, refl, sym, ap, ◌∙◌, arith}
+use Rattle.std.specs.Prelude.{is_some, is_none, slice_get}
+use Rattle.std.proofs.Math.ListN.{get_or-map}
+use Rattle.std.proofs.lemmas.List.{take_more, length-take-le}
+use Rattle.std.proofs.lemmas.Option.{slice_get_within, get_or_from_slice_get}
+use Rattle.script_tree.specs.declared.limits.TheConstants.{SELECTORS}
+use Rattle.signal_graph.specs.Values.{taken}
+use Rattle.flow_model.specs.Machine.State.{Cell, cell, no_cell}
+use Rattle.flow_model.specs.Machine.Words.{gathered_of, is_gathered, is_found, found_picks, picks_of_found}
+use Rattle.flow_model.specs.Parts.Books.{bare, bare_cell, no_work}
+use Rattle.flow_state.specs.Booked.{Booked, work_at}
+use Rattle.flow_state.specs.declared.found.Found.{Found}
+use Rattle.flow_state.specs.Found.{selection_of}
+
+pub bare_work : (book : Booked) (n : ℕ) → cell (bare book.book) n ≡ bare_cell (work_at book n)
+bare_work book n = get_or-map bare_cell book.book.works n no_work
+
+pub gathered_is : (book : Booked) (n m : ℕ) → is_gathered (bare book.book) n m ≡ is_some (gathered_of m (work_at book n).gathered)
+gathered_is book n m = ap (λ (c : Cell). is_some (gathered_of m c.gathered)) (bare_work book n)
+
+pub found_is : (book : Booked) (n : ℕ) → is_found (bare book.book) n ≡ is_some (work_at book n).found
+found_is book n = ap (λ (c : Cell). is_some c.found) (bare_work book n)
+
+pub picks_found : (book : Booked) (n : ℕ) → found_picks (bare book.book) n ≡ picks_of_found (work_at book n).found
+picks_found book n = ap (λ (c : Cell). picks_of_found c.found) (bare_work book n)
+
+pub body_is : (book : Booked) (n : ℕ) → is_some (cell (bare book.book) n).body ≡ is_some (work_at book n).body
+body_is book n = ap (λ (c : Cell). is_some c.body) (bare_work book n)
+
+pub no_body : (book : Booked) (n : ℕ) → is_none (cell (bare book.book) n).body ≡ is_none (work_at book n).body
+no_body book n = ap (λ (c : Cell). is_none c.body) (bare_work book n)
+
+-- ---- picks of what was found
+
+abbrev pub picks_for : List Found → List (Option ℕ)
+picks_for xs = map taken (map selection_of xs)
+
+length-picks : (xs : List Found) → length (picks_for xs) ≡ length xs
+length-picks [] = refl
+length-picks (x ∷ xs) = ap suc (length-picks xs)
+
+picks-last : (xs : List Found) (x : Found) → picks_for (xs ++ x ∷ []) ≡ picks_for xs ++ taken (selection_of x) ∷ []
+picks-last [] x = refl
+picks-last (y ∷ ys) x = ap (λ (ps : List (Option ℕ)). taken (selection_of y) ∷ ps) (picks-last ys x)
+
+pub picks_few : (xs : List Found) (ps : List (Option ℕ)) (i : ℕ) → ps ≡ picks_for (take i xs) → i < length xs → length xs ≤ SELECTORS → length ps < SELECTORS
+picks_few xs ps i is h few =
+    let a = ap length is ∙ length-picks (take i xs) in
+    let b = length-take-le i xs (omega (arith, h)) in
+    omega (arith, a, b, h, few)
+
+pub picks_more : (xs : List Found) (ps : List (Option ℕ)) (i : ℕ) (x : Found) (p : Option ℕ) → ps ≡ picks_for (take i xs) → slice_get xs i ≡ Some x → p ≡ taken (selection_of x) → ps ++ p ∷ [] ≡ picks_for (take (i + 1) xs)
+picks_more xs ps i x p is at_i taken_is =
+    sym (ap picks_for (take_more xs i x (slice_get_within xs i x at_i)) ∙ picks-last (take i xs) (get_or xs i x)
+    ∙ ap (λ (y : Found). picks_for (take i xs) ++ taken (selection_of y) ∷ []) (get_or_from_slice_get xs i x x at_i)
+    ∙ ap (λ (qs : List (Option ℕ)). qs ++ taken (selection_of x) ∷ []) (sym is)
+    ∙ ap (λ (q : Option ℕ). ps ++ q ∷ []) (sym taken_is))

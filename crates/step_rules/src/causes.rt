@@ -1,0 +1,38 @@
+// Why a call can't end.
+
+ghost use Rattle.std.specs.Prelude.{◌≡◌, true};
+ghost use Rattle.flow_model.specs.Machine.State.{Core};
+ghost use Rattle.flow_model.specs.Machine.Next.{why_not_ended};
+ghost use Rattle.flow_model.specs.Parts.Books.{book_of};
+ghost use Rattle.flow_state.specs.Booked.{live_in};
+ghost use Rattle.step_rules.specs.Ends.{first_unfinished};
+
+use flow_model::Cause;
+use flow_state::Book;
+
+/// Why a live call can't end: its least direct predecessor, else the first node at which it has not finished, that is the
+/// least wanted one, the least open one or that of the next look. None where there is nothing of that.
+pub fn why_not_ended(book: &Book, version: u32) -> Option<Cause>
+    requires { live_in book.now version ≡ true }
+    ensures { (s : Core) → book.now.book ≡ book_of s → result ≡ why_not_ended s version }
+{
+    if let Some(before) = book.first_before(version) {
+        return Some(Cause::Before(before));
+    }
+    let node = unfinished(book, version)?;
+    Some(Cause::Unfinished { node })
+}
+
+// The first node at which a live call has not finished.
+fn unfinished(book: &Book, version: u32) -> Option<u32>
+    requires { live_in book.now version ≡ true }
+    ensures { result ≡ first_unfinished book.now version }
+{
+    if let Some(node) = book.first_wanted(version) {
+        return Some(node);
+    }
+    if let Some(node) = book.first_open(version) {
+        return Some(node);
+    }
+    book.next_look(version)
+}
