@@ -12,4 +12,5 @@ mod ending;
 pub mod laws;
 mod opening;
 mod parts;
+mod rules;
 mod steps;

@@ -84,6 +84,7 @@ pub trait Lists {
 }
 
 /// All lists side by side, where one thread has them.
+#[derive(Drop)]
 pub struct AllLists<'a> {
     pub lists: &'a [NodeList],
 }
