@@ -10,4 +10,4 @@ pub mod RunLemmas
 pub mod StartEdges
 pub mod Telling
 pub mod Callers
-pub mod Rules
+pub mod AsAsked

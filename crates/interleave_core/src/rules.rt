@@ -1,4 +1,4 @@
-// What a call may do, and what comes next for it.
+// What may be done in a core.
 
 ghost use Rattle.std.specs.Prelude.{◌≡◌};
 ghost use Rattle.flow_model.specs.Machine.Steps.{allowed};
