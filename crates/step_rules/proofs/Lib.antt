@@ -6,3 +6,4 @@ pub mod Works
 pub mod OpenNodes
 pub mod Shrinking
 pub mod Deciding
+pub mod WhereToEnd

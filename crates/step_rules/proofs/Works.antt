@@ -13,24 +13,6 @@ use Rattle.flow_state.specs.Booked.{Booked, work_at}
 use Rattle.flow_state.specs.declared.found.Found.{Found}
 use Rattle.flow_state.specs.Found.{selection_of}
 
-pub bare_work : (book : Booked) (n : ℕ) → cell (bare book.book) n ≡ bare_cell (work_at book n)
-bare_work book n = get_or-map bare_cell book.book.works n no_work
-
-pub gathered_is : (book : Booked) (n m : ℕ) → is_gathered (bare book.book) n m ≡ is_some (gathered_of m (work_at book n).gathered)
-gathered_is book n m = ap (λ (c : Cell). is_some (gathered_of m c.gathered)) (bare_work book n)
-
-pub found_is : (book : Booked) (n : ℕ) → is_found (bare book.book) n ≡ is_some (work_at book n).found
-found_is book n = ap (λ (c : Cell). is_some c.found) (bare_work book n)
-
-pub picks_found : (book : Booked) (n : ℕ) → found_picks (bare book.book) n ≡ picks_of_found (work_at book n).found
-picks_found book n = ap (λ (c : Cell). picks_of_found c.found) (bare_work book n)
-
-pub body_is : (book : Booked) (n : ℕ) → is_some (cell (bare book.book) n).body ≡ is_some (work_at book n).body
-body_is book n = ap (λ (c : Cell). is_some c.body) (bare_work book n)
-
-pub no_body : (book : Booked) (n : ℕ) → is_none (cell (bare book.book) n).body ≡ is_none (work_at book n).body
-no_body book n = ap (λ (c : Cell). is_none c.body) (bare_work book n)
-
 -- ---- picks of what was found
 
 abbrev pub picks_for : List Found → List (Option ℕ)

@@ -14,7 +14,7 @@ use crate::finishing::{may_resolve, may_skip};
 use crate::lists::Lists;
 use crate::picking::{may_discover, may_drop};
 use crate::reading::{may_gather, may_look, may_mark};
-use crate::starting::{may_frame, may_start};
+use crate::wanting::{may_frame, may_start};
 use flow_model::Step;
 use flow_state::Book;
 use signal_graph::graph::Graph;

@@ -15,5 +15,5 @@ mod lists;
 mod picking;
 mod reading;
 mod resting;
-mod starting;
+mod wanting;
 mod working;

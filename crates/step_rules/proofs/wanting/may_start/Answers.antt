@@ -6,7 +6,7 @@ use Rattle.flow_model.specs.Parts.Books.{bare}
 use Rattle.step_rules.specs.Fronts.{wants_nothing}
 use Rattle.step_rules.proofs.OpenNodes.{none_least, none_is}
 use Rattle.step_rules.proofs.Truths.{both_hold, second_decides, not_holds}
-use Rattle.step_rules.proofs.starting.may_start.Goals as goal
+use Rattle.step_rules.proofs.wanting.may_start.Goals as goal
 
 pub returns : goal.returns
 returns c =
