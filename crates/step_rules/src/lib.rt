@@ -3,4 +3,7 @@
 
 pub use lists::{AllLists, Lists, Sight, served, sight_of};
 
+mod entering;
 mod lists;
+mod picked;
+mod searches;
