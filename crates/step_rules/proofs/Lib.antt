@@ -1,2 +1,4 @@
+mod Inside
 mod Nodes
 mod Seen
+mod Turns

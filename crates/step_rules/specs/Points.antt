@@ -5,12 +5,13 @@ use Rattle.signal_graph.specs.Values.{nodes_in}
 use Rattle.node_versions.specs.declared.entry.Entry.{Entry}
 use Rattle.node_versions.specs.Entries.{Versions, OutEdge, is_mark, has, at, picks_before, has_out, has_node}
 use Rattle.flow_model.specs.declared.step.Step.{Step}
-use Rattle.flow_model.specs.declared.step.Step.TheVariants.{Frame, Mark, Collect}
-use Rattle.flow_model.specs.declared.step.Cause.TheVariants.{InputOpen, OpenBefore}
+use Rattle.flow_model.specs.declared.step.Step.TheVariants.{Frame, Start, Mark, Collect}
+use Rattle.flow_model.specs.declared.step.Cause.TheVariants.{FramingBefore, InputOpen, OpenBefore}
 use Rattle.flow_model.specs.declared.step.Turn.{Turn}
 use Rattle.flow_model.specs.declared.step.Turn.TheVariants as turn
 use Rattle.flow_model.specs.Machine.State.{opens}
-use Rattle.flow_model.specs.Machine.Next.{first_of, when, for_some, blocked, points_at, to_frame, to_start, next_over, next_at_over}
+use Rattle.flow_model.specs.Machine.Steps.{is_framing_before}
+use Rattle.flow_model.specs.Machine.Next.{first_of, when, for_some, least_version, blocked, points_at, to_frame, to_start, next_over, next_at_over}
 use Rattle.flow_model.specs.Parts.Books.{bare}
 use Rattle.flow_state.specs.Booked.{Booked}
 
@@ -73,6 +74,12 @@ abbrev pub first_points : Graph → Booked → (ℕ → Versions) → ℕ → Li
 first_points graph book lists t =
     to_frame graph (bare book.book) (entries_in lists) (outs_in lists) t
     ∷ to_start graph (bare book.book) (entries_in lists) (outs_in lists) t ∷ []
+
+-- to start, after the direct predecessors
+abbrev pub starting_in : Booked → ℕ → Turn
+starting_in book t = first_of (
+    for_some (least_version (is_framing_before (bare book.book) t) book.book.calls) (λ v. turn.NotYet (FramingBefore v))
+    ∷ Some (turn.Step (Start t)) ∷ [])
 
 -- the first point that applies, if one does
 abbrev pub first_point : List (Option Turn) → Option Turn
