@@ -1,5 +1,5 @@
 -- What a lawful state says of what is asked: whatever is named is a node of the graph, and the lists answer.
-use Rattle.std.proofs.Common.{◌≡◌, ℕ, zero, suc, ◌<◌, Bool, true, false, ◌==◌, ◌⊎◌, inl, inr, List, [], ◌∷◌, ◌++◌, length, map, refl, sym, ap, ◌∙◌, arith, subst, Option, Some, None, true≢false}
+use Rattle.std.proofs.Common.{◌≡◌, ℕ, zero, suc, ◌<◌, Bool, true, false, ◌==◌, ◌⊎◌, inl, inr, List, [], ◌∷◌, ◌++◌, length, map, find, refl, sym, ap, ◌∙◌, arith, subst, Option, Some, None, true≢false}
 use Rattle.std.specs.Prelude.{slice_get, is_some}
 use Rattle.std.specs.Option.{IsSome}
 use Rattle.std.proofs.lemmas.List.Folds.{list_any-append}
@@ -23,6 +23,7 @@ use Rattle.flow_model.proofs.Wants.FramedWith.{opens-frame}
 use Rattle.flow_model.proofs.Wants.EarlierNodes.{dep-earlier}
 use Rattle.flow_model.proofs.Edges.EdgesFitCandidates.{candidate-listed}
 use Rattle.flow_model.proofs.Opening.OpeningLists.{candidate-earlier}
+use Rattle.flow_model.proofs.Together.WorkIsAllowed.{find-some}
 use Rattle.flow_model.proofs.Known.Bounds.{names-nodes}
 use Rattle.flow_model.proofs.Known.ListsAnswer.{lists-answer}
 use Rattle.flow_model.proofs.Books.StepsChangeBooks.{bare-cell}
@@ -66,6 +67,10 @@ below-cons count n xs h a m k = go (or_cases _ _ k)
 
 below-none : (count : ℕ) → AreBelow count []
 below-none count m k = absurd (true≢false (sym k))
+
+-- what is found by a search is below what all are below
+pub chosen-below : (count : ℕ) (test : ℕ → Bool) (xs : List ℕ) (m : ℕ) (o : Option ℕ) → AreBelow count xs → o ≡ find test xs → o ≡ Some m → m < count
+chosen-below count test xs m o a e h = a m ((find-some test xs m (sym e ∙ h)).0)
 
 module _ (graph : Graph) (s : Core) (book : Booked) (lists : ℕ → Versions) (count : ℕ) (w : IsWholeOf graph s book lists count) where
   Below : ℕ → Type 0
@@ -139,6 +144,20 @@ module _ (graph : Graph) (s : Core) (book : Booked) (lists : ℕ → Versions) (
     where
       go : {P : ℕ → Type 0} → SomeHead s n P → m < count
       go x = less m n (candidate-earlier graph w.fits.is_graph n m (below-node n h) (candidate-listed graph s w.fits.lawful x.head n m x.first (found-state n m k))) h
+
+  -- ---- the same of lists that the code has
+
+  pub picked-fit : (t n : ℕ) (xs : List ℕ) → opens (bare book.book) t n ≡ true → xs ≡ picked_in lists t n → AreBelow count xs
+  picked-fit t n xs o e = subst (λ (ys : List ℕ). AreBelow count ys) (sym e) (picked-below t n (open-below t n o))
+
+  pub found-fit : (t n : ℕ) (xs : List ℕ) → opens (bare book.book) t n ≡ true → xs ≡ found_candidates (bare book.book) n → AreBelow count xs
+  found-fit t n xs o e = subst (λ (ys : List ℕ). AreBelow count ys) (sym e) (found-below n (open-below t n o))
+
+  pub inputs-fit : (t n : ℕ) (xs : List ℕ) → opens (bare book.book) t n ≡ true → xs ≡ inputs_of (node_at graph n) → AreBelow count xs
+  inputs-fit t n xs o e = subst (λ (ys : List ℕ). AreBelow count ys) (sym e) (inputs-below n (open-below t n o))
+
+  pub counted : (xs : List ℕ) → AreBelow count xs → AreBelow (node_count book) xs
+  counted xs a = subst (λ (k : ℕ). AreBelow k xs) (sym nodes-count) a
 
   -- ---- what comes next in the state
 

@@ -1,5 +1,5 @@
 -- Which point applies first.
-use Rattle.std.proofs.Common.{◌≡◌, ℕ, Bool, true, false, not, ◌&&◌, List, [], ◌∷◌, ◌++◌, map, drop, find, refl, sym, ap, ◌∙◌, arith, subst, Option, Some, None}
+use Rattle.std.proofs.Common.{◌≡◌, ℕ, Bool, true, false, not, ◌&&◌, List, [], ◌∷◌, ◌++◌, map, drop, find, refl, sym, ap, ap₂, ◌∙◌, arith, subst, Option, Some, None}
 use Rattle.std.specs.List.{list_any}
 use Rattle.signal_graph.specs.Graph.{Graph, node_at, is_in, is_source, inputs_of}
 use Rattle.node_versions.specs.Entries.{Versions, has, first_open}
@@ -14,7 +14,8 @@ use Rattle.flow_model.specs.Machine.Steps.{has_body_value}
 use Rattle.flow_model.specs.Machine.Next.{first_of, when, for_some, least_version, other_than}
 use Rattle.flow_model.specs.Parts.Books.{Work, Book, bare, bare_cell, book_of, work_in}
 use Rattle.flow_state.specs.Booked.{Booked, call_in, next_look_in}
-use Rattle.step_rules.specs.Points.{framing_in, entered_in, reading_in, reading_candidate_in, picked_in, is_new_in, is_held_in, points_in, first_points, first_point, turn_in, turn_at_in}
+use Rattle.step_rules.specs.Points.{framing_in, entered_in, reading_in, reading_candidate_in, picked_in, is_new_in, is_held_in, points_in, first_points, first_point, open_given, turn_in, turn_at_in}
+use Rattle.step_rules.proofs.Nodes.{find-append, find-append-some}
 
 -- ---- one point
 
@@ -45,9 +46,28 @@ works-back (w ∷ ws) = ap (λ (xs : List Work). w ∷ xs) (works-back ws)
 pub bare-back : (b : Book) → b ≡ book_of (bare b)
 bare-back b = ap (λ (ws : List Work). record b { works = ws }) (sym (works-back b.works))
 
--- what a given node rests on that is open
-abbrev pub open_given : Graph → Booked → ℕ → ℕ → List ℕ → Bool → Option ℕ
-open_given graph book t n picked given = elim given [ true ↦ find (opens (bare book.book) t) (inputs_of (node_at graph n) ++ picked) | false ↦ None ]
+-- what a given node rests on that is open, among its inputs and then among its picks
+pub open-input : (graph : Graph) (book : Booked) (t n : ℕ) (picked : List ℕ) (given : Bool) (o : Option ℕ) (m : ℕ) → given ≡ true
+    → o ≡ find (opens (bare book.book) t) (inputs_of (node_at graph n)) → o ≡ Some m → Some m ≡ open_given graph book t n picked given
+open-input graph book t n picked given o m is e h =
+    sym (find-append-some (opens (bare book.book) t) (inputs_of (node_at graph n)) picked m (sym e ∙ h)) ∙ sym (ap (open_given graph book t n picked) is)
+
+pub open-pick : (graph : Graph) (book : Booked) (t n : ℕ) (picked : List ℕ) (given : Bool) (o p : Option ℕ) → given ≡ true
+    → o ≡ find (opens (bare book.book) t) (inputs_of (node_at graph n)) → o ≡ None → p ≡ find (opens (bare book.book) t) picked → p ≡ open_given graph book t n picked given
+open-pick graph book t n picked given o p is e h f =
+    f ∙ sym (find-append (opens (bare book.book) t) (inputs_of (node_at graph n)) picked (sym e ∙ h)) ∙ sym (ap (open_given graph book t n picked) is)
+
+-- what is searched, over the lists as they are named
+pub new-told : (lists : ℕ → Versions) (t n : ℕ) (picked found all : List ℕ) (o x : Option ℕ) → picked ≡ picked_in lists t n → found ≡ all
+    → o ≡ find (is_new_in lists t n picked) found → o ≡ x → find (is_new_in lists t n (picked_in lists t n)) all ≡ x
+new-told lists t n picked found all o x p f e h = sym (ap₂ (λ (ps fs : List ℕ). find (is_new_in lists t n ps) fs) p f) ∙ sym e ∙ h
+
+pub gathered-told : (book : Booked) (n : ℕ) (found all : List ℕ) (o x : Option ℕ) → found ≡ all
+    → o ≡ find (λ m. not (is_gathered (bare book.book) n m)) found → o ≡ x → find (λ m. not (is_gathered (bare book.book) n m)) all ≡ x
+gathered-told book n found all o x f e h = sym (ap (λ (fs : List ℕ). find (λ m. not (is_gathered (bare book.book) n m)) fs) f) ∙ sym e ∙ h
+
+pub told : {X : Type 0} (o y x : X) → o ≡ y → o ≡ x → y ≡ x
+told o y x e h = sym e ∙ h
 
 -- ---- the points at an open node
 

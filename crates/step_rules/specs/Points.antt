@@ -1,6 +1,6 @@
 -- The points of what comes next, over the lists that are asked.
-use Rattle.std.specs.Prelude.{ℕ, ◌+◌, ◌<◌, ◌≡◌, Bool, true, false, not, ◌&&◌, nat_lt, List, [], ◌∷◌, length, Option, Some, None, find}
-use Rattle.signal_graph.specs.Graph.{Graph, is_in}
+use Rattle.std.specs.Prelude.{ℕ, ◌+◌, ◌<◌, ◌≡◌, Bool, true, false, not, ◌&&◌, nat_lt, List, [], ◌∷◌, ◌++◌, length, Option, Some, None, find}
+use Rattle.signal_graph.specs.Graph.{Graph, node_at, is_in, inputs_of}
 use Rattle.signal_graph.specs.Values.{nodes_in}
 use Rattle.node_versions.specs.declared.entry.Entry.{Entry}
 use Rattle.node_versions.specs.Entries.{Versions, OutEdge, is_mark, has, at, picks_before, has_out, has_node}
@@ -94,6 +94,10 @@ turn_in graph book lists t = next_over graph (bare book.book) (entries_in lists)
 -- what comes next at a given node
 abbrev pub turn_at_in : Graph → Booked → (ℕ → Versions) → ℕ → ℕ → Turn
 turn_at_in graph book lists t n = next_at_over graph (bare book.book) (entries_in lists) (outs_in lists) t n
+
+-- the first of the nodes that a given node rests on which is open for the call
+abbrev pub open_given : Graph → Booked → ℕ → ℕ → List ℕ → Bool → Option ℕ
+open_given graph book t n picked given = elim given [ true ↦ find (opens (bare book.book) t) (inputs_of (node_at graph n) ++ picked) | false ↦ None ]
 
 -- All numbers of a list are below this one.
 abbrev pub AreBelow : ℕ → List ℕ → Type 0

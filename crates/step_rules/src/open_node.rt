@@ -1,6 +1,6 @@
 // What comes next at a node that is open for a call.
 
-ghost use Rattle.std.specs.Prelude.{◌≡◌, ◌<◌, ◌++◌, true, false, drop, find, None, length};
+ghost use Rattle.std.specs.Prelude.{◌≡◌, ◌<◌, ◌++◌, true, false, drop, length};
 ghost use Rattle.std.specs.List.{list_any};
 ghost use Rattle.signal_graph.specs.Graph.{node_at, is_source, inputs_of};
 ghost use Rattle.flow_model.specs.Machine.State.{opens, changes};
@@ -10,7 +10,7 @@ ghost use Rattle.flow_model.specs.Machine.Next.{first_of, other_than};
 ghost use Rattle.flow_model.specs.Parts.Books.{bare};
 ghost use Rattle.flow_state.specs.Booked.{live_in, node_count};
 ghost use Rattle.step_rules.specs.Fits.{IsWhole};
-ghost use Rattle.step_rules.specs.Points.{AreBelow, points_in, picked_in};
+ghost use Rattle.step_rules.specs.Points.{AreBelow, points_in, picked_in, open_given};
 
 use crate::entering::{entered, framing, reading, reading_candidate};
 use crate::lists::Lists;
@@ -189,7 +189,7 @@ fn input_open(
     requires node { node < length graph.now.nodes }
     requires inputs { AreBelow (node_count book.now) (inputs_of (node_at graph.now node)) }
     requires picked { AreBelow (node_count book.now) picked.now }
-    ensures { result ≡ elim given [ true ↦ find (opens (bare book.now.book) version) (inputs_of (node_at graph.now node) ++ picked.now) | false ↦ None ] }
+    ensures { result ≡ open_given graph.now book.now version node picked.now given }
 {
     if !given {
         return None;
