@@ -10,8 +10,6 @@ use Rattle.signal_graph.specs.Values.{nodes_in}
 use Rattle.flow_model.proofs.General.Truths.{or_left, or_right, equal_test}
 use Rattle.step_rules.specs.Rests.{AreBelow, rests_on}
 
--- ---- nodes
-
 -- ---- picks
 
 picks-at : (picks : List (Option ℕ)) (i : ℕ) (pick : Option ℕ) → slice_get picks i ≡ Some pick → drop i picks ≡ pick ∷ drop (i + 1) picks
