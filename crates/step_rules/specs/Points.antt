@@ -38,6 +38,10 @@ framing_in book lists u n = entering_unless (at is_mark (lists n).entries u) boo
 abbrev pub entered_in : Booked → (ℕ → Versions) → ℕ → ℕ → Step → Turn
 entered_in book lists t m step = entering_unless (has (lists m).entries t) book.book.callers (length (lists m).entries) m step
 
+-- a step that reads a node, unless a Frame of that call stands before
+abbrev pub unless_blocked : Option ℕ → ℕ → Step → Turn
+unless_blocked before m step = first_of (for_some before (λ v. turn.NotYet (OpenBefore m v)) ∷ Some (turn.Step step) ∷ [])
+
 -- to read a node
 abbrev pub reading_in : Booked → (ℕ → Versions) → ℕ → ℕ → Step → Turn
 reading_in book lists t m step = first_of (
