@@ -20,7 +20,8 @@ pub fn next_at<L: Lists>(book: &Book, graph: &Graph, lists: &mut L, version: u32
     requires whole { IsWhole graph.now book.now (L.listing_of lists.old) (L.nodes lists.old) }
     requires live { live_in book.now version ≡ true }
     requires node { node < L.nodes lists.old }
-    ensures turn { (s : Core) → IsWholeOf graph.now s book.now (L.listing_of lists.old) (L.nodes lists.old) → result ≡ next_at graph.now s version node }
+    ensures turn { (s : Core) → IsWholeOf graph.now s book.now (L.listing_of lists.old) (L.nodes lists.old)
+        → result ≡ next_at graph.now s version node }
     ensures lists { L.listing_of lists.new ≡ L.listing_of lists.old }
     ensures nodes { L.nodes lists.new ≡ L.nodes lists.old }
 {
