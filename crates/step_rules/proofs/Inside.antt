@@ -1,21 +1,20 @@
 -- What a lawful state says of what is asked: whatever is named is a node of the graph, and the lists answer.
-use Rattle.std.proofs.Common.{◌≡◌, ℕ, zero, suc, ◌<◌, Bool, true, false, ◌==◌, ◌⊎◌, inl, inr, List, [], ◌∷◌, ◌++◌, length, map, find, refl, sym, ap, ◌∙◌, arith, subst, Option, Some, None, true≢false}
+use Rattle.std.proofs.Common.{◌≡◌, ℕ, zero, suc, ◌<◌, Bool, true, ◌==◌, ◌⊎◌, inl, inr, List, [], ◌∷◌, ◌++◌, length, find, refl, sym, ap, ◌∙◌, arith, subst, Option, Some, None, true≢false}
 use Rattle.std.specs.Prelude.{slice_get, is_some}
 use Rattle.std.specs.Option.{IsSome}
 use Rattle.std.proofs.lemmas.List.Folds.{list_any-append}
 use Rattle.std.proofs.lemmas.Bool.Decides.{eqb_tells}
-use Rattle.signal_graph.specs.Graph.{Graph, IsGraph, node_at, is_in, inputs_of}
+use Rattle.signal_graph.specs.Graph.{Graph, node_at, is_in, inputs_of}
 use Rattle.signal_graph.specs.Values.{nodes_in}
 use Rattle.node_versions.specs.Entries.{Versions, has, before, last_done, picks_before}
-use Rattle.flow_model.specs.declared.step.Turn.{Turn}
 use Rattle.flow_model.specs.Machine.Sets.{least}
 use Rattle.flow_model.specs.Machine.State.{Core, Cell, Found, call, call_of, cell, opens, live, entries}
-use Rattle.flow_model.specs.Machine.Words.{found_candidates, prior_picks, picks_of_found, is_candidate, is_found, next_look}
+use Rattle.flow_model.specs.Machine.Words.{found_candidates, prior_picks, picks_of_found, is_candidate, next_look}
 use Rattle.flow_model.specs.Machine.Next.{next, next_at}
-use Rattle.flow_model.specs.Kept.Lawful.{IsLawful, SomeHead}
+use Rattle.flow_model.specs.Kept.Lawful.{SomeHead}
 use Rattle.flow_model.specs.Follows.Bounds.{NamesNodes}
-use Rattle.flow_model.specs.Parts.Books.{Book, Work, Listing, work_in, bare_cell, bare, book_of, listing, prior_in, one_of, AgreeOn}
-use Rattle.flow_model.specs.Parts.BookNext.{next_in, next_at_in, reads_at, reads_open, reads_first, reads_of_next, reads_of_next_at}
+use Rattle.flow_model.specs.Parts.Books.{Book, work_in, bare, listing, one_of, AgreeOn}
+use Rattle.flow_model.specs.Parts.BookNext.{next_in, next_at_in, reads_at, reads_open, reads_first}
 use Rattle.flow_model.proofs.General.Truths.{or_cases, or_left, or_right, same_number}
 use Rattle.flow_model.proofs.General.AnyAndAll.{length-map}
 use Rattle.flow_model.proofs.OneList.StatesAndPlaces.{at-has}
@@ -30,7 +29,7 @@ use Rattle.flow_model.proofs.Books.StepsChangeBooks.{bare-cell}
 use Rattle.flow_model.proofs.Books.BooksTellNext.{next-same, next_at-same, next-reads, next_at-reads}
 use Rattle.flow_state.specs.Booked.{Booked, live_in, call_in, next_look_in, node_count}
 use Rattle.flow_state.specs.Fitting.{list_of}
-use Rattle.step_rules.specs.Fits.{IsWholeOf, IsWhole, listed}
+use Rattle.step_rules.specs.Fits.{IsWholeOf, listed}
 use Rattle.step_rules.specs.Points.{AreBelow, picked_in, turn_in, turn_at_in}
 
 least-in : (xs : List ℕ) (n : ℕ) → least xs ≡ Some n → is_in n xs ≡ true
@@ -164,7 +163,7 @@ module _ (graph : Graph) (s : Core) (book : Booked) (lists : ℕ → Versions) (
   reads-at-below : (t n : ℕ) → n < count → AreBelow count (reads_at graph book.book (listed lists) t n)
   reads-at-below t n h =
       below-cons count n _ h (below-append count (inputs_of (node_at graph n) ++ found_candidates (bare book.book) n) (picked_in lists t n)
-          (below-append count (inputs_of (node_at graph n)) (found_candidates (bare book.book) n) (inputs-below n h) (found-below n h)) (picked-below t n h))
+      (below-append count (inputs_of (node_at graph n)) (found_candidates (bare book.book) n) (inputs-below n h) (found-below n h)) (picked-below t n h))
 
   reads-open-below : (t : ℕ) → live_in book t ≡ true → (o l : Option ℕ) → least (call_in book t).open_nodes ≡ o → next_look_in book t ≡ l
       → AreBelow count (reads_open graph book.book (listed lists) t o)
@@ -185,11 +184,11 @@ module _ (graph : Graph) (s : Core) (book : Booked) (lists : ℕ → Versions) (
   pub turn-next : (t : ℕ) → live_in book t ≡ true → turn_in graph book lists t ≡ next graph s t
   turn-next t l =
       sym (next-reads graph book.book (listed lists) (listing s) t
-          (agree _ (reads-first-below t (least (call_in book t).wanted) _ refl (reads-open-below t l (least (call_in book t).open_nodes) (next_look_in book t) refl refl))))
+      (agree _ (reads-first-below t (least (call_in book t).wanted) _ refl (reads-open-below t l (least (call_in book t).open_nodes) (next_look_in book t) refl refl))))
       ∙ ap (λ (b : Book). next_in graph b (listing s) t) w.fits.parts ∙ sym (next-same graph s t)
 
   pub turn-next_at : (t n : ℕ) → n < count → turn_at_in graph book lists t n ≡ next_at graph s t n
   turn-next_at t n h =
       sym (next_at-reads graph book.book (listed lists) (listing s) t n
-          (agree _ (reads-first-below t (least (call_in book t).wanted) _ refl (reads-at-below t n h))))
+      (agree _ (reads-first-below t (least (call_in book t).wanted) _ refl (reads-at-below t n h))))
       ∙ ap (λ (b : Book). next_at_in graph b (listing s) t n) w.fits.parts ∙ sym (next_at-same graph s t n)

@@ -1,19 +1,19 @@
 -- Which point applies first.
-use Rattle.std.proofs.Common.{◌≡◌, ℕ, Bool, true, false, not, ◌&&◌, List, [], ◌∷◌, ◌++◌, map, drop, find, refl, sym, ap, ap₂, ◌∙◌, arith, subst, Option, Some, None}
+use Rattle.std.proofs.Common.{◌≡◌, ℕ, Bool, true, false, not, List, [], ◌∷◌, ◌++◌, map, drop, find, refl, sym, ap, ap₂, ◌∙◌, Option, Some, None}
 use Rattle.std.specs.List.{list_any}
-use Rattle.signal_graph.specs.Graph.{Graph, node_at, is_in, is_source, inputs_of}
-use Rattle.node_versions.specs.Entries.{Versions, has, first_open}
-use Rattle.flow_model.specs.declared.step.Step.TheVariants.{Skip, Gather, Evaluate, Body, Resolve, Discover, Drop, Look}
+use Rattle.signal_graph.specs.Graph.{Graph, node_at, is_source, inputs_of}
+use Rattle.node_versions.specs.Entries.{Versions, first_open}
+use Rattle.flow_model.specs.declared.step.Step.TheVariants.{Skip, Gather, Evaluate, Body, Resolve, Discover, Drop}
 use Rattle.flow_model.specs.declared.step.Cause.TheVariants.{InputOpen, OpenBefore, NotOpen}
 use Rattle.flow_model.specs.declared.step.Turn.{Turn}
 use Rattle.flow_model.specs.declared.step.Turn.TheVariants as turn
 use Rattle.flow_model.specs.Machine.Sets.{least}
-use Rattle.flow_model.specs.Machine.State.{Core, LiveCall, opens, changes, call}
-use Rattle.flow_model.specs.Machine.Words.{is_gathered, is_found, found_candidates, presses, next_look}
+use Rattle.flow_model.specs.Machine.State.{opens, changes}
+use Rattle.flow_model.specs.Machine.Words.{is_gathered, is_found, found_candidates, presses}
 use Rattle.flow_model.specs.Machine.Steps.{has_body_value}
 use Rattle.flow_model.specs.Machine.Next.{first_of, when, for_some, least_version, other_than}
 use Rattle.flow_model.specs.Parts.Books.{Work, Book, bare, bare_cell, book_of, work_in}
-use Rattle.flow_state.specs.Booked.{Booked, call_in, next_look_in}
+use Rattle.flow_state.specs.Booked.{Booked, call_in}
 use Rattle.step_rules.specs.Points.{framing_in, entered_in, reading_in, reading_candidate_in, picked_in, is_new_in, is_held_in, points_in, first_points, first_point, open_given, turn_in, turn_at_in}
 use Rattle.step_rules.proofs.Nodes.{find-append, find-append-some}
 

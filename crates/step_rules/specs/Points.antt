@@ -11,7 +11,8 @@ use Rattle.flow_model.specs.declared.step.Turn.{Turn}
 use Rattle.flow_model.specs.declared.step.Turn.TheVariants as turn
 use Rattle.flow_model.specs.Machine.State.{opens}
 use Rattle.flow_model.specs.Machine.Steps.{is_framing_before}
-use Rattle.flow_model.specs.Machine.Next.{first_of, when, for_some, least_version, blocked, points_at, to_frame, to_start, next_over, next_at_over}
+use Rattle.flow_model.specs.Machine.Next.{first_of, when, for_some, least_version, blocked}
+use Rattle.flow_model.specs.Machine.Next.{points_at, to_frame, to_start, next_over, next_at_over}
 use Rattle.flow_model.specs.Parts.Books.{bare}
 use Rattle.flow_state.specs.Booked.{Booked}
 
@@ -37,6 +38,10 @@ framing_in book lists u n = entering_unless (at is_mark (lists n).entries u) boo
 -- a step for which the call has an entry at a node
 abbrev pub entered_in : Booked → (ℕ → Versions) → ℕ → ℕ → Step → Turn
 entered_in book lists t m step = entering_unless (has (lists m).entries t) book.book.callers (length (lists m).entries) m step
+
+-- a step that reads a node, unless a Frame of that call stands before
+abbrev pub unless_blocked : Option ℕ → ℕ → Step → Turn
+unless_blocked before m step = first_of (for_some before (λ v. turn.NotYet (OpenBefore m v)) ∷ Some (turn.Step step) ∷ [])
 
 -- to read a node
 abbrev pub reading_in : Booked → (ℕ → Versions) → ℕ → ℕ → Step → Turn
@@ -97,7 +102,10 @@ turn_at_in graph book lists t n = next_at_over graph (bare book.book) (entries_i
 
 -- the first of the nodes that a given node rests on which is open for the call
 abbrev pub open_given : Graph → Booked → ℕ → ℕ → List ℕ → Bool → Option ℕ
-open_given graph book t n picked given = elim given [ true ↦ find (opens (bare book.book) t) (inputs_of (node_at graph n) ++ picked) | false ↦ None ]
+open_given graph book t n picked given = elim given [
+  | true ↦ find (opens (bare book.book) t) (inputs_of (node_at graph n) ++ picked)
+  | false ↦ None
+]
 
 -- All numbers of a list are below this one.
 abbrev pub AreBelow : ℕ → List ℕ → Type 0

@@ -5,7 +5,7 @@ ghost use Rattle.node_versions.specs.Entries.{has, at, is_mark};
 ghost use Rattle.flow_model.specs.Machine.State.{opens};
 ghost use Rattle.flow_model.specs.Parts.Books.{bare};
 ghost use Rattle.flow_state.specs.Booked.{live_in, node_count};
-ghost use Rattle.step_rules.specs.Points.{entering_list, framing_in, entered_in, reading_in, reading_candidate_in};
+ghost use Rattle.step_rules.specs.Points.{entering_list, unless_blocked, framing_in, entered_in, reading_in, reading_candidate_in};
 
 use crate::lists::{Lists, Sight};
 use flow_model::{Cause, Step, Turn};
@@ -66,13 +66,7 @@ pub(crate) fn reading<L: Lists>(
     if !sight.has {
         return entering(book, sight, node, Step::Mark { version, node });
     }
-    if let Some(other) = sight.blocked {
-        return Turn::NotYet(Cause::OpenBefore {
-            node,
-            version: other,
-        });
-    }
-    Turn::Step(step)
+    unless_blocked(sight, node, step)
 }
 
 /// A step that reads a candidate: besides, the call has finished there.
@@ -97,13 +91,7 @@ pub(crate) fn reading_candidate<L: Lists>(
     if book.opens(version, node) {
         return Turn::NotYet(Cause::InputOpen { node });
     }
-    if let Some(other) = sight.blocked {
-        return Turn::NotYet(Cause::OpenBefore {
-            node,
-            version: other,
-        });
-    }
-    Turn::Step(step)
+    unless_blocked(sight, node, step)
 }
 
 // A step that enters a node's list; where that is full, some of it is collected first.
@@ -114,5 +102,15 @@ fn entering(book: &Book, sight: Sight, node: u32, step: Step) -> Turn
         Turn::Step(step)
     } else {
         Turn::Step(Step::Collect { node })
+    }
+}
+
+// A step that reads a node, unless a Frame stands before the call's entry there.
+fn unless_blocked(sight: Sight, node: u32, step: Step) -> Turn
+    ensures { result ≡ unless_blocked sight.blocked node step }
+{
+    match sight.blocked {
+        Some(version) => Turn::NotYet(Cause::OpenBefore { node, version }),
+        None => Turn::Step(step),
     }
 }

@@ -85,6 +85,7 @@ pub trait Lists {
 
 /// All lists side by side, where one thread has them.
 pub struct AllLists<'a> {
+    /// The list of each node.
     pub lists: &'a [NodeList],
 }
 

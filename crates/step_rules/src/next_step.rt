@@ -21,7 +21,8 @@ use signal_graph::graph::Graph;
 pub fn next<L: Lists>(book: &Book, graph: &Graph, lists: &mut L, version: u32) -> Turn
     requires whole { IsWhole graph.now book.now (L.listing_of lists.old) (L.nodes lists.old) }
     requires live { live_in book.now version ≡ true }
-    ensures turn { (s : Core) → IsWholeOf graph.now s book.now (L.listing_of lists.old) (L.nodes lists.old) → result ≡ next graph.now s version }
+    ensures turn { (s : Core) → IsWholeOf graph.now s book.now (L.listing_of lists.old) (L.nodes lists.old)
+        → result ≡ next graph.now s version }
     ensures lists { L.listing_of lists.new ≡ L.listing_of lists.old }
     ensures nodes { L.nodes lists.new ≡ L.nodes lists.old }
 {

@@ -16,17 +16,12 @@ use signal_graph::graph::Graph;
 
 /// The next step of a live call at a given node, or why there is none now. Some lawful state of the graph has this book and
 /// these lists. Lists are asked as they are needed, and stay as they were. Takes no memory.
-pub fn next_at<L: Lists>(
-    book: &Book,
-    graph: &Graph,
-    lists: &mut L,
-    version: u32,
-    node: u32,
-) -> Turn
+pub fn next_at<L: Lists>(book: &Book, graph: &Graph, lists: &mut L, version: u32, node: u32) -> Turn
     requires whole { IsWhole graph.now book.now (L.listing_of lists.old) (L.nodes lists.old) }
     requires live { live_in book.now version ≡ true }
     requires node { node < L.nodes lists.old }
-    ensures turn { (s : Core) → IsWholeOf graph.now s book.now (L.listing_of lists.old) (L.nodes lists.old) → result ≡ next_at graph.now s version node }
+    ensures turn { (s : Core) → IsWholeOf graph.now s book.now (L.listing_of lists.old) (L.nodes lists.old)
+        → result ≡ next_at graph.now s version node }
     ensures lists { L.listing_of lists.new ≡ L.listing_of lists.old }
     ensures nodes { L.nodes lists.new ≡ L.nodes lists.old }
 {

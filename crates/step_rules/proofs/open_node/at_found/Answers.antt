@@ -1,8 +1,8 @@
-use Rattle.std.proofs.Common.{◌≡◌, ◌<◌, ℕ, Bool, true, false, List, find, refl, sym, ap, ◌∙◌, subst, arith, drop}
+use Rattle.std.proofs.Common.{◌<◌, ℕ, false, sym, ap, ◌∙◌, subst, drop}
 use Rattle.node_versions.specs.Entries.{Versions}
 use Rattle.flow_model.specs.declared.step.Step.TheVariants as step
 use Rattle.flow_model.specs.Machine.Next.{first_of}
-use Rattle.step_rules.specs.Points.{AreBelow, framing_in, entered_in, reading_in, reading_candidate_in, picked_in, points_in}
+use Rattle.step_rules.specs.Points.{entered_in, reading_candidate_in, points_in}
 use Rattle.step_rules.proofs.Inside.{found-fit, counted, chosen-below}
 use Rattle.step_rules.proofs.Turns.{new-told, gathered-told, told, new-hit, new-miss, candidate-hit, candidate-miss, body-hit, body-miss}
 use Rattle.step_rules.proofs.open_node.at_found.Goals as goal

@@ -1,8 +1,5 @@
-use Rattle.std.proofs.Common.{◌≡◌, ◌<◌, ℕ, Bool, true, false, List, find, refl, sym, ap, ◌∙◌, subst, arith, drop}
-use Rattle.node_versions.specs.Entries.{Versions}
-use Rattle.step_rules.specs.Points.{AreBelow, framing_in, entered_in, reading_in, reading_candidate_in, picked_in, points_in}
+use Rattle.std.proofs.Common.{◌<◌, ℕ, sym, subst}
 use Rattle.step_rules.proofs.Inside.{picked-fit, chosen-below}
-use Rattle.step_rules.proofs.Turns.{held-hit}
 use Rattle.step_rules.proofs.open_node.at_last.Goals as goal
 
 pub first_held-requires : goal.first_held-requires

@@ -1,4 +1,4 @@
-use Rattle.std.proofs.Common.{◌≡◌, ◌<◌, ℕ, Bool, true, false, find, get_or, refl, sym, ap, ◌∙◌, subst, arith}
+use Rattle.std.proofs.Common.{◌<◌, ℕ, get_or, refl, sym, ap, ◌∙◌, subst, arith}
 use Rattle.node_versions.specs.Entries.{Versions}
 use Rattle.step_rules.specs.Points.{is_new_in}
 use Rattle.step_rules.proofs.Nodes.{index-in, find-here, find-more, find-none}
