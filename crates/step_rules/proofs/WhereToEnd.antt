@@ -1,7 +1,6 @@
 -- A call that executes has no cause not to end exactly where it can end.
-use Rattle.std.proofs.Common.{◌≡◌, ℕ, Bool, true, false, not, ◌&&◌, List, [], ◌∷◌, Option, Some, None, refl, sym, ap, ap₂, ◌∙◌}
+use Rattle.std.proofs.Common.{◌≡◌, ℕ, Bool, true, not, ◌&&◌, List, [], ◌∷◌, Option, Some, None, refl, sym, ap, ◌∙◌}
 use Rattle.std.specs.Prelude.{is_none, option_map}
-use Rattle.std.specs.List.{list_any}
 use Rattle.signal_graph.specs.Graph.{Graph}
 use Rattle.order_graph.specs.Order.{is_recorded}
 use Rattle.flow_model.specs.declared.step.Cause.TheVariants.{Before, Unfinished}

@@ -1,15 +1,15 @@
 -- What a lawful state says of a book and lists that are its.
-use Rattle.std.proofs.Common.{◌≡◌, ℕ, ◌<◌, Bool, true, false, ◌&&◌, List, length, Option, Some, None, refl, sym, ap, ap₂, ◌∙◌, subst, arith, true≢false}
+use Rattle.std.proofs.Common.{◌≡◌, ℕ, ◌<◌, Bool, true, false, ◌&&◌, List, length, Option, Some, refl, sym, ap₂, ◌∙◌, subst, arith}
 use Rattle.std.specs.Option.{IsSome}
 use Rattle.signal_graph.specs.Graph.{Graph, is_in}
 use Rattle.node_versions.specs.Entries.{Versions, has, before, last_done, first_open, picks_before}
-use Rattle.flow_model.specs.Machine.State.{Core, executes, live, entries}
+use Rattle.flow_model.specs.Machine.State.{Core, executes}
 use Rattle.flow_model.specs.Machine.Words.{heads, is_some_of}
 use Rattle.flow_model.specs.Parts.Books.{Book, bare}
 use Rattle.flow_model.proofs.OneStep.WhoMayStep.{and_left, and_right, executes-live}
 use Rattle.flow_model.proofs.Wants.EarlierNodes.{dep-earlier}
-use Rattle.flow_state.specs.Booked.{Booked, live_in, node_count}
-use Rattle.flow_state.specs.Fitting.{IsBookOf, list_of}
+use Rattle.flow_state.specs.Booked.{Booked, node_count}
+use Rattle.flow_state.specs.Fitting.{IsBookOf}
 use Rattle.flow_state.proofs.Fits.{fits_node, heads_has, lawful_before}
 use Rattle.step_rules.specs.Rests.{AreBelow, rests_on}
 use Rattle.step_rules.specs.Fits.{IsWholeOf, IsWhole}

@@ -1,15 +1,10 @@
 -- The work at a node, as the words of states read it.
-use Rattle.std.proofs.Common.{◌≡◌, ℕ, ◌<◌, ◌≤◌, ◌+◌, suc, List, [], ◌∷◌, ◌++◌, Option, Some, None, length, map, take, get_or, refl, sym, ap, ◌∙◌, arith}
-use Rattle.std.specs.Prelude.{is_some, is_none, slice_get}
-use Rattle.std.proofs.Math.ListN.{get_or-map}
+use Rattle.std.proofs.Common.{◌≡◌, ℕ, ◌<◌, ◌≤◌, ◌+◌, suc, List, [], ◌∷◌, ◌++◌, Option, Some, length, map, take, get_or, refl, sym, ap, ◌∙◌, arith}
+use Rattle.std.specs.Prelude.{slice_get}
 use Rattle.std.proofs.lemmas.List.{take_more, length-take-le}
 use Rattle.std.proofs.lemmas.Option.{slice_get_within, get_or_from_slice_get}
 use Rattle.script_tree.specs.declared.limits.TheConstants.{SELECTORS}
 use Rattle.signal_graph.specs.Values.{taken}
-use Rattle.flow_model.specs.Machine.State.{Cell, cell, no_cell}
-use Rattle.flow_model.specs.Machine.Words.{gathered_of, is_gathered, is_found, found_picks, picks_of_found}
-use Rattle.flow_model.specs.Parts.Books.{bare, bare_cell, no_work}
-use Rattle.flow_state.specs.Booked.{Booked, work_at}
 use Rattle.flow_state.specs.declared.found.Found.{Found}
 use Rattle.flow_state.specs.Found.{selection_of}
 

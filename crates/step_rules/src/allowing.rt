@@ -46,12 +46,24 @@ fn may_step<L: Lists>(book: &Book, graph: &Graph, lists: &mut L, step: Step) -> 
         Step::Frame { version, node } => may_frame(book, graph, lists, version, node),
         Step::Start { version } => may_start(book, version),
         Step::Skip { version, node } => may_skip(book, graph, lists, version, node),
-        Step::Gather { version, node, input } => may_gather(book, graph, lists, version, node, input),
+        Step::Gather {
+            version,
+            node,
+            input,
+        } => may_gather(book, graph, lists, version, node, input),
         Step::Evaluate { version, node } => may_evaluate(book, graph, lists, version, node),
         Step::Body { version, node } => may_evaluate_body(book, graph, lists, version, node),
         Step::Resolve { version, node } => may_resolve(book, graph, lists, version, node),
-        Step::Discover { version, node, candidate } => may_discover(book, graph, lists, version, node, candidate),
-        Step::Drop { version, node, candidate } => may_drop(book, graph, lists, version, node, candidate),
+        Step::Discover {
+            version,
+            node,
+            candidate,
+        } => may_discover(book, graph, lists, version, node, candidate),
+        Step::Drop {
+            version,
+            node,
+            candidate,
+        } => may_drop(book, graph, lists, version, node, candidate),
         Step::Mark { version, node } => may_mark(book, graph, lists, version, node),
         Step::Look { version } => may_look(book, graph, lists, version),
         Step::End { version } => may_end(book, version),
@@ -90,9 +102,16 @@ fn are_nodes(graph: &Graph, step: Step) -> bool
         | Step::Mark { node, .. }
         | Step::Collect { node } => node < graph.len(),
         Step::Gather { node, input, .. } => node < graph.len() && input < graph.len(),
-        Step::Discover { node, candidate, .. } | Step::Drop { node, candidate, .. } => {
-            node < graph.len() && candidate < graph.len()
+        Step::Discover {
+            node,
+            candidate,
+            ..
         }
+        | Step::Drop {
+            node,
+            candidate,
+            ..
+        } => { node < graph.len() && candidate < graph.len() }
         Step::Start { .. } | Step::Look { .. } | Step::End { .. } => true,
     }
 }

@@ -15,7 +15,13 @@ use flow_state::Book;
 use signal_graph::graph::Graph;
 
 /// Whether the step Frame is allowed: the call wants the node, and has a Mark there or finds room.
-pub(crate) fn may_frame<L: Lists>(book: &Book, _graph: &Graph, lists: &mut L, version: u32, node: u32) -> bool
+pub(crate) fn may_frame<L: Lists>(
+    book: &Book,
+    _graph: &Graph,
+    lists: &mut L,
+    version: u32,
+    node: u32,
+) -> bool
     requires whole { IsWhole _graph.now book.now (L.listing_of lists.old) (L.nodes lists.old) }
     requires live { live_in book.now version ≡ true }
     requires node { node < L.nodes lists.old }
