@@ -24,7 +24,8 @@ use signal_graph::graph::Graph;
 /// Takes no memory.
 pub fn allowed<L: Lists>(book: &Book, graph: &Graph, lists: &mut L, step: Step) -> bool
     requires { IsWhole graph.now book.now (L.listing_of lists.old) (L.nodes lists.old) }
-    ensures allowed { (s : Core) → IsWholeOf graph.now s book.now (L.listing_of lists.old) (L.nodes lists.old) → result ≡ allowed graph.now s step }
+    ensures allowed { (s : Core) → IsWholeOf graph.now s book.now (L.listing_of lists.old) (L.nodes lists.old)
+        → result ≡ allowed graph.now s step }
     ensures lists { L.listing_of lists.new ≡ L.listing_of lists.old }
     ensures nodes { L.nodes lists.new ≡ L.nodes lists.old }
 {

@@ -19,7 +19,8 @@ use flow_state::Book;
 pub fn why_not_ended(book: &Book, version: u32) -> Option<Cause>
     requires { live_in book.now version ≡ true }
     ensures cause { (s : Core) → book.now.book ≡ book_of s → result ≡ why_not_ended s version }
-    ensures exact { (graph : Graph) (s : Core) → book.now.book ≡ book_of s → executes s version ≡ true → allowed graph s (step.End version) ≡ is_none result }
+    ensures exact { (graph : Graph) (s : Core) → book.now.book ≡ book_of s → executes s version ≡ true
+        → allowed graph s (step.End version) ≡ is_none result }
 {
     first_cause(book, version)
 }

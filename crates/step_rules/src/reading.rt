@@ -138,7 +138,8 @@ fn is_asked_for<L: Lists>(
     requires whole { IsWhole graph.now book.now (L.listing_of lists.old) (L.nodes lists.old) }
     requires live { live_in book.now version ≡ true }
     requires node { node < L.nodes lists.old }
-    ensures asked { result ≡ list_any (asks_for_in graph.now book.now.book (listed (L.listing_of lists.old)) version node) (call (bare book.now.book) version).open_nodes }
+    ensures asked { result ≡ list_any (asks_for_in graph.now book.now.book (listed (L.listing_of lists.old)) version node)
+        (call (bare book.now.book) version).open_nodes }
     ensures lists { L.listing_of lists.new ≡ L.listing_of lists.old }
     ensures nodes { L.nodes lists.new ≡ L.nodes lists.old }
 {

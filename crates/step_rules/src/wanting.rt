@@ -40,7 +40,8 @@ pub(crate) fn may_frame<L: Lists>(
 /// frames.
 pub(crate) fn may_start(book: &Book, version: u32) -> bool
     requires { live_in book.now version ≡ true }
-    ensures { result ≡ (is_framing (bare book.now.book) version && wants_nothing book.now version && not (any_framing_before (bare book.now.book) version)) }
+    ensures { result ≡ (is_framing (bare book.now.book) version && wants_nothing book.now version
+        && not (any_framing_before (bare book.now.book) version)) }
 {
     if book.executes(version) {
         return false;
