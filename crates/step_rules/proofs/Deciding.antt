@@ -1,9 +1,8 @@
 -- The book and lists decide whether a step is allowed; one that names no live call, or another node than the graph's, is not.
 use Rattle.std.proofs.Common.{◌≡◌, ℕ, zero, suc, ◌<◌, ◌⊎◌, inl, inr, Bool, true, false, ◌&&◌, ◌||◌, ◌==◌, nat_lt, List, [], ◌∷◌, ◌++◌, length, Option, Some, None, refl, sym, ap, ◌∙◌, subst, arith, true≢false}
-use Rattle.std.specs.Prelude.{◌≤◌, slice_get, slice_index_or}
+use Rattle.std.specs.Prelude.{◌≤◌, slice_index_or}
 use Rattle.script_tree.specs.declared.limits.TheConstants.{NODES}
 use Rattle.flow_model.specs.Machine.Sets.{IsSet}
-use Rattle.std.specs.List.{list_any, list_all}
 use Rattle.std.proofs.lemmas.Bool.{lt-ltb}
 use Rattle.std.proofs.lemmas.Bool.Decides.{nat_tests}
 use Rattle.std.proofs.lemmas.List.Folds.{list_any-append}
@@ -13,13 +12,13 @@ use Rattle.node_versions.specs.Entries.{Versions, served, picks_before, HasEnded
 use Rattle.flow_model.specs.declared.step.Step.{Step}
 use Rattle.flow_model.specs.declared.step.Step.TheVariants as steps
 use Rattle.flow_model.specs.Machine.Keys.{version_of_step}
-use Rattle.flow_model.specs.Machine.State.{Core, Cell, call, live, ended, entries, executes, no_cell}
-use Rattle.flow_model.specs.Machine.Words.{heads, due, is_candidate, found_candidates, found_picks, picks_of_found, next_look, is_some_of, deps, prior_picks}
+use Rattle.flow_model.specs.Machine.State.{Core, Cell, call, live, ended, entries, no_cell}
+use Rattle.flow_model.specs.Machine.Words.{heads, due, is_candidate, found_candidates, found_picks, picks_of_found, next_look, prior_picks}
 use Rattle.flow_model.specs.Machine.Steps.{allowed}
 use Rattle.flow_model.specs.Kept.Lawful.{IsLawful}
-use Rattle.flow_model.specs.Parts.Books.{Book, Listing, book_of, listing, bare, allowed_in, reads_of_step, AgreeOn, one_of, prior_in}
+use Rattle.flow_model.specs.Parts.Books.{Book, book_of, listing, bare, allowed_in, reads_of_step, one_of, prior_in}
 use Rattle.flow_model.proofs.General.Truths.{or_cases, or_left, or_right, same_number, equal_test, not_true, is_not_true, and_make}
-use Rattle.flow_model.proofs.OneStep.WhoMayStep.{and_left, and_right, executes-live, at_front-heads, can_work-at_front, due-can_work, gather-due, evaluate-at_front, body-at_front, discover-due, drop-due}
+use Rattle.flow_model.proofs.OneStep.WhoMayStep.{and_left, and_right, at_front-heads, can_work-at_front, due-can_work, gather-due, evaluate-at_front, body-at_front, discover-due, drop-due}
 use Rattle.flow_model.proofs.Opening.OpeningLists.{candidate-earlier, slice_get-is_in}
 use Rattle.flow_model.proofs.Edges.EdgesFitCandidates.{candidate-listed}
 use Rattle.flow_model.proofs.Edges.DroppedAndDiscovered.{candidate-found}
@@ -30,12 +29,11 @@ use Rattle.flow_model.proofs.Known.Bounds.{opens-node, names-nodes}
 use Rattle.flow_model.proofs.Known.ListsAnswer.{lists-answer}
 use Rattle.flow_model.proofs.Books.BooksAllow.{allowed-in, reads-enough, same-cell}
 use Rattle.flow_model.proofs.Books.StepsChangeOneListing.{changed-node}
-use Rattle.flow_state.specs.Booked.{Booked, live_in, node_count}
-use Rattle.flow_state.specs.Fitting.{IsBookOf, list_of}
-use Rattle.step_rules.specs.Rests.{AreBelow, rests_on}
+use Rattle.flow_state.specs.Booked.{Booked, live_in}
+use Rattle.flow_state.specs.Fitting.{IsBookOf}
+use Rattle.step_rules.specs.Rests.{AreBelow}
 use Rattle.step_rules.specs.Fits.{IsWholeOf, IsWhole, listed}
 use Rattle.step_rules.specs.Known.{nodes_of_step, is_of_live, are_nodes, is_known}
-use Rattle.step_rules.proofs.Wholes.{node_inside}
 
 -- ---- nodes that a state names
 

@@ -1,5 +1,5 @@
 -- Going over lists of nodes and of picks, one item at a time.
-use Rattle.std.proofs.Common.{◌≡◌, ℕ, zero, suc, ◌+◌, ◌<◌, Bool, true, false, ◌||◌, ◌&&◌, ◌==◌, List, [], ◌∷◌, ◌++◌, length, drop, get_or, Option, Some, None, refl, sym, ap, ◌∙◌, arith, add-one, subst, true≢false}
+use Rattle.std.proofs.Common.{◌≡◌, ℕ, zero, suc, ◌+◌, ◌<◌, Bool, true, false, ◌||◌, ◌&&◌, ◌==◌, List, [], ◌∷◌, length, drop, get_or, Option, Some, None, refl, sym, ap, ◌∙◌, arith, subst, true≢false}
 use Rattle.std.specs.Prelude.{slice_get}
 use Rattle.std.specs.List.{list_any, list_all}
 use Rattle.std.proofs.lemmas.List.{drop_more}
@@ -9,20 +9,6 @@ use Rattle.signal_graph.specs.Graph.{Graph, is_in, node_at, inputs_of}
 use Rattle.signal_graph.specs.Values.{nodes_in}
 use Rattle.flow_model.proofs.General.Truths.{or_left, or_right, equal_test}
 use Rattle.step_rules.specs.Rests.{AreBelow, rests_on}
-
--- ---- nodes
-
-pub any_more : (test : ℕ → Bool) (xs : List ℕ) (i d : ℕ) (whole : Bool) → i < length xs → list_any test (drop i xs) ≡ whole → test (get_or xs i d) ≡ false → list_any test (drop (i + 1) xs) ≡ whole
-any_more test xs i d whole h so k = sym (ap (λ (b : Bool). b || list_any test (drop (i + 1) xs)) k) ∙ sym (ap (list_any test) (drop_more xs i d h)) ∙ so
-
-pub any_found : (test : ℕ → Bool) (xs : List ℕ) (i d : ℕ) (whole : Bool) → i < length xs → list_any test (drop i xs) ≡ whole → test (get_or xs i d) ≡ true → true ≡ whole
-any_found test xs i d whole h so k = sym (ap (λ (b : Bool). b || list_any test (drop (i + 1) xs)) k) ∙ sym (ap (list_any test) (drop_more xs i d h)) ∙ so
-
-pub all_more : (test : ℕ → Bool) (xs : List ℕ) (i d : ℕ) (whole : Bool) → i < length xs → list_all test (drop i xs) ≡ whole → test (get_or xs i d) ≡ true → list_all test (drop (i + 1) xs) ≡ whole
-all_more test xs i d whole h so k = sym (ap (λ (b : Bool). b && list_all test (drop (i + 1) xs)) k) ∙ sym (ap (list_all test) (drop_more xs i d h)) ∙ so
-
-pub all_failed : (test : ℕ → Bool) (xs : List ℕ) (i d : ℕ) (whole : Bool) → i < length xs → list_all test (drop i xs) ≡ whole → test (get_or xs i d) ≡ false → false ≡ whole
-all_failed test xs i d whole h so k = sym (ap (λ (b : Bool). b && list_all test (drop (i + 1) xs)) k) ∙ sym (ap (list_all test) (drop_more xs i d h)) ∙ so
 
 -- ---- picks
 
@@ -51,14 +37,8 @@ any-picks test picks i pick h = ap (λ (ps : List (Option ℕ)). list_any test (
 all-picks : (test : ℕ → Bool) (picks : List (Option ℕ)) (i : ℕ) (pick : Option ℕ) → slice_get picks i ≡ Some pick → list_all test (nodes_in (drop i picks)) ≡ (list_all test (nodes_in (pick ∷ [])) && list_all test (nodes_in (drop (i + 1) picks)))
 all-picks test picks i pick h = ap (λ (ps : List (Option ℕ)). list_all test (nodes_in ps)) (picks-at picks i pick h) ∙ all-first test pick (drop (i + 1) picks)
 
-pub any_picks_more : (test : ℕ → Bool) (picks : List (Option ℕ)) (i : ℕ) (pick : Option ℕ) (whole : Bool) → slice_get picks i ≡ Some pick → list_any test (nodes_in (drop i picks)) ≡ whole → list_any test (nodes_in (pick ∷ [])) ≡ false → list_any test (nodes_in (drop (i + 1) picks)) ≡ whole
-any_picks_more test picks i pick whole h so k = sym (ap (λ (b : Bool). b || list_any test (nodes_in (drop (i + 1) picks))) k) ∙ sym (any-picks test picks i pick h) ∙ so
-
 pub any_picks_found : (test : ℕ → Bool) (picks : List (Option ℕ)) (i : ℕ) (pick : Option ℕ) (whole : Bool) → slice_get picks i ≡ Some pick → list_any test (nodes_in (drop i picks)) ≡ whole → list_any test (nodes_in (pick ∷ [])) ≡ true → true ≡ whole
 any_picks_found test picks i pick whole h so k = sym (ap (λ (b : Bool). b || list_any test (nodes_in (drop (i + 1) picks))) k) ∙ sym (any-picks test picks i pick h) ∙ so
-
-pub all_picks_more : (test : ℕ → Bool) (picks : List (Option ℕ)) (i : ℕ) (pick : Option ℕ) (whole : Bool) → slice_get picks i ≡ Some pick → list_all test (nodes_in (drop i picks)) ≡ whole → list_all test (nodes_in (pick ∷ [])) ≡ true → list_all test (nodes_in (drop (i + 1) picks)) ≡ whole
-all_picks_more test picks i pick whole h so k = sym (ap (λ (b : Bool). b && list_all test (nodes_in (drop (i + 1) picks))) k) ∙ sym (all-picks test picks i pick h) ∙ so
 
 pub all_picks_failed : (test : ℕ → Bool) (picks : List (Option ℕ)) (i : ℕ) (pick : Option ℕ) (whole : Bool) → slice_get picks i ≡ Some pick → list_all test (nodes_in (drop i picks)) ≡ whole → list_all test (nodes_in (pick ∷ [])) ≡ false → false ≡ whole
 all_picks_failed test picks i pick whole h so k = sym (ap (λ (b : Bool). b && list_all test (nodes_in (drop (i + 1) picks))) k) ∙ sym (all-picks test picks i pick h) ∙ so

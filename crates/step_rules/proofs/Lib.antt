@@ -1,8 +1,12 @@
+mod Deciding
+mod Going
+mod Inside
+mod Nodes
+mod OpenNodes
 mod Seen
-pub mod Going
-pub mod Truths
-pub mod Wholes
-pub mod Works
-pub mod OpenNodes
-pub mod Shrinking
-pub mod Deciding
+mod Shrinking
+mod Truths
+mod Turns
+mod WhereToEnd
+mod Wholes
+mod Works

@@ -1,15 +1,14 @@
 -- What the code finds of a list by indexes.
-use Rattle.std.proofs.Common.{◌≡◌, ℕ, ◌+◌, ◌<◌, ◌≤◌, Bool, true, false, not, ◌&&◌, ◌||◌, ◌==◌, cond, List, [], ◌∷◌, length, take, drop, nat_lt, refl, sym, ap, ap₂, ◌∙◌, arith, subst, zero, suc, Option, Some, None, is_none, true≢false}
+use Rattle.std.proofs.Common.{◌≡◌, ℕ, ◌+◌, ◌<◌, ◌≤◌, Bool, true, false, not, ◌&&◌, ◌||◌, ◌==◌, cond, List, [], ◌∷◌, length, take, drop, nat_lt, refl, sym, ap, ap₂, ◌∙◌, arith, subst, zero, suc, Option, Some, None, true≢false}
 use Rattle.std.specs.List.{position_or_len, position, slice_get}
 use Rattle.std.proofs.lemmas.Bool.Decides.{eqb_tells, nat_tests}
 use Rattle.std.proofs.lemmas.Bool.{eqb-true}
 use Rattle.node_versions.specs.declared.entry.Entry.{Entry}
 use Rattle.node_versions.specs.declared.entry.State.{State}
-use Rattle.node_versions.specs.Entries.{is_mark, is_frame, has, at, behind, before, up_to, served, IsUnique, is_of, first_open, OutEdge, has_out, has_node, is_edge}
+use Rattle.node_versions.specs.Entries.{is_mark, is_frame, has, at, behind, before, served, IsUnique, is_of, first_open, OutEdge, has_out, has_node, is_edge}
 use Rattle.node_versions.proofs.Places.{place, has-place, take-before}
 use Rattle.node_versions.proofs.Indexes.{opens, entry_at_index}
 use Rattle.flow_model.specs.Machine.Next.{blocked, blocked_by, kept_if}
-use Rattle.step_rules.specs.declared.lists.Sight.{Sight}
 use Rattle.step_rules.specs.Sights.{sight_of}
 
 one_more : (n : ℕ) → 1 + n ≡ suc n

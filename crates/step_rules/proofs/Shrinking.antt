@@ -1,5 +1,5 @@
 -- A list shrinks where its second entry is of an ended call.
-use Rattle.std.proofs.Common.{◌≡◌, ℕ, zero, suc, ◌+◌, ◌<◌, ◌≤◌, Bool, true, false, not, ◌==◌, nat_lt, List, [], ◌∷◌, length, Option, Some, None, refl, sym, ap, ◌∙◌, arith, subst, true≢false}
+use Rattle.std.proofs.Common.{◌≡◌, ℕ, suc, ◌≤◌, Bool, true, false, not, nat_lt, List, [], ◌∷◌, length, Option, Some, None, refl, sym, ap, ◌∙◌, arith, subst, true≢false}
 use Rattle.std.specs.Prelude.{filter, slice_get, if◌then◌else◌}
 use Rattle.std.specs.List.{cons_option}
 use Rattle.std.specs.Option.{IsSome, is_some}
@@ -33,12 +33,6 @@ collected-length ended es h = some-length (last_done (filter ended es)) (filter 
 
 none-done : (ended : Entry → Bool) (es : List Entry) → filter ended es ≡ [] → IsSome (last_done (filter ended es)) → ⊥
 none-done ended es h k = true≢false (sym k ∙ ap (λ (xs : List Entry). is_some (last_done xs)) h)
-
-short-is : (ended : Entry → Bool) (es : List Entry) → HasEndedPrefix ended es → length es < 2 → nat_lt (length (collected ended es)) (length es) ≡ false
-short-is ended es h l = let c = collected-length ended es h in grind (arith, nat_tests, c, l)
-
-pub short_stays : (ended : Entry → Bool) (es : List Entry) → HasEndedPrefix ended es → length es < 2 → false ≡ nat_lt (length (collected ended es)) (length es)
-short_stays ended es h l = sym (short-is ended es h l)
 
 two-entries : (ended : Entry → Bool) (first second : Entry) (es : List Entry) (a b : Bool) → ended first ≡ a → ended second ≡ b → HasEndedPrefix ended (first ∷ second ∷ es) → b ≡ nat_lt (suc (length (filter (λ e. not (ended e)) (first ∷ second ∷ es)))) (suc (suc (length es)))
 two-entries ended first second es true true ea eb h =

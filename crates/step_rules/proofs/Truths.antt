@@ -22,12 +22,7 @@ pub not_holds : (a : Bool) → a ≡ false → not a ≡ true
 not_holds true h = sym h
 not_holds false h = refl
 
--- where one of two holds either is enough
-pub first_holds : (a b c : Bool) → a ≡ true → b ≡ true → true ≡ (a && (b || c))
-first_holds true true c h k = refl
-first_holds true false c h k = absurd (true≢false (sym k))
-first_holds false b c h k = absurd (true≢false (sym h))
-
+-- where the first holds and the second does not, the third decides
 pub other_decides : (a b c r : Bool) → a ≡ true → b ≡ false → r ≡ c → r ≡ (a && (b || c))
 other_decides true true c r h k e = absurd (true≢false k)
 other_decides true false c r h k e = e

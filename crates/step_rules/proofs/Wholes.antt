@@ -1,15 +1,15 @@
 -- What a lawful state says of a book and lists that are its.
-use Rattle.std.proofs.Common.{◌≡◌, ℕ, ◌<◌, Bool, true, false, ◌&&◌, List, length, Option, Some, None, refl, sym, ap, ap₂, ◌∙◌, subst, arith, true≢false}
+use Rattle.std.proofs.Common.{◌≡◌, ℕ, ◌<◌, Bool, true, false, ◌&&◌, List, length, Option, Some, refl, sym, ap₂, ◌∙◌, subst, arith}
 use Rattle.std.specs.Option.{IsSome}
 use Rattle.signal_graph.specs.Graph.{Graph, is_in}
 use Rattle.node_versions.specs.Entries.{Versions, has, before, last_done, first_open, picks_before}
-use Rattle.flow_model.specs.Machine.State.{Core, executes, live, entries}
+use Rattle.flow_model.specs.Machine.State.{Core, executes}
 use Rattle.flow_model.specs.Machine.Words.{heads, is_some_of}
 use Rattle.flow_model.specs.Parts.Books.{Book, bare}
 use Rattle.flow_model.proofs.OneStep.WhoMayStep.{and_left, and_right, executes-live}
 use Rattle.flow_model.proofs.Wants.EarlierNodes.{dep-earlier}
-use Rattle.flow_state.specs.Booked.{Booked, live_in, node_count}
-use Rattle.flow_state.specs.Fitting.{IsBookOf, list_of}
+use Rattle.flow_state.specs.Booked.{Booked, node_count}
+use Rattle.flow_state.specs.Fitting.{IsBookOf}
 use Rattle.flow_state.proofs.Fits.{fits_node, heads_has, lawful_before}
 use Rattle.step_rules.specs.Rests.{AreBelow, rests_on}
 use Rattle.step_rules.specs.Fits.{IsWholeOf, IsWhole}
@@ -19,9 +19,6 @@ use Rattle.step_rules.specs.Fronts.{is_first, picks_if}
 
 pub node_inside : (graph : Graph) (s : Core) (book : Booked) (n : ℕ) → IsBookOf graph s book → n < length graph.nodes → n < node_count book
 node_inside graph s book n fits h = fits_node graph s book n fits (subst (λ (j : ℕ). n < j) (sym fits.lawful.lists) h)
-
-pub listed_inside : (graph : Graph) (book : Booked) (lists : ℕ → Versions) (count n : ℕ) → IsWhole graph book lists count → n < count → n < node_count book
-listed_inside graph book lists count n w h = node_inside graph w.state book n w.whole.fits (subst (λ (j : ℕ). n < j) w.whole.many h)
 
 pub listed_known : (graph : Graph) (book : Booked) (lists : ℕ → Versions) (count n : ℕ) → IsWhole graph book lists count → n < count → n < length graph.nodes
 listed_known graph book lists count n w h = subst (λ (j : ℕ). n < j) w.whole.many h
@@ -66,10 +63,6 @@ pub picks_there : (b : Bool) (picks some : List (Option ℕ)) → picks_if b pic
 picks_there true picks some e = refl
 picks_there false picks some e = absurd (cc)
 
-pub picks_away : (b : Bool) (picks : List (Option ℕ)) → picks_if b picks ≡ None → b ≡ false
-picks_away true picks e = absurd (cc)
-picks_away false picks e = refl
-
 -- ---- picks of a node where a call works
 
 -- They are the picks before the call, and so what the node rests on is of the graph.
@@ -77,7 +70,3 @@ pub given_below : (graph : Graph) (book : Booked) (lists : ℕ → Versions) (co
     → Some picks ≡ picks_if b (picks_before (lists n).entries t) → AreBelow (node_count book) (rests_on graph n picks)
 given_below graph book lists count t n b picks w h e =
     subst (λ (ps : List (Option ℕ)). AreBelow (node_count book) (rests_on graph n ps)) (sym (picks_are b (picks_before (lists n).entries t) picks (sym e))) (rests_below graph book lists count t n w h)
-
--- other lists with the same in them
-pub same_whole : (graph : Graph) (book : Booked) (lists others : ℕ → Versions) (count other : ℕ) → others ≡ lists → other ≡ count → IsWhole graph book lists count → IsWhole graph book others other
-same_whole graph book lists others count other e k w = subst (λ (l : ℕ → Versions). IsWhole graph book l other) (sym e) (subst (λ (j : ℕ). IsWhole graph book lists j) (sym k) w)

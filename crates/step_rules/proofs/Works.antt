@@ -1,35 +1,12 @@
 -- The work at a node, as the words of states read it.
-use Rattle.std.proofs.Common.{◌≡◌, ℕ, ◌<◌, ◌≤◌, ◌+◌, suc, List, [], ◌∷◌, ◌++◌, Option, Some, None, length, map, take, get_or, refl, sym, ap, ◌∙◌, arith}
-use Rattle.std.specs.Prelude.{is_some, is_none, slice_get}
-use Rattle.std.proofs.Math.ListN.{get_or-map}
+use Rattle.std.proofs.Common.{◌≡◌, ℕ, ◌<◌, ◌≤◌, ◌+◌, suc, List, [], ◌∷◌, ◌++◌, Option, Some, length, map, take, get_or, refl, sym, ap, ◌∙◌, arith}
+use Rattle.std.specs.Prelude.{slice_get}
 use Rattle.std.proofs.lemmas.List.{take_more, length-take-le}
 use Rattle.std.proofs.lemmas.Option.{slice_get_within, get_or_from_slice_get}
 use Rattle.script_tree.specs.declared.limits.TheConstants.{SELECTORS}
 use Rattle.signal_graph.specs.Values.{taken}
-use Rattle.flow_model.specs.Machine.State.{Cell, cell, no_cell}
-use Rattle.flow_model.specs.Machine.Words.{gathered_of, is_gathered, is_found, found_picks, picks_of_found}
-use Rattle.flow_model.specs.Parts.Books.{bare, bare_cell, no_work}
-use Rattle.flow_state.specs.Booked.{Booked, work_at}
 use Rattle.flow_state.specs.declared.found.Found.{Found}
 use Rattle.flow_state.specs.Found.{selection_of}
-
-pub bare_work : (book : Booked) (n : ℕ) → cell (bare book.book) n ≡ bare_cell (work_at book n)
-bare_work book n = get_or-map bare_cell book.book.works n no_work
-
-pub gathered_is : (book : Booked) (n m : ℕ) → is_gathered (bare book.book) n m ≡ is_some (gathered_of m (work_at book n).gathered)
-gathered_is book n m = ap (λ (c : Cell). is_some (gathered_of m c.gathered)) (bare_work book n)
-
-pub found_is : (book : Booked) (n : ℕ) → is_found (bare book.book) n ≡ is_some (work_at book n).found
-found_is book n = ap (λ (c : Cell). is_some c.found) (bare_work book n)
-
-pub picks_found : (book : Booked) (n : ℕ) → found_picks (bare book.book) n ≡ picks_of_found (work_at book n).found
-picks_found book n = ap (λ (c : Cell). picks_of_found c.found) (bare_work book n)
-
-pub body_is : (book : Booked) (n : ℕ) → is_some (cell (bare book.book) n).body ≡ is_some (work_at book n).body
-body_is book n = ap (λ (c : Cell). is_some c.body) (bare_work book n)
-
-pub no_body : (book : Booked) (n : ℕ) → is_none (cell (bare book.book) n).body ≡ is_none (work_at book n).body
-no_body book n = ap (λ (c : Cell). is_none c.body) (bare_work book n)
 
 -- ---- picks of what was found
 

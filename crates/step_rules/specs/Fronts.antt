@@ -39,5 +39,6 @@ work_picks graph book es t n =
 -- the same where it has changed something that the node rests on besides
 abbrev pub due_picks : Graph → Booked → List Entry → ℕ → ℕ → Option (List (Option ℕ))
 due_picks graph book es t n = picks_if
-    ((wants_nothing book t && (is_first book es t && is_free graph book t n (picks_before es t))) && is_touched graph book t n (picks_before es t))
+    ((wants_nothing book t && (is_first book es t && is_free graph book t n (picks_before es t)))
+    && is_touched graph book t n (picks_before es t))
     (picks_before es t)

@@ -1,8 +1,9 @@
-pub mod Sights
-pub mod Rests
+pub mod Collecting
+pub mod Edges
+pub mod Ends
 pub mod Fits
 pub mod Fronts
-pub mod Edges
 pub mod Known
-pub mod Ends
-pub mod Collecting
+pub mod Points
+pub mod Rests
+pub mod Sights

@@ -14,7 +14,7 @@ use crate::finishing::{may_resolve, may_skip};
 use crate::lists::Lists;
 use crate::picking::{may_discover, may_drop};
 use crate::reading::{may_gather, may_look, may_mark};
-use crate::starting::{may_frame, may_start};
+use crate::wanting::{may_frame, may_start};
 use flow_model::Step;
 use flow_state::Book;
 use signal_graph::graph::Graph;
@@ -24,7 +24,8 @@ use signal_graph::graph::Graph;
 /// Takes no memory.
 pub fn allowed<L: Lists>(book: &Book, graph: &Graph, lists: &mut L, step: Step) -> bool
     requires { IsWhole graph.now book.now (L.listing_of lists.old) (L.nodes lists.old) }
-    ensures allowed { (s : Core) → IsWholeOf graph.now s book.now (L.listing_of lists.old) (L.nodes lists.old) → result ≡ allowed graph.now s step }
+    ensures allowed { (s : Core) → IsWholeOf graph.now s book.now (L.listing_of lists.old) (L.nodes lists.old)
+        → result ≡ allowed graph.now s step }
     ensures lists { L.listing_of lists.new ≡ L.listing_of lists.old }
     ensures nodes { L.nodes lists.new ≡ L.nodes lists.old }
 {
@@ -46,12 +47,24 @@ fn may_step<L: Lists>(book: &Book, graph: &Graph, lists: &mut L, step: Step) -> 
         Step::Frame { version, node } => may_frame(book, graph, lists, version, node),
         Step::Start { version } => may_start(book, version),
         Step::Skip { version, node } => may_skip(book, graph, lists, version, node),
-        Step::Gather { version, node, input } => may_gather(book, graph, lists, version, node, input),
+        Step::Gather {
+            version,
+            node,
+            input,
+        } => may_gather(book, graph, lists, version, node, input),
         Step::Evaluate { version, node } => may_evaluate(book, graph, lists, version, node),
         Step::Body { version, node } => may_evaluate_body(book, graph, lists, version, node),
         Step::Resolve { version, node } => may_resolve(book, graph, lists, version, node),
-        Step::Discover { version, node, candidate } => may_discover(book, graph, lists, version, node, candidate),
-        Step::Drop { version, node, candidate } => may_drop(book, graph, lists, version, node, candidate),
+        Step::Discover {
+            version,
+            node,
+            candidate,
+        } => may_discover(book, graph, lists, version, node, candidate),
+        Step::Drop {
+            version,
+            node,
+            candidate,
+        } => may_drop(book, graph, lists, version, node, candidate),
         Step::Mark { version, node } => may_mark(book, graph, lists, version, node),
         Step::Look { version } => may_look(book, graph, lists, version),
         Step::End { version } => may_end(book, version),
@@ -90,9 +103,16 @@ fn are_nodes(graph: &Graph, step: Step) -> bool
         | Step::Mark { node, .. }
         | Step::Collect { node } => node < graph.len(),
         Step::Gather { node, input, .. } => node < graph.len() && input < graph.len(),
-        Step::Discover { node, candidate, .. } | Step::Drop { node, candidate, .. } => {
-            node < graph.len() && candidate < graph.len()
+        Step::Discover {
+            node,
+            candidate,
+            ..
         }
+        | Step::Drop {
+            node,
+            candidate,
+            ..
+        } => { node < graph.len() && candidate < graph.len() }
         Step::Start { .. } | Step::Look { .. } | Step::End { .. } => true,
     }
 }

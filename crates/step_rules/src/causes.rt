@@ -1,7 +1,10 @@
 // Why a call can't end.
 
-ghost use Rattle.std.specs.Prelude.{◌≡◌, true};
-ghost use Rattle.flow_model.specs.Machine.State.{Core};
+ghost use Rattle.std.specs.Prelude.{◌≡◌, true, is_none};
+ghost use Rattle.signal_graph.specs.Graph.{Graph};
+ghost use Rattle.flow_model.specs.declared.step.Step.TheVariants as step;
+ghost use Rattle.flow_model.specs.Machine.State.{Core, executes};
+ghost use Rattle.flow_model.specs.Machine.Steps.{allowed};
 ghost use Rattle.flow_model.specs.Machine.Next.{why_not_ended};
 ghost use Rattle.flow_model.specs.Parts.Books.{book_of};
 ghost use Rattle.flow_state.specs.Booked.{live_in};
@@ -11,8 +14,19 @@ use flow_model::Cause;
 use flow_state::Book;
 
 /// Why a live call can't end: its least direct predecessor, else the first node at which it has not finished, that is the
-/// least wanted one, the least open one or that of the next look. None where there is nothing of that.
+/// least wanted one, the least open one or that of the next look. Of a call that executes there is none exactly where the
+/// step End is allowed. Takes no memory.
 pub fn why_not_ended(book: &Book, version: u32) -> Option<Cause>
+    requires { live_in book.now version ≡ true }
+    ensures cause { (s : Core) → book.now.book ≡ book_of s → result ≡ why_not_ended s version }
+    ensures exact { (graph : Graph) (s : Core) → book.now.book ≡ book_of s → executes s version ≡ true
+        → allowed graph s (step.End version) ≡ is_none result }
+{
+    first_cause(book, version)
+}
+
+// The first cause.
+fn first_cause(book: &Book, version: u32) -> Option<Cause>
     requires { live_in book.now version ≡ true }
     ensures { (s : Core) → book.now.book ≡ book_of s → result ≡ why_not_ended s version }
 {

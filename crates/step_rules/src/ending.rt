@@ -17,7 +17,8 @@ use signal_graph::graph::Graph;
 /// is left.
 pub(crate) fn may_end(book: &Book, version: u32) -> bool
     requires { live_in book.now version ≡ true }
-    ensures { result ≡ (is_idle (bare book.now.book) version && is_none (next_look (bare book.now.book) version) && not (any_before (bare book.now.book) version)) }
+    ensures { result ≡ (is_idle (bare book.now.book) version && is_none (next_look (bare book.now.book) version)
+        && not (any_before (bare book.now.book) version)) }
 {
     if !is_idle(book, version) {
         return false;

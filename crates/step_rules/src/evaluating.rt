@@ -15,7 +15,13 @@ use signal_graph::graph::Graph;
 
 /// Whether the step Evaluate is allowed: the call is at the front of the node and has changed something that it rests on,
 /// the values of all inputs are gathered, and nothing is found yet.
-pub(crate) fn may_evaluate<L: Lists>(book: &Book, graph: &Graph, lists: &mut L, version: u32, node: u32) -> bool
+pub(crate) fn may_evaluate<L: Lists>(
+    book: &Book,
+    graph: &Graph,
+    lists: &mut L,
+    version: u32,
+    node: u32,
+) -> bool
     requires whole { IsWhole graph.now book.now (L.listing_of lists.old) (L.nodes lists.old) }
     requires live { live_in book.now version ≡ true }
     requires node { node < L.nodes lists.old }
@@ -37,7 +43,13 @@ pub(crate) fn may_evaluate<L: Lists>(book: &Book, graph: &Graph, lists: &mut L, 
 
 /// Whether the step Body is allowed: the call is at the front of the node, which has a body, and has changed something that
 /// it rests on, the values of all found candidates are gathered, and the body is not evaluated yet.
-pub(crate) fn may_evaluate_body<L: Lists>(book: &Book, graph: &Graph, lists: &mut L, version: u32, node: u32) -> bool
+pub(crate) fn may_evaluate_body<L: Lists>(
+    book: &Book,
+    graph: &Graph,
+    lists: &mut L,
+    version: u32,
+    node: u32,
+) -> bool
     requires whole { IsWhole graph.now book.now (L.listing_of lists.old) (L.nodes lists.old) }
     requires live { live_in book.now version ≡ true }
     requires node { node < L.nodes lists.old }

@@ -14,14 +14,22 @@ ghost use Rattle.step_rules.specs.Rests.{AreBelow};
 use crate::fronts::{is_pressed, work_picks};
 use crate::lists::Lists;
 use crate::resting::is_touched;
-use crate::working::{are_picks_gathered, found_picks, has_body_value, has_pick, is_found, is_source};
+use crate::working::{
+    are_picks_gathered, found_picks, has_body_value, has_pick, is_found, is_source,
+};
 use flow_state::Book;
 use script_tree::picks::Picks;
 use signal_graph::graph::Graph;
 
 /// Whether the step Skip is allowed: the call can work at the node, which is no source, it has changed nothing that the
 /// node rests on, and no later call waits for it to frame the node.
-pub(crate) fn may_skip<L: Lists>(book: &Book, graph: &Graph, lists: &mut L, version: u32, node: u32) -> bool
+pub(crate) fn may_skip<L: Lists>(
+    book: &Book,
+    graph: &Graph,
+    lists: &mut L,
+    version: u32,
+    node: u32,
+) -> bool
     requires whole { IsWhole graph.now book.now (L.listing_of lists.old) (L.nodes lists.old) }
     requires live { live_in book.now version ≡ true }
     requires node { node < L.nodes lists.old }
@@ -43,7 +51,13 @@ pub(crate) fn may_skip<L: Lists>(book: &Book, graph: &Graph, lists: &mut L, vers
 
 /// Whether the step Resolve is allowed: the call can work at the node, no later call waits for it to frame the node, and
 /// the node is a source, or due and all that its new value takes is there.
-pub(crate) fn may_resolve<L: Lists>(book: &Book, graph: &Graph, lists: &mut L, version: u32, node: u32) -> bool
+pub(crate) fn may_resolve<L: Lists>(
+    book: &Book,
+    graph: &Graph,
+    lists: &mut L,
+    version: u32,
+    node: u32,
+) -> bool
     requires whole { IsWhole graph.now book.now (L.listing_of lists.old) (L.nodes lists.old) }
     requires live { live_in book.now version ≡ true }
     requires node { node < L.nodes lists.old }
@@ -68,7 +82,14 @@ pub(crate) fn may_resolve<L: Lists>(book: &Book, graph: &Graph, lists: &mut L, v
 
 // Whether all that the node's new value takes is there: it is evaluated, the values of all found candidates are gathered,
 // these are discovered and the others of the picks before released, and a body is evaluated.
-fn is_worked_out<L: Lists>(book: &Book, graph: &Graph, lists: &mut L, version: u32, node: u32, picks: &Picks) -> bool
+fn is_worked_out<L: Lists>(
+    book: &Book,
+    graph: &Graph,
+    lists: &mut L,
+    version: u32,
+    node: u32,
+    picks: &Picks,
+) -> bool
     requires whole { IsWhole graph.now book.now (L.listing_of lists.old) (L.nodes lists.old) }
     requires live { live_in book.now version ≡ true }
     requires node { node < L.nodes lists.old }
@@ -94,7 +115,13 @@ fn is_worked_out<L: Lists>(book: &Book, graph: &Graph, lists: &mut L, version: u
 }
 
 // Whether each found candidate was picked before the call or has the node's out-edge of this call.
-fn are_discovered<L: Lists>(lists: &mut L, version: u32, node: u32, found: &Picks, picks: &Picks) -> bool
+fn are_discovered<L: Lists>(
+    lists: &mut L,
+    version: u32,
+    node: u32,
+    found: &Picks,
+    picks: &Picks,
+) -> bool
     requires { AreBelow (L.nodes lists.old) (nodes_in found.now) }
     ensures discovered { result ≡ list_all (is_discovered_by (L.listing_of lists.old) version node picks.now) (nodes_in found.now) }
     ensures lists { L.listing_of lists.new ≡ L.listing_of lists.old }
@@ -108,7 +135,13 @@ fn are_discovered<L: Lists>(lists: &mut L, version: u32, node: u32, found: &Pick
     true
 }
 
-fn is_discovered<L: Lists>(lists: &mut L, version: u32, node: u32, pick: Option<u32>, picks: &Picks) -> bool
+fn is_discovered<L: Lists>(
+    lists: &mut L,
+    version: u32,
+    node: u32,
+    pick: Option<u32>,
+    picks: &Picks,
+) -> bool
     requires { AreBelow (L.nodes lists.old) (nodes_in (pick ∷ [])) }
     ensures discovered { result ≡ list_all (is_discovered_by (L.listing_of lists.old) version node picks.now) (nodes_in (pick ∷ [])) }
     ensures lists { L.listing_of lists.new ≡ L.listing_of lists.old }

@@ -18,7 +18,13 @@ const SPARE_ENTRIES: u64 = 9;
 
 /// The node's picks before the call, where the call is at the front of the node: it executes, its Frame is the first of
 /// the node's list, and it has finished at all that the node rests on.
-pub(crate) fn front_picks<L: Lists>(book: &Book, graph: &Graph, lists: &mut L, version: u32, node: u32) -> Option<Picks>
+pub(crate) fn front_picks<L: Lists>(
+    book: &Book,
+    graph: &Graph,
+    lists: &mut L,
+    version: u32,
+    node: u32,
+) -> Option<Picks>
     requires whole { IsWhole graph.now book.now (L.listing_of lists.old) (L.nodes lists.old) }
     requires live { live_in book.now version ≡ true }
     requires node { node < L.nodes lists.old }
@@ -37,7 +43,13 @@ pub(crate) fn front_picks<L: Lists>(book: &Book, graph: &Graph, lists: &mut L, v
 }
 
 /// The same, where the call has nothing left to frame besides.
-pub(crate) fn work_picks<L: Lists>(book: &Book, graph: &Graph, lists: &mut L, version: u32, node: u32) -> Option<Picks>
+pub(crate) fn work_picks<L: Lists>(
+    book: &Book,
+    graph: &Graph,
+    lists: &mut L,
+    version: u32,
+    node: u32,
+) -> Option<Picks>
     requires whole { IsWhole graph.now book.now (L.listing_of lists.old) (L.nodes lists.old) }
     requires live { live_in book.now version ≡ true }
     requires node { node < L.nodes lists.old }
@@ -52,7 +64,13 @@ pub(crate) fn work_picks<L: Lists>(book: &Book, graph: &Graph, lists: &mut L, ve
 }
 
 /// The same, where the call has changed something that the node rests on besides.
-pub(crate) fn due_picks<L: Lists>(book: &Book, graph: &Graph, lists: &mut L, version: u32, node: u32) -> Option<Picks>
+pub(crate) fn due_picks<L: Lists>(
+    book: &Book,
+    graph: &Graph,
+    lists: &mut L,
+    version: u32,
+    node: u32,
+) -> Option<Picks>
     requires whole { IsWhole graph.now book.now (L.listing_of lists.old) (L.nodes lists.old) }
     requires live { live_in book.now version ≡ true }
     requires node { node < L.nodes lists.old }

@@ -86,6 +86,7 @@ pub trait Lists {
 /// All lists side by side, where one thread has them.
 #[derive(Drop)]
 pub struct AllLists<'a> {
+    /// The list of each node.
     pub lists: &'a [NodeList],
 }
 

@@ -14,7 +14,14 @@ use signal_graph::graph::Graph;
 
 /// Whether the step Discover is allowed: the node is due and its selectors have picked the candidate, which it had not
 /// picked before the call and to which it has no out-edge of this call, and the call has an entry there or finds room.
-pub(crate) fn may_discover<L: Lists>(book: &Book, graph: &Graph, lists: &mut L, version: u32, node: u32, candidate: u32) -> bool
+pub(crate) fn may_discover<L: Lists>(
+    book: &Book,
+    graph: &Graph,
+    lists: &mut L,
+    version: u32,
+    node: u32,
+    candidate: u32,
+) -> bool
     requires whole { IsWhole graph.now book.now (L.listing_of lists.old) (L.nodes lists.old) }
     requires live { live_in book.now version ≡ true }
     requires node { node < L.nodes lists.old }
@@ -41,7 +48,14 @@ pub(crate) fn may_discover<L: Lists>(book: &Book, graph: &Graph, lists: &mut L, 
 /// Whether the step Drop is allowed: the node is due, the values of all found candidates are gathered, it had picked this
 /// candidate before the call and its selectors have not picked it again, an out-edge is left, and the call has an entry
 /// there or finds room.
-pub(crate) fn may_drop<L: Lists>(book: &Book, graph: &Graph, lists: &mut L, version: u32, node: u32, candidate: u32) -> bool
+pub(crate) fn may_drop<L: Lists>(
+    book: &Book,
+    graph: &Graph,
+    lists: &mut L,
+    version: u32,
+    node: u32,
+    candidate: u32,
+) -> bool
     requires whole { IsWhole graph.now book.now (L.listing_of lists.old) (L.nodes lists.old) }
     requires live { live_in book.now version ≡ true }
     requires node { node < L.nodes lists.old }

@@ -21,7 +21,14 @@ use signal_graph::graph::Graph;
 
 /// Whether the step Gather is allowed: the node is due and reads the input, whose value is not gathered yet, and the call
 /// has a served entry there.
-pub(crate) fn may_gather<L: Lists>(book: &Book, graph: &Graph, lists: &mut L, version: u32, node: u32, input: u32) -> bool
+pub(crate) fn may_gather<L: Lists>(
+    book: &Book,
+    graph: &Graph,
+    lists: &mut L,
+    version: u32,
+    node: u32,
+    input: u32,
+) -> bool
     requires whole { IsWhole graph.now book.now (L.listing_of lists.old) (L.nodes lists.old) }
     requires live { live_in book.now version ≡ true }
     requires node { node < L.nodes lists.old }
@@ -44,7 +51,13 @@ pub(crate) fn may_gather<L: Lists>(book: &Book, graph: &Graph, lists: &mut L, ve
 
 /// Whether the step Mark is allowed: the call executes, has no entry in the node's list and finds room there, and an open
 /// node asks for it, or the next look is at it.
-pub(crate) fn may_mark<L: Lists>(book: &Book, graph: &Graph, lists: &mut L, version: u32, node: u32) -> bool
+pub(crate) fn may_mark<L: Lists>(
+    book: &Book,
+    graph: &Graph,
+    lists: &mut L,
+    version: u32,
+    node: u32,
+) -> bool
     requires whole { IsWhole graph.now book.now (L.listing_of lists.old) (L.nodes lists.old) }
     requires live { live_in book.now version ≡ true }
     requires node { node < L.nodes lists.old }
@@ -115,11 +128,18 @@ fn is_next_look(book: &Book, version: u32, node: u32) -> bool
 }
 
 // Whether a node that is open for the call asks it to enter another.
-fn is_asked_for<L: Lists>(book: &Book, graph: &Graph, lists: &mut L, version: u32, node: u32) -> bool
+fn is_asked_for<L: Lists>(
+    book: &Book,
+    graph: &Graph,
+    lists: &mut L,
+    version: u32,
+    node: u32,
+) -> bool
     requires whole { IsWhole graph.now book.now (L.listing_of lists.old) (L.nodes lists.old) }
     requires live { live_in book.now version ≡ true }
     requires node { node < L.nodes lists.old }
-    ensures asked { result ≡ list_any (asks_for_in graph.now book.now.book (listed (L.listing_of lists.old)) version node) (call (bare book.now.book) version).open_nodes }
+    ensures asked { result ≡ list_any (asks_for_in graph.now book.now.book (listed (L.listing_of lists.old)) version node)
+        (call (bare book.now.book) version).open_nodes }
     ensures lists { L.listing_of lists.new ≡ L.listing_of lists.old }
     ensures nodes { L.nodes lists.new ≡ L.nodes lists.old }
 {
@@ -135,7 +155,14 @@ fn is_asked_for<L: Lists>(book: &Book, graph: &Graph, lists: &mut L, version: u3
 
 // Whether an open node asks the call to enter another: as an input whose value is not gathered, or as a candidate that is
 // found and had been picked before the call.
-fn asks_for<L: Lists>(book: &Book, graph: &Graph, lists: &mut L, version: u32, node: u32, asking: u32) -> bool
+fn asks_for<L: Lists>(
+    book: &Book,
+    graph: &Graph,
+    lists: &mut L,
+    version: u32,
+    node: u32,
+    asking: u32,
+) -> bool
     requires whole { IsWhole graph.now book.now (L.listing_of lists.old) (L.nodes lists.old) }
     requires live { live_in book.now version ≡ true }
     requires node { node < L.nodes lists.old }

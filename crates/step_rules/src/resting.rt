@@ -12,7 +12,13 @@ use signal_graph::graph::Graph;
 use signal_graph::node::Node;
 
 /// Whether one of the nodes that the node rests on is open for the call. `picks` are the node's picks before the call.
-pub(crate) fn rests_on_open(book: &Book, graph: &Graph, version: u32, node: u32, picks: &Picks) -> bool
+pub(crate) fn rests_on_open(
+    book: &Book,
+    graph: &Graph,
+    version: u32,
+    node: u32,
+    picks: &Picks,
+) -> bool
     requires live { live_in book.now version ≡ true }
     requires node { node < length graph.now.nodes }
     requires inside { AreBelow (node_count book.now) (rests_on graph.now node picks.now) }

@@ -1,46 +1,42 @@
-// Where a call can frame a node, and where it can start.
+// What comes next for a call that has nodes to frame, or has not started.
 
-ghost use Rattle.std.specs.Prelude.{◌≡◌, ◌<◌, true, not, ◌&&◌};
-ghost use Rattle.flow_model.specs.declared.step.Step.TheVariants as step;
-ghost use Rattle.flow_model.specs.Machine.State.{is_framing};
-ghost use Rattle.flow_model.specs.Machine.Steps.{any_framing_before};
-ghost use Rattle.flow_model.specs.Parts.Books.{allowed_in, bare};
+ghost use Rattle.std.specs.Prelude.{◌≡◌, true};
+ghost use Rattle.signal_graph.specs.Graph.{Graph};
+ghost use Rattle.flow_model.specs.Parts.Books.{bare};
 ghost use Rattle.flow_state.specs.Booked.{live_in};
-ghost use Rattle.step_rules.specs.Fits.{IsWhole, listed};
-ghost use Rattle.step_rules.specs.Fronts.{wants_nothing};
+ghost use Rattle.step_rules.specs.Fits.{IsWhole};
+ghost use Rattle.step_rules.specs.Points.{first_points, first_point, starting_in};
 
-use crate::fronts::{has_room, wants_nothing};
+use crate::entering::framing;
 use crate::lists::Lists;
+use flow_model::{Cause, Step, Turn};
 use flow_state::Book;
-use signal_graph::graph::Graph;
 
-/// Whether the step Frame is allowed: the call wants the node, and has a Mark there or finds room.
-pub(crate) fn may_frame<L: Lists>(book: &Book, _graph: &Graph, lists: &mut L, version: u32, node: u32) -> bool
-    requires whole { IsWhole _graph.now book.now (L.listing_of lists.old) (L.nodes lists.old) }
+/// What comes next before a call works at nodes: it frames its least wanted node, and then starts. None where it
+/// executes with nothing left to frame.
+pub(crate) fn before_work<L: Lists>(book: &Book, lists: &mut L, version: u32) -> Option<Turn>
+    requires whole { (graph : Graph) × IsWhole graph book.now (L.listing_of lists.old) (L.nodes lists.old) }
     requires live { live_in book.now version ≡ true }
-    requires node { node < L.nodes lists.old }
-    ensures allowed { result ≡ allowed_in _graph.now book.now.book (listed (L.listing_of lists.old)) (step.Frame version node) }
+    ensures turn { (graph : Graph) → result ≡ first_point (first_points graph book.now (L.listing_of lists.old) version) }
     ensures lists { L.listing_of lists.new ≡ L.listing_of lists.old }
     ensures nodes { L.nodes lists.new ≡ L.nodes lists.old }
 {
-    if !book.wants(version, node) {
-        return false;
+    if let Some(node) = book.first_wanted(version) {
+        return Some(framing(book, lists, version, node));
     }
-    let sight = lists.sight(node, version);
-    sight.is_mark || has_room(book, sight.len)
+    if book.executes(version) {
+        return None;
+    }
+    Some(starting(book, version))
 }
 
-/// Whether the step Start is allowed: the call frames and has nothing left to frame, and so has no direct predecessor that
-/// frames.
-pub(crate) fn may_start(book: &Book, version: u32) -> bool
+// A call starts, but after its direct predecessors.
+fn starting(book: &Book, version: u32) -> Turn
     requires { live_in book.now version ≡ true }
-    ensures { result ≡ (is_framing (bare book.now.book) version && wants_nothing book.now version && not (any_framing_before (bare book.now.book) version)) }
+    ensures { result ≡ starting_in book.now version }
 {
-    if book.executes(version) {
-        return false;
+    match book.first_framing_before(version) {
+        Some(before) => Turn::NotYet(Cause::FramingBefore(before)),
+        None => Turn::Step(Step::Start { version }),
     }
-    if !wants_nothing(book, version) {
-        return false;
-    }
-    book.first_framing_before(version).is_none()
 }

@@ -1,4 +1,4 @@
-use Rattle.std.proofs.Common.{◌≡◌, ℕ, Bool, true, false, not, ◌&&◌, List, Option, sym, ap, ap₂, ◌∙◌, subst}
+use Rattle.std.proofs.Common.{true, not, ◌&&◌, sym, ap, ◌∙◌}
 use Rattle.std.specs.Prelude.{is_none, is_some}
 use Rattle.order_graph.specs.Order.{is_recorded}
 use Rattle.flow_model.specs.Machine.State.{LiveCall}

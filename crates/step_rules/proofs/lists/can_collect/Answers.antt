@@ -1,4 +1,4 @@
-use Rattle.std.proofs.Common.{sym, ap, ◌∙◌, not}
+use Rattle.std.proofs.Common.{ap, ◌∙◌, not}
 use Rattle.flow_model.specs.Machine.State.{ended}
 use Rattle.flow_model.specs.Parts.Books.{bare}
 use Rattle.step_rules.proofs.Shrinking.{second_tells}

@@ -1,5 +1,3 @@
-use Rattle.std.proofs.Common.{arith, sym}
-use Rattle.step_rules.specs.declared.lists.Sight.{Sight}
 use Rattle.step_rules.proofs.Seen.{absent-sight}
 use Rattle.step_rules.proofs.lists.sight_of.Goals as goal
 

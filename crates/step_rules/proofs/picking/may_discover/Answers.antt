@@ -1,9 +1,8 @@
-use Rattle.std.proofs.Common.{◌≡◌, ℕ, Bool, true, false, not, ◌&&◌, List, Option, sym, ap, ap₂, ◌∙◌, subst}
+use Rattle.std.proofs.Common.{◌≡◌, ℕ, false, not, ◌&&◌, List, Option, sym, ap, ◌∙◌}
 use Rattle.signal_graph.specs.Graph.{is_in}
 use Rattle.signal_graph.specs.Values.{nodes_in}
-use Rattle.node_versions.specs.Entries.{Versions, has_out, has_node}
-use Rattle.flow_model.specs.Machine.Words.{is_found, is_candidate, found_candidates}
-use Rattle.flow_model.specs.Machine.Steps.{all_gathered}
+use Rattle.node_versions.specs.Entries.{Versions, has_out}
+use Rattle.flow_model.specs.Machine.Words.{is_candidate}
 use Rattle.flow_model.specs.Parts.Books.{bare, due_in, prior_in, has_room_for_in}
 use Rattle.step_rules.specs.Fits.{listed}
 use Rattle.step_rules.proofs.Truths.{fails_left, fails_right, both_hold, second_decides, not_holds}

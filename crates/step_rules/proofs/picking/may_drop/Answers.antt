@@ -1,7 +1,7 @@
-use Rattle.std.proofs.Common.{◌≡◌, ℕ, Bool, true, false, not, ◌&&◌, List, Option, sym, ap, ap₂, ◌∙◌, subst}
+use Rattle.std.proofs.Common.{◌≡◌, ℕ, true, false, not, ◌&&◌, List, Option, sym, ap, ◌∙◌}
 use Rattle.signal_graph.specs.Graph.{is_in}
 use Rattle.signal_graph.specs.Values.{nodes_in}
-use Rattle.node_versions.specs.Entries.{Versions, has_out, has_node}
+use Rattle.node_versions.specs.Entries.{Versions, has_node}
 use Rattle.flow_model.specs.Machine.Words.{is_found, is_candidate, found_candidates}
 use Rattle.flow_model.specs.Machine.Steps.{all_gathered}
 use Rattle.flow_model.specs.Parts.Books.{bare, due_in, prior_in, has_room_for_in}

@@ -1,4 +1,4 @@
-use Rattle.std.proofs.Common.{◌≡◌, ℕ, ◌+◌, ◌-◌, ◌<◌, ◌≤◌, Bool, true, false, not, ◌&&◌, List, Option, Some, None, sym, ap, ap₂, ◌∙◌, subst, arith, refl}
+use Rattle.std.proofs.Common.{ℕ, not, ◌&&◌, List, Option, sym, ap, ◌∙◌}
 use Rattle.signal_graph.specs.Graph.{is_in, inputs_of, node_at}
 use Rattle.signal_graph.specs.Values.{nodes_in}
 use Rattle.flow_model.specs.Machine.Words.{is_gathered, is_candidate}

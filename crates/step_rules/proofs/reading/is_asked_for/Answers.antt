@@ -1,4 +1,4 @@
-use Rattle.std.proofs.Common.{◌≡◌, ℕ, ◌+◌, ◌-◌, ◌<◌, ◌≤◌, Bool, true, false, not, ◌&&◌, List, Option, Some, None, sym, ap, ap₂, ◌∙◌, subst, arith, refl}
+use Rattle.std.proofs.Common.{◌≡◌, ℕ, ◌+◌, ◌-◌, ◌<◌, ◌≤◌, Some, sym, ap, ◌∙◌, subst, arith, refl}
 use Rattle.std.specs.List.{list_any}
 use Rattle.node_versions.specs.Entries.{Versions}
 use Rattle.node_set.specs.Members.{first_from}
@@ -27,7 +27,7 @@ asks_for-requires-clause-asking g c =
     let nodes = (call (bare b) t).open_nodes in
     let next : first_from c.loop-asking.from nodes ≡ Some c.in-Some.asking = sym c.next_open.ensures ∙ c.in-Some.is in
     let below : c.in-Some.asking < g.L.Lists.nodes c.args.lists.now =
-        open_below c.args.graph.now c.args.book.now (g.L.Lists.listing_of c.args.lists.now) (g.L.Lists.nodes c.args.lists.now) t c.in-Some.asking c.requires.whole (from_in c.loop-asking.from nodes c.in-Some.asking next) in
+    open_below c.args.graph.now c.args.book.now (g.L.Lists.listing_of c.args.lists.now) (g.L.Lists.nodes c.args.lists.now) t c.in-Some.asking c.requires.whole (from_in c.loop-asking.from nodes c.in-Some.asking next) in
     subst (λ (count : ℕ). c.in-Some.asking < count) (sym c.loop-asking.invariant.nodes) below
 
 pub returns-then-asks_for-clause-asked : goal.returns-then-asks_for-clause-asked
@@ -39,7 +39,7 @@ returns-then-asks_for-clause-asked g c =
     let next : first_from c.loop-asking.from nodes ≡ Some c.in-Some.asking = sym c.next_open.ensures ∙ c.in-Some.is in
     let set = open_set c.args.graph.now c.args.book.now (g.L.Lists.listing_of c.args.lists.now) (g.L.Lists.nodes c.args.lists.now) t c.requires.whole in
     let asks : test c.in-Some.asking ≡ c.asks_for.result =
-        ap (λ (ls : ℕ → Versions). asks_for_in c.args.graph.now b (listed ls) t c.args.node c.in-Some.asking) (sym c.loop-asking.invariant.lists) ∙ sym c.asks_for.ensures.asks in
+    ap (λ (ls : ℕ → Versions). asks_for_in c.args.graph.now b (listed ls) t c.args.node c.in-Some.asking) (sym c.loop-asking.invariant.lists) ∙ sym c.asks_for.ensures.asks in
     from_found test c.loop-asking.from nodes c.in-Some.asking (list_any test nodes) set next c.loop-asking.invariant.rest (asks ∙ c.if-asks_for.true)
 
 pub overflow_add-from : goal.overflow_add-from
@@ -49,7 +49,7 @@ overflow_add-from g c =
     let nodes = (call (bare b) t).open_nodes in
     let next : first_from c.loop-asking.from nodes ≡ Some c.in-Some.asking = sym c.next_open.ensures ∙ c.in-Some.is in
     let below : c.in-Some.asking < g.L.Lists.nodes c.args.lists.now =
-        open_below c.args.graph.now c.args.book.now (g.L.Lists.listing_of c.args.lists.now) (g.L.Lists.nodes c.args.lists.now) t c.in-Some.asking c.requires.whole (from_in c.loop-asking.from nodes c.in-Some.asking next) in
+    open_below c.args.graph.now c.args.book.now (g.L.Lists.listing_of c.args.lists.now) (g.L.Lists.nodes c.args.lists.now) t c.in-Some.asking c.requires.whole (from_in c.loop-asking.from nodes c.in-Some.asking next) in
     let few = few_nodes c.args.graph.now c.args.book.now (g.L.Lists.listing_of c.args.lists.now) (g.L.Lists.nodes c.args.lists.now) c.requires.whole in
     omega (arith, below, few)
 
@@ -60,7 +60,7 @@ loop-asking-smaller g c =
     let nodes = (call (bare b) t).open_nodes in
     let next : first_from c.loop-asking.from nodes ≡ Some c.in-Some.asking = sym c.next_open.ensures ∙ c.in-Some.is in
     let below : c.in-Some.asking < g.L.Lists.nodes c.args.lists.now =
-        open_below c.args.graph.now c.args.book.now (g.L.Lists.listing_of c.args.lists.now) (g.L.Lists.nodes c.args.lists.now) t c.in-Some.asking c.requires.whole (from_in c.loop-asking.from nodes c.in-Some.asking next) in
+    open_below c.args.graph.now c.args.book.now (g.L.Lists.listing_of c.args.lists.now) (g.L.Lists.nodes c.args.lists.now) t c.in-Some.asking c.requires.whole (from_in c.loop-asking.from nodes c.in-Some.asking next) in
     smaller (g.L.Lists.nodes c.args.lists.now) c.loop-asking.from c.in-Some.asking below (from_above c.loop-asking.from nodes c.in-Some.asking next)
 
 pub loop-asking-preserved : goal.loop-asking-preserved
@@ -71,10 +71,10 @@ loop-asking-preserved g c =
     let test = asks_for_in c.args.graph.now b (listed (g.L.Lists.listing_of c.args.lists.now)) t c.args.node in
     let next : first_from c.loop-asking.from nodes ≡ Some c.in-Some.asking = sym c.next_open.ensures ∙ c.in-Some.is in
     let below : c.in-Some.asking < g.L.Lists.nodes c.args.lists.now =
-        open_below c.args.graph.now c.args.book.now (g.L.Lists.listing_of c.args.lists.now) (g.L.Lists.nodes c.args.lists.now) t c.in-Some.asking c.requires.whole (from_in c.loop-asking.from nodes c.in-Some.asking next) in
+    open_below c.args.graph.now c.args.book.now (g.L.Lists.listing_of c.args.lists.now) (g.L.Lists.nodes c.args.lists.now) t c.in-Some.asking c.requires.whole (from_in c.loop-asking.from nodes c.in-Some.asking next) in
     let set = open_set c.args.graph.now c.args.book.now (g.L.Lists.listing_of c.args.lists.now) (g.L.Lists.nodes c.args.lists.now) t c.requires.whole in
     let asks : test c.in-Some.asking ≡ c.asks_for.result =
-        ap (λ (ls : ℕ → Versions). asks_for_in c.args.graph.now b (listed ls) t c.args.node c.in-Some.asking) (sym c.loop-asking.invariant.lists) ∙ sym c.asks_for.ensures.asks in
+    ap (λ (ls : ℕ → Versions). asks_for_in c.args.graph.now b (listed ls) t c.args.node c.in-Some.asking) (sym c.loop-asking.invariant.lists) ∙ sym c.asks_for.ensures.asks in
     record {
       rest = from_more test c.loop-asking.from nodes c.in-Some.asking (list_any test nodes) set next c.loop-asking.invariant.rest (asks ∙ c.if-asks_for.false);
       lists = c.asks_for.ensures.lists ∙ c.loop-asking.invariant.lists;

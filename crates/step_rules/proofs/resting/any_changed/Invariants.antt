@@ -1,5 +1,4 @@
 use Rattle.std.proofs.Common.{◌≡◌, drop}
-use Rattle.std.specs.List.{list_any}
 use Rattle.step_rules.specs.Rests.{any_changed}
 use Rattle.step_rules.proofs.resting.any_changed.Given as goal
 

@@ -1,5 +1,4 @@
 use Rattle.std.proofs.Common.{◌≡◌, drop}
-use Rattle.std.specs.List.{list_any}
 use Rattle.signal_graph.specs.Values.{nodes_in}
 use Rattle.step_rules.specs.Rests.{any_changed}
 use Rattle.step_rules.proofs.resting.any_pick_changed.Given as goal

@@ -1,4 +1,4 @@
-use Rattle.std.proofs.Common.{◌≡◌, ℕ, Bool, true, false, not, ◌&&◌, List, Option, sym, ap, ap₂, ◌∙◌, subst}
+use Rattle.std.proofs.Common.{not, ◌&&◌, sym, ap, ◌∙◌}
 use Rattle.std.specs.Prelude.{is_none}
 use Rattle.flow_model.specs.Machine.State.{is_framing, live, executes}
 use Rattle.flow_model.specs.Machine.Steps.{is_framing_before, any_framing_before}
@@ -6,7 +6,7 @@ use Rattle.flow_model.specs.Parts.Books.{bare}
 use Rattle.step_rules.specs.Fronts.{wants_nothing}
 use Rattle.step_rules.proofs.OpenNodes.{none_least, none_is}
 use Rattle.step_rules.proofs.Truths.{both_hold, second_decides, not_holds}
-use Rattle.step_rules.proofs.starting.may_start.Goals as goal
+use Rattle.step_rules.proofs.wanting.may_start.Goals as goal
 
 pub returns : goal.returns
 returns c =

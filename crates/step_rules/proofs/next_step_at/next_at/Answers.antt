@@ -1,0 +1,6 @@
+use Rattle.std.proofs.Common.{◌∙◌}
+use Rattle.step_rules.proofs.Inside.{turn-next_at}
+use Rattle.step_rules.proofs.next_step_at.next_at.Goals as goal
+
+pub returns-clause-turn : goal.returns-clause-turn
+returns-clause-turn g c = λ s w. c.turn_at.ensures.turn ∙ turn-next_at c.args.graph.now s c.args.book.now (g.L.Lists.listing_of c.args.lists.now) (g.L.Lists.nodes c.args.lists.now) w c.args.version c.args.node c.requires.node

@@ -1,0 +1,58 @@
+// Nodes that were picked or found, as short lists.
+
+ghost use Rattle.std.specs.Prelude.{◌≡◌, ◌<◌, map, Some};
+ghost use Rattle.signal_graph.specs.Values.{nodes_in, taken};
+ghost use Rattle.flow_model.specs.Machine.Words.{found_candidates, picks_of_found};
+ghost use Rattle.flow_model.specs.Parts.Books.{bare};
+ghost use Rattle.flow_state.specs.Booked.{node_count, work_at};
+ghost use Rattle.flow_state.specs.Found.{found_of, selection_of};
+
+use arrayvec::ArrayVec;
+use flow_state::{Book, Finding, Found, FoundList};
+use script_tree::limits::SELECTORS;
+use script_tree::picks::Picks;
+
+/// The nodes among some picks, in their order.
+pub(crate) fn nodes_in(picks: &Picks) -> ArrayVec<u32, SELECTORS>
+    ensures { result.items ≡ nodes_in picks.now }
+{
+    let mut nodes = ArrayVec::new();
+    for index in 0..picks.len() {
+        if let Some(node) = picks.get(index) {
+            nodes.push(node);
+        }
+    }
+    nodes
+}
+
+/// The candidates that are found for a node, in the order of its selectors.
+pub(crate) fn found_candidates(book: &Book, node: u32) -> ArrayVec<u32, SELECTORS>
+    requires { node < node_count book.now }
+    ensures { result.items ≡ found_candidates (bare book.now.book) node }
+{
+    match book.found(node) {
+        Some(finding) => candidates_of(finding),
+        None => ArrayVec::new(),
+    }
+}
+
+fn candidates_of(finding: &Finding) -> ArrayVec<u32, SELECTORS>
+    ensures { result.items ≡ nodes_in (picks_of_found (Some (found_of finding.now))) }
+{
+    match finding {
+        Finding::Gives(_) => ArrayVec::new(),
+        Finding::Selects(list) => candidates_in(list),
+    }
+}
+
+fn candidates_in(list: &FoundList) -> ArrayVec<u32, SELECTORS>
+    ensures { result.items ≡ nodes_in (map taken (map selection_of list.now)) }
+{
+    let mut nodes = ArrayVec::new();
+    for index in 0..list.len() {
+        if let Found::Candidate(node) = list.get(index) {
+            nodes.push(*node);
+        }
+    }
+    nodes
+}

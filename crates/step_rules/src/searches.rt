@@ -1,0 +1,139 @@
+// The first of some nodes that passes a test.
+
+ghost use Rattle.std.specs.Prelude.{◌≡◌, ◌<◌, ◌++◌, true, not, find, is_some};
+ghost use Rattle.std.specs.List.{list_any};
+ghost use Rattle.signal_graph.specs.Graph.{is_in};
+ghost use Rattle.flow_model.specs.Machine.State.{opens, changes};
+ghost use Rattle.flow_model.specs.Machine.Words.{is_gathered};
+ghost use Rattle.flow_model.specs.Parts.Books.{bare};
+ghost use Rattle.flow_state.specs.Booked.{live_in, node_count};
+ghost use Rattle.step_rules.specs.Points.{AreBelow, is_new_in, is_held_in};
+
+use crate::lists::Lists;
+use flow_state::Book;
+
+/// The first of some nodes that is open for the call.
+pub(crate) fn first_open(book: &Book, version: u32, nodes: &[u32]) -> Option<u32>
+    requires live { live_in book.now version ≡ true }
+    requires inside { AreBelow (node_count book.now) nodes.now }
+    ensures { result ≡ find (opens (bare book.now.book) version) nodes.now }
+{
+    for node in nodes {
+        if book.opens(version, *node) {
+            return Some(*node);
+        }
+    }
+    None
+}
+
+/// Whether the call has changed one of some nodes.
+pub(crate) fn any_changed(book: &Book, version: u32, nodes: &[u32]) -> bool
+    requires live { live_in book.now version ≡ true }
+    requires inside { AreBelow (node_count book.now) nodes.now }
+    ensures { result ≡ list_any (changes (bare book.now.book) version) nodes.now }
+{
+    for node in nodes {
+        if book.changes(version, *node) {
+            return true;
+        }
+    }
+    false
+}
+
+/// The first of some nodes whose value is not gathered for a node.
+pub(crate) fn first_ungathered(book: &Book, node: u32, inputs: &[u32]) -> Option<u32>
+    requires { node < node_count book.now }
+    ensures { result ≡ find (λ m. not (is_gathered (bare book.now.book) node m)) inputs.now }
+{
+    for input in inputs {
+        if !is_gathered(book, node, *input) {
+            return Some(*input);
+        }
+    }
+    None
+}
+
+// Whether the value of an input is gathered for a node.
+fn is_gathered(book: &Book, node: u32, input: u32) -> bool
+    requires { node < node_count book.now }
+    ensures { result ≡ is_gathered (bare book.now.book) node input }
+{
+    book.gathered(node, input).is_some()
+}
+
+/// The first of the found candidates that a node did not pick before and that has no out-edge of the call to it.
+pub(crate) fn first_new<L: Lists>(
+    lists: &mut L,
+    version: u32,
+    node: u32,
+    picked: &[u32],
+    found: &[u32],
+) -> Option<u32>
+    requires { AreBelow (L.nodes lists.old) found.now }
+    ensures first { result ≡ find (is_new_in (L.listing_of lists.old) version node picked.now) found.now }
+    ensures lists { L.listing_of lists.new ≡ L.listing_of lists.old }
+    ensures nodes { L.nodes lists.new ≡ L.nodes lists.old }
+{
+    for candidate in found {
+        if is_new(lists, version, node, picked, *candidate) {
+            return Some(*candidate);
+        }
+    }
+    None
+}
+
+fn is_new<L: Lists>(lists: &mut L, version: u32, node: u32, picked: &[u32], candidate: u32) -> bool
+    requires { candidate < L.nodes lists.old }
+    ensures new { result ≡ is_new_in (L.listing_of lists.old) version node picked.now candidate }
+    ensures lists { L.listing_of lists.new ≡ L.listing_of lists.old }
+    ensures nodes { L.nodes lists.new ≡ L.nodes lists.old }
+{
+    if contains(picked, candidate) {
+        return false;
+    }
+    !lists.has_out(candidate, node, version)
+}
+
+/// The first of the candidates that a node picked before that is not found again and has an out-edge to it still.
+pub(crate) fn first_held<L: Lists>(
+    lists: &mut L,
+    node: u32,
+    found: &[u32],
+    picked: &[u32],
+) -> Option<u32>
+    requires { AreBelow (L.nodes lists.old) picked.now }
+    ensures first { result ≡ find (is_held_in (L.listing_of lists.old) node found.now) picked.now }
+    ensures lists { L.listing_of lists.new ≡ L.listing_of lists.old }
+    ensures nodes { L.nodes lists.new ≡ L.nodes lists.old }
+{
+    for candidate in picked {
+        if is_held(lists, node, found, *candidate) {
+            return Some(*candidate);
+        }
+    }
+    None
+}
+
+fn is_held<L: Lists>(lists: &mut L, node: u32, found: &[u32], candidate: u32) -> bool
+    requires { candidate < L.nodes lists.old }
+    ensures held { result ≡ is_held_in (L.listing_of lists.old) node found.now candidate }
+    ensures lists { L.listing_of lists.new ≡ L.listing_of lists.old }
+    ensures nodes { L.nodes lists.new ≡ L.nodes lists.old }
+{
+    if contains(found, candidate) {
+        return false;
+    }
+    lists.has_node(candidate, node)
+}
+
+// Whether a node is among some nodes.
+fn contains(nodes: &[u32], node: u32) -> bool
+    ensures { result ≡ is_in node nodes.now }
+{
+    for other in nodes {
+        if *other == node {
+            return true;
+        }
+    }
+    false
+}
