@@ -32,7 +32,13 @@ impl Core<'_> {
     fn is_free(&self, caller: u32) -> bool
         ensures { result ≡ is_free self.now.state caller }
     {
-        1 <= caller && caller <= self.book.callers() && self.book.live_call(caller).is_none()
+        if caller == 0 {
+            return false;
+        }
+        if self.book.callers() < caller {
+            return false;
+        }
+        self.book.live_call(caller).is_none()
     }
 }
 

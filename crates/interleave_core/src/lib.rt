@@ -14,3 +14,4 @@ mod opening;
 mod parts;
 mod rules;
 mod steps;
+mod turns;
