@@ -1,11 +1,12 @@
 -- The least version of the calls that pass a test is that of the first such call.
-use Rattle.std.proofs.Common.{◌≡◌, ℕ, zero, suc, ◌+◌, ◌<◌, ◌≤◌, Bool, true, false, nat_lt, List, [], ◌∷◌, length, get_or, drop, Option, Some, None, refl, sym, ap, ◌∙◌, subst, arith}
+use Rattle.std.proofs.Common.{◌≡◌, ℕ, zero, suc, ◌+◌, ◌<◌, ◌≤◌, Bool, true, false, nat_lt, List, [], ◌∷◌, length, get_or, drop, Option, Some, None, refl, sym, ap, ◌∙◌, subst, arith, ◌≢◌, ◌||◌}
 use Rattle.std.specs.List.{AllByRecursion}
 use Rattle.std.proofs.Math.ListN.{drop_of_length-le}
+use Rattle.std.proofs.lemmas.Bool.{ne_eqb}
 use Rattle.flow_model.specs.Machine.State.{LiveCall}
 use Rattle.flow_model.specs.Machine.Next.{lesser, least_version}
 use Rattle.flow_state.specs.declared.seating.Tenant.{Tenant}
-use Rattle.flow_state.specs.Seats.{Seated, call_at, calls_of, AreTenants, AreAscending}
+use Rattle.flow_state.specs.Seats.{Seated, call_at, calls_of, has_version, AreTenants, AreAscending}
 use Rattle.flow_state.proofs.Walks.{rest_is}
 
 abbrev Above : ℕ → Option ℕ → Type 0
@@ -80,3 +81,20 @@ first_more test seats live i x whole h e so t =
 
 pub first_ends : (test : LiveCall → Bool) (seats : List Seated) (live : List Tenant) (i : ℕ) (whole : Option ℕ) → length live ≤ i → least_version test (calls_of seats (drop i live)) ≡ whole → None ≡ whole
 first_ends test seats live i whole h so = ap (λ (xs : List Tenant). least_version test (calls_of seats xs)) (sym (drop_of_length-le live h)) ∙ so
+
+-- ---- a version that is passed
+
+none_above : (v : ℕ) (xs : List Tenant) (t : ℕ) → AllByRecursion (λ (y : Tenant). v < y.version) xs → t < v → has_version xs t ≡ false
+none_above v [] t up h = refl
+none_above v (x ∷ xs) t up h =
+    let other : x.version ≢ t = let u = up.0 in omega (arith, u, h) in
+    ap (λ b. b || has_version xs t) (ne_eqb x.version t other) ∙ none_above v xs t up.1 h
+
+pub version_past : (live : List Tenant) (t i : ℕ) (d : Tenant) → AreAscending live → i < length live → has_version (drop i live) t ≡ has_version live t → t < (get_or live i d).version → false ≡ has_version live t
+version_past live t i d up h so past =
+    let x : Tenant = get_or live i d in
+    let split : drop i live ≡ x ∷ drop (i + 1) live = rest_is live i d h in
+    let rest : AreAscending (x ∷ drop (i + 1) live) = subst AreAscending split (rest_ascending live i up) in
+    let other : x.version ≢ t = omega (arith, past) in
+    sym (ap (λ b. b || has_version (drop (i + 1) live) t) (ne_eqb x.version t other) ∙ none_above x.version (drop (i + 1) live) t rest.0 past)
+    ∙ sym (ap (λ (xs : List Tenant). has_version xs t) split) ∙ so

@@ -12,6 +12,7 @@ use Rattle.signal_graph.specs.Graph.{Graph, node_at, body_of}
 use Rattle.signal_graph.specs.Evaluation.{CanEvaluate}
 use Rattle.flow_model.specs.Machine.State as state
 use Rattle.flow_model.specs.Machine.Words.{gathered_of, value_or, finds, body_over}
+use Rattle.flow_state.specs.Booked.{Booked, work_at}
 use Rattle.flow_state.specs.declared.row.Held.{Held}
 use Rattle.flow_state.specs.declared.row.Held.TheVariants as held
 use Rattle.flow_state.specs.declared.found.Found.{Found}
@@ -55,6 +56,10 @@ outcome_of node gathered acc (Some found) = outcome.Body (body_over (body_of nod
 
 abbrev pub answer_of : Graph → ℕ → ℕ → List (ℕ × Value) → Value → Option (List Found) → Answer
 answer_of graph version node gathered acc found = record { version = version; node = node; outcome = outcome_of (node_at graph node) gathered acc found }
+
+-- the answer from what a book has of the node
+abbrev pub answer_in : Graph → Booked → ℕ → ℕ → Value → Answer
+answer_in graph book t n acc = answer_of graph t n (work_at book n).gathered acc (found_items (work_at book n).found)
 
 -- no script of the node names more nodes than there is room for
 abbrev pub HasFew : Node → Type 0

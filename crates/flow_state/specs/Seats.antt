@@ -137,7 +137,8 @@ pub record IsFree (callers : ℕ) (live : List Tenant) (free : Members) : Type 0
   pub slots : (k : ℕ) → k < callers → is_in k free.nodes ≡ not (has_slot live k)
 
 -- Seats with hints and free slots. A hint says in which seat a call may sit, by the last bits of its version; it may be wrong.
-pub record IsSeating (callers nodes capacity : ℕ) (seats : List Seated) (live : List Tenant) (order : Order) (hints : List ℕ) (free : Members) : Type 0 where
+pub record IsSeating (callers nodes capacity : ℕ) (seats : List Seated) (live : List Tenant) (order : Order) (hints : List ℕ)
+    (free : Members) : Type 0 where
   pub kept : AreSeats callers nodes capacity seats live order
   pub hint_count : length hints ≡ HINTS
   pub free_kept : IsFree callers live free

@@ -20,7 +20,7 @@ ghost use Rattle.node_set.specs.Members.{first_from};
 ghost use Rattle.flow_state.specs.Booked.{AreApart, opened_book, room_at, one_room_more, one_room_less, begin_call, end_call, call_in, live_in, next_look_in, node_count, work_at, stops_in, on_call, on_work, link_calls, opened_one, wanting, pressed_in, call_nth};
 ghost use Rattle.flow_model.specs.Parts.Books.{bare, no_work, with_gathered, with_found, with_body, forgotten};
 ghost use Rattle.flow_state.specs.Found.{found_of, found_option};
-ghost use Rattle.flow_state.specs.Jobs.{found_items, answer_of, IsJob};
+ghost use Rattle.flow_state.specs.Jobs.{found_items, answer_in, IsJob};
 
 use crate::found::Finding;
 use crate::job::Job;
@@ -422,7 +422,7 @@ impl Book {
         requires nodes { node_count self.now ≡ length graph.now.nodes }
         requires job { IsJob graph.now node (found_items (work_at self.now node).found) }
         requires few { length (work_at self.now node).gathered ≤ 68 }
-        ensures { result ≡ answer_of graph.now version node (work_at self.now node).gathered acc (found_items (work_at self.now node).found) }
+        ensures { result ≡ answer_in graph.now self.now version node acc }
     {
         let shelf = &self.shelves[node as usize];
         Job {
@@ -440,7 +440,7 @@ impl Book {
     pub fn evaluate(&self, graph: &Graph, version: u32, node: u32, acc: Value) -> Answer
         requires nodes { node_count self.now ≡ length graph.now.nodes }
         requires job { IsJob graph.now node (found_items (work_at self.now node).found) }
-        ensures { result ≡ answer_of graph.now version node (work_at self.now node).gathered acc (found_items (work_at self.now node).found) }
+        ensures { result ≡ answer_in graph.now self.now version node acc }
     {
         let outcome = self.shelves[node as usize].outcome(graph.node(node), acc);
         Answer {

@@ -11,7 +11,7 @@ ghost use Rattle.flow_model.specs.Machine.Steps.{started, counted, with_look, lo
 ghost use Rattle.flow_model.specs.Machine.Next.{least_version};
 ghost use Rattle.flow_state.specs.Booked.{opened_one, wanting, begun_call};
 ghost use Rattle.signal_graph.specs.Machine.{sets_of, looks_of, misnamed};
-ghost use Rattle.flow_state.specs.Seats.{find_call, has_call, on_live, stops_live, presses_live, pressed_live, before_live, framing_before_live, LeadsToLive, with_pairs, one_call_more, slot_in, has_version, free_seat, no_calls, left_calls, without_tenant};
+ghost use Rattle.flow_state.specs.Seats.{find_call, has_call, on_live, stops_live, presses_live, pressed_live, before_live, framing_before_live, LeadsToLive, with_pairs, one_call_more, slot_in, has_version, AreAscending, free_seat, no_calls, left_calls, without_tenant};
 
 use crate::seat::Seat;
 use node_set::NodeSet;
@@ -480,13 +480,17 @@ fn take_tenant(live: &mut Vec<Tenant>, version: u32)
     live.retain(|tenant| tenant.version != version);
 }
 
-// Whether a call has this version.
+// Whether a call has this version. Versions ascend: those before the oldest call's are told by one look.
 fn has_version(live: &[Tenant], version: u32) -> bool
+    requires { AreAscending live.now }
     ensures { result ≡ has_version live.now version }
 {
     for tenant in live {
         if tenant.version == version {
             return true;
+        }
+        if tenant.version > version {
+            return false;
         }
     }
     false
