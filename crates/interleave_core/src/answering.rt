@@ -12,11 +12,11 @@ ghost use Rattle.interleave_core.specs.Whole.{after, IsDue};
 
 use crate::core_state::Core;
 use flow_model::laws::lawful_stays;
-use flow_state::Answer;
+use flow_state::{Answer, Job};
 use script_tree::value::{Fault, Value};
 use signal_graph::node::NodeKind;
 
-impl Core<'_> {
+impl<'g> Core<'g> {
     /// Keeps what an evaluation found: the state becomes the one after the answer's step, Evaluate or Body. The step is allowed, and
     /// the answer is what it finds in this state. Takes no memory.
     pub fn put(&mut self, answer: Answer)
@@ -26,6 +26,18 @@ impl Core<'_> {
     {
         lawful_stays();
         sweep::put(&mut self.book, answer);
+    }
+
+    /// The evaluation that is due at a node for a call, of the node's scripts or of its body, to be made elsewhere: contracts see its
+    /// answer, which is what its step finds in this state. Takes no memory.
+    pub fn job(&self, version: u32, node: u32) -> Job<'g>
+        requires { IsDue self.now.graph self.now.state version node }
+        ensures scripts { allowed self.now.graph self.now.state (step.Evaluate version node) ≡ true → step_of result ≡ step.Evaluate version node }
+        ensures body { allowed self.now.graph self.now.state (step.Body version node) ≡ true → step_of result ≡ step.Body version node }
+        ensures right { IsRight self.now.graph self.now.state result }
+    {
+        let acc = self.acc(version, node);
+        self.book.job(self.graph, version, node, acc)
     }
 
     // Evaluate: what the node's scripts find is kept.
@@ -46,7 +58,7 @@ impl Core<'_> {
         self.put(answer);
     }
 
-    // What the evaluation that is due at the node finds, of its scripts or of its body.
+    // What that evaluation finds, without a copy of what is gathered.
     fn answer(&self, version: u32, node: u32) -> Answer
         requires { IsDue self.now.graph self.now.state version node }
         ensures scripts { allowed self.now.graph self.now.state (step.Evaluate version node) ≡ true
@@ -56,7 +68,7 @@ impl Core<'_> {
         ensures right { IsRight self.now.graph self.now.state result }
     {
         let acc = self.acc(version, node);
-        self.book.job(self.graph, version, node, acc).evaluate()
+        self.book.evaluate(self.graph, version, node, acc)
     }
 
     // What the node's script reads as `acc`, which only a fold's does: its value before the call.

@@ -1,4 +1,4 @@
-use Rattle.std.proofs.Common.{◌≤◌, length, sym, ap, ◌∙◌, subst}
+use Rattle.std.proofs.Common.{sym, ap, ◌∙◌, subst}
 use Rattle.flow_model.specs.declared.step.Step.TheVariants as step
 use Rattle.flow_model.specs.Machine.State.{Core}
 use Rattle.flow_model.specs.Parts.Books.{Work}
@@ -7,16 +7,16 @@ use Rattle.flow_state.specs.Jobs.{found_items, IsJob}
 use Rattle.interleave_core.specs.Whole.{state_of}
 use Rattle.interleave_core.proofs.Fits.{all_nodes}
 use Rattle.interleave_core.proofs.StepsMade.{can_make}
-use Rattle.interleave_core.proofs.Evaluations.{due_here, due-job, due-few, work-there, scripts_answered, body_answered, right_answered}
+use Rattle.interleave_core.proofs.Evaluations.{due_here, due-job, work-there, scripts_answered, body_answered, right_answered}
 use Rattle.interleave_core.proofs.core_state.Core.answer.Goals as goal
 
-pub job-requires-clause-nodes : goal.job-requires-clause-nodes
-job-requires-clause-nodes c =
+pub evaluate-requires-clause-nodes : goal.evaluate-requires-clause-nodes
+evaluate-requires-clause-nodes c =
     let m = c.self.inside in
     sym c.self.invariant.many ∙ all_nodes m.graph.now m.book m.lists.items c.self.invariant
 
-pub job-requires-clause-job : goal.job-requires-clause-job
-job-requires-clause-job c =
+pub evaluate-requires-clause-job : goal.evaluate-requires-clause-job
+evaluate-requires-clause-job c =
     let due = due_here c.args.version c.args.node c.self.invariant c.self.view_is c.requires in
     let m = c.self.inside in
     let s : Core = state_of m.book.book m.lists.items in
@@ -24,27 +24,18 @@ job-requires-clause-job c =
     let job = due-job m.graph.now c.self.invariant.is_graph s c.self.invariant.lawful c.args.version c.args.node due in
     subst (λ (w : Work). IsJob m.graph.now c.args.node (found_items w.found)) work job
 
-pub job-requires-clause-few : goal.job-requires-clause-few
-job-requires-clause-few c =
-    let due = due_here c.args.version c.args.node c.self.invariant c.self.view_is c.requires in
-    let m = c.self.inside in
-    let s : Core = state_of m.book.book m.lists.items in
-    let work = sym (work-there m.book.book.works m.lists.items c.args.node c.self.invariant.many) in
-    let few = due-few m.graph.now c.self.invariant.is_graph s c.self.invariant.lawful c.args.version c.args.node due in
-    subst (λ (w : Work). length w.gathered ≤ 68) work few
-
 pub returns-clause-scripts : goal.returns-clause-scripts
 returns-clause-scripts c allowed =
     let can = can_make (step.Evaluate c.args.version c.args.node) c.self.invariant c.self.view_is allowed in
-    ap step_of (c.evaluate.ensures ∙ c.job.ensures) ∙ scripts_answered c.args.version c.args.node c.acc-acc.result can
+    ap step_of c.evaluate.ensures ∙ scripts_answered c.args.version c.args.node c.acc-acc.result can
 
 pub returns-clause-body : goal.returns-clause-body
 returns-clause-body c allowed =
     let can = can_make (step.Body c.args.version c.args.node) c.self.invariant c.self.view_is allowed in
-    ap step_of (c.evaluate.ensures ∙ c.job.ensures) ∙ body_answered c.args.version c.args.node c.acc-acc.result can
+    ap step_of c.evaluate.ensures ∙ body_answered c.args.version c.args.node c.acc-acc.result can
 
 pub returns-clause-right : goal.returns-clause-right
 returns-clause-right c =
     let acc = c.acc-acc.result in
     let right = right_answered c.args.version c.args.node acc c.self.invariant c.self.view_is c.acc-acc.ensures in
-    subst (IsRight c.args.self.now.graph c.args.self.now.state) (sym (c.evaluate.ensures ∙ c.job.ensures)) right
+    subst (IsRight c.args.self.now.graph c.args.self.now.state) (sym c.evaluate.ensures) right
