@@ -21,8 +21,10 @@ use Rattle.flow_model.specs.Kept.Lawful.{ended_before}
 use Rattle.flow_state.specs.Booked.{Booked, live_in, call_in, stops_in}
 use Rattle.flow_model.specs.Parts.Books.{Work, work_in, book_of, Book}
 use Rattle.flow_state.specs.Fitting.{IsBookOf, choosers}
+use Rattle.flow_state.proofs.Fits.{works-same}
+use Rattle.flow_state.proofs.OneCell.{cell-changed}
 use Rattle.entering.specs.Entering.{CanEnter, Enters, stops_entry, link_if, link_before, link_behind, CanLinkBefore, CanLinkBehind}
-use Rattle.entering.proofs.Places.{place-same, take-front, drop-rest, cell-changed}
+use Rattle.entering.proofs.Places.{place-same, take-front, drop-rest}
 
 -- ---- the same words of a book and of its state
 
@@ -123,11 +125,6 @@ can_link_right graph s book between n list t place state left right can at l_is 
 
 -- ---- what the entry makes
 
-pub works-kept : (n : ℕ) (f : Cell → Cell) (cs : List Cell) → ((c : Cell) → work_in (f c) ≡ work_in c) → map work_in (change_at n f cs) ≡ map work_in cs
-works-kept n f [] same = refl
-works-kept zero f (c ∷ cs) same = ap (λ (w : Work). w ∷ map work_in cs) (same c)
-works-kept (suc n) f (c ∷ cs) same = ap (λ (ws : List Work). work_in c ∷ ws) (works-kept n f cs same)
-
 pub enters : (book between new : Booked) (n : ℕ) (list new_list : Versions) (t place slot : ℕ) (state : State) (left right : Option ℕ)
     → place ≡ position_or_len (stops_entry book t) list.entries → left ≡ last_version None (take place list.entries) → right ≡ first_version (drop place list.entries) → slot ≡ (call_in book t).slot
     → between ≡ link_before book left t n → new ≡ link_behind between right t n → new_list ≡ with_entries list (insert list.entries place (record { version = t; slot = slot; state = state }))
@@ -141,7 +138,7 @@ enters book between new n list new_list t place slot state left right p_is l_is 
       n_is ∙ ap (λ (b : Booked). link_behind b right t n) (b_is ∙ ap (λ (x : Option ℕ). link_before book x t n) l ∙ left-linked graph s book t n (last_version None (front (stops s t) (entries s n))) can.fits)
           ∙ ap (λ (x : Option ℕ). link_behind (with_pairs_of book s ps) x t n) r
           ∙ right-linked s book t n ps (first_version (rest (stops s t) (entries s n)))
-          ∙ ap (λ (ws : List Work). record book { book = record (book_of s) { works = ws; pairs = linked_at s t n } }) (sym (works-kept n (place_entry s t state) s.cells (λ c. refl))),
+          ∙ ap (λ (ws : List Work). record book { book = record (book_of s) { works = ws; pairs = linked_at s t n } }) (sym (works-same n (place_entry s t state) (λ c. refl) s.cells)),
       e_is
           ∙ ap (λ (es : List Entry). with_entries list (es ++ record { version = t; slot = slot; state = state } ∷ drop place list.entries)) at.before
           ∙ ap (λ (es : List Entry). with_entries list (front (stops s t) (entries s n) ++ record { version = t; slot = slot; state = state } ∷ es)) at.behind

@@ -40,16 +40,16 @@ to_the_end R test on (e ∷ es) h = go (test e) refl (to_the_end R test on es h.
 
 -- What comes after a call that stops a live one stops that too: both are live, the order is passed on, and after a framing
 -- call no other executes.
-stop_words : (tu tv uv lt lu lv xt xu xv old : Bool) → lt ≡ true → lu ≡ true → (tu ≡ true → uv ≡ true → tv ≡ true)
+still_stops : (tu tv uv lt lu lv xt xu xv old : Bool) → lt ≡ true → lu ≡ true → (tu ≡ true → uv ≡ true → tv ≡ true)
     → ((lu && not xu) ≡ true → xv ≡ true → uv ≡ false)
     → ((tu || (not lt && lu)) || (xt && (lu && not xu))) ≡ true
     → comes_by lv (uv || (not lu && lv)) (not lu) old ≡ true
     → ((tv || (not lt && lv)) || (xt && (lv && not xv))) ≡ true
-stop_words tu tv uv lt lu lv xt xu xv old t u trans apart stops comes = grind (arith, t, u, trans, apart, stops, comes)
+still_stops tu tv uv lt lu lv xt xu xv old t u trans apart stops comes = grind (arith, t, u, trans, apart, stops, comes)
 
 stops-on : (s : Core) (old : ℕ → ℕ → Bool) (t u v : ℕ) → Standing s old → live s t ≡ true → stops_call s t u ≡ true → Comes s old u v → stops_call s t v ≡ true
 stops-on s old t u v stands lives stop comes =
-    stop_words (reaches s.pairs t u) (reaches s.pairs t v) (reaches s.pairs u v) (live s t) (live s u) (live s v) (executes s t) (executes s u) (executes s v) (old u v)
+    still_stops (reaches s.pairs t u) (reaches s.pairs t v) (reaches s.pairs u v) (live s t) (live s u) (live s v) (executes s t) (executes s u) (executes s v) (old u v)
     lives (stop-live s t u stands.pairs_live lives stop) (reaches-trans s.pairs t u v) (stands.order.apart u v) stop comes
 
 pub entries-stop : (graph : Graph) (s : Core) (book : Booked) (n : ℕ) (list : Versions) (t : ℕ) → CanEnter graph s book n list t → StopsToTheEnd (stops_entry book t) list.entries

@@ -11,5 +11,7 @@ pub mod Beginning
 pub mod JobLemmas
 pub mod BookLemmas
 pub mod Fits
+pub mod OneCell
+pub mod ListRests
 pub mod Fronts
 pub mod Resolved

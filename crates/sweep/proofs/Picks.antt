@@ -40,7 +40,3 @@ picks-more xs ps i x p is at_i taken_is =
     ∙ ap (λ (y : Found). picks_for (take i xs) ++ taken (selection_of y) ∷ []) same
     ∙ ap (λ (qs : List (Option ℕ)). qs ++ taken (selection_of x) ∷ []) (sym is)
     ∙ ap (λ (q : Option ℕ). ps ++ q ∷ []) (sym taken_is))
-
-pub first-is : (read : ℕ → Value) (xs : List Found) (x : Found) → slice_get xs 0 ≡ Some x → pick_over read (selection_of x) ≡ first_pick_over read (map selection_of xs)
-first-is read [] x e = absurd (true≢false (sym (ap is_some e)))
-first-is read (y ∷ ys) x e = ap (λ (z : Found). pick_over read (selection_of z)) (sym (some_is y x y e))
