@@ -1,10 +1,8 @@
 -- What is left as it was where a call has its Mark.
-use Rattle.std.proofs.Common.{◌≡◌, ℕ, zero, suc, ◌<◌, Bool, true, false, List, [], ◌∷◌, length, map, refl, ap, arith}
-use Rattle.std.specs.Prelude.{slice_index_or}
+use Rattle.std.proofs.Common.{◌≡◌, ℕ, ◌<◌, Bool, true, false, length, refl, ap}
 use Rattle.node_versions.specs.declared.entry.State.TheVariants as modes
 use Rattle.node_versions.specs.Entries.{has}
-use Rattle.flow_model.specs.Machine.State.{Core, Cell, no_cell, entries, outs, with_cell}
-use Rattle.flow_model.specs.Machine.Lists.{change_at}
+use Rattle.flow_model.specs.Machine.State.{Core, Cell, entries, outs}
 use Rattle.flow_model.specs.Machine.Changes.{ensure_mark, enter, place_entry}
 use Rattle.flow_model.proofs.OneStep.SameLengths.{change_at-length}
 use Rattle.flow_state.proofs.OneCell.{cell-changed}

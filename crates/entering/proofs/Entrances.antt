@@ -1,5 +1,5 @@
 -- A call enters a list: what the code needs, and what it makes.
-use Rattle.std.proofs.Common.{◌≡◌, ℕ, zero, suc, ◌+◌, Bool, true, false, not, ◌==◌, ◌||◌, ◌&&◌, List, [], ◌∷◌, ◌++◌, Option, Some, None, map, take, drop, refl, sym, ap, ◌∙◌, arith}
+use Rattle.std.proofs.Common.{◌≡◌, ℕ, ◌+◌, Bool, true, false, not, ◌==◌, ◌||◌, ◌&&◌, List, ◌∷◌, ◌++◌, Option, Some, None, take, drop, refl, sym, ap, ◌∙◌, arith}
 use Rattle.std.specs.Prelude.{insert}
 use Rattle.std.specs.List.{position_or_len}
 use Rattle.std.proofs.lemmas.Bool.{eq-eqb, true≢false}
@@ -10,7 +10,6 @@ use Rattle.node_versions.specs.declared.entry.State.{State}
 use Rattle.node_versions.specs.declared.entry.Entry.{Entry}
 use Rattle.node_versions.specs.Entries.{Versions, has, front, rest, placed, with_entries}
 use Rattle.flow_model.specs.Machine.State.{Core, Cell, live, executes, entries}
-use Rattle.flow_model.specs.Machine.Lists.{change_at}
 use Rattle.flow_model.specs.Machine.Changes.{stops, stops_call, first_version, last_version, link_left, link_right, linked_at, new_entry, place_entry}
 use Rattle.flow_model.proofs.OneList.Chains.{reaches-link}
 use Rattle.flow_model.proofs.OrderStays.AfterEachStep.{lawful-Standing}
@@ -19,7 +18,7 @@ use Rattle.flow_model.proofs.OneList.InOrder.{front-goes, front-has, rest-has, l
 use Rattle.flow_model.proofs.OneList.InOrder.{first-has}
 use Rattle.flow_model.specs.Kept.Lawful.{ended_before}
 use Rattle.flow_state.specs.Booked.{Booked, live_in, call_in, stops_in}
-use Rattle.flow_model.specs.Parts.Books.{Work, work_in, book_of, Book}
+use Rattle.flow_model.specs.Parts.Books.{Work, book_of, Book}
 use Rattle.flow_state.specs.Fitting.{IsBookOf, choosers}
 use Rattle.flow_state.proofs.Fits.{works-same}
 use Rattle.flow_state.proofs.OneCell.{cell-changed}

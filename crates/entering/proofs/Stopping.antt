@@ -1,11 +1,10 @@
 -- Behind an entry that stops a call all do.
 use Rattle.std.proofs.Common.{◌≡◌, ℕ, Bool, true, false, not, ◌||◌, ◌&&◌, List, [], ◌∷◌, refl, sym, ap, ◌∙◌, subst, arith}
-use Rattle.std.specs.Prelude.{IsTrue}
 use Rattle.signal_graph.specs.Graph.{Graph}
 use Rattle.order_graph.specs.Order.{reaches}
 use Rattle.node_versions.specs.declared.entry.Entry.{Entry}
-use Rattle.node_versions.specs.Entries.{Versions, has, rest, AllStop, StopsToTheEnd}
-use Rattle.flow_model.specs.Machine.State.{Core, live, executes, is_framing, entries}
+use Rattle.node_versions.specs.Entries.{Versions, rest, AllStop, StopsToTheEnd}
+use Rattle.flow_model.specs.Machine.State.{Core, live, executes}
 use Rattle.flow_model.specs.Machine.Changes.{stops, stops_call}
 use Rattle.flow_model.specs.Kept.Lawful.{ended_before}
 use Rattle.flow_model.proofs.General.Truths.{or_left, or_right, equal_test}

@@ -1,5 +1,5 @@
 -- What framing a node needs, and what it makes.
-use Rattle.std.proofs.Common.{◌≡◌, ℕ, zero, suc, ◌+◌, ◌<◌, ◌≤◌, inl, inr, ◌⊎◌, Bool, true, false, ◌==◌, ◌||◌, ◌&&◌, cond, List, [], ◌∷◌, ◌++◌, Option, Some, None, length, filter, refl, sym, ap, ◌∙◌, subst, arith}
+use Rattle.std.proofs.Common.{◌≡◌, ℕ, ◌+◌, ◌<◌, ◌≤◌, inl, inr, Bool, true, false, ◌==◌, ◌||◌, ◌&&◌, cond, List, [], ◌∷◌, ◌++◌, Option, Some, None, length, filter, refl, sym, ap, ◌∙◌, subst, arith}
 use Rattle.std.proofs.lemmas.Bool.{eq-eqb, cases_lt, true≢false, false≢true}
 use Rattle.std.proofs.lemmas.List.{get_or_past, length-map}
 use Rattle.signal_graph.specs.declared.node.Node.{Node}
@@ -13,7 +13,6 @@ use Rattle.node_versions.proofs.Places.{at-has}
 use Rattle.flow_model.specs.declared.step.Step.TheVariants as step
 use Rattle.flow_model.specs.Machine.State.{Core, Cell, LiveCall, live, call_of, call_or, wants, entries, outs}
 use Rattle.std.specs.Prelude.{is_some}
-use Rattle.flow_model.specs.Machine.Lists.{change_at}
 use Rattle.flow_model.specs.Machine.Words.{active_outs}
 use Rattle.flow_model.specs.Machine.Changes.{stops_call, new_entry, place_entry, set_state, enter, raise, opened}
 use Rattle.flow_model.specs.Machine.Steps.{allowed, frame, open_node}

@@ -1,5 +1,5 @@
 -- What a start asks and makes.
-use Rattle.std.proofs.Common.{◌≡◌, ℕ, Bool, true, false, ◌&&◌, refl, sym, ap, ◌∙◌, subst}
+use Rattle.std.proofs.Common.{◌≡◌, ℕ, true, sym, ap, ◌∙◌, subst}
 use Rattle.signal_graph.specs.Graph.{Graph}
 use Rattle.flow_model.specs.declared.step.Step.TheVariants.{Start}
 use Rattle.flow_model.specs.Machine.State.{Core, live, is_framing}

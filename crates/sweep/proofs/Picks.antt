@@ -1,13 +1,10 @@
 -- The picks of what was found, and the first of them.
-use Rattle.std.proofs.Common.{◌≡◌, ℕ, ◌<◌, ◌≤◌, ◌+◌, List, [], ◌∷◌, ◌++◌, Option, Some, None, length, map, take, get_or, suc, refl, sym, ap, ◌∙◌, arith, true≢false}
+use Rattle.std.proofs.Common.{◌≡◌, ℕ, ◌<◌, ◌≤◌, ◌+◌, List, [], ◌∷◌, ◌++◌, Option, Some, None, length, map, take, get_or, suc, refl, sym, ap, ◌∙◌, arith}
 use Rattle.std.proofs.lemmas.List.{take_more, length-take-le}
 use Rattle.std.proofs.lemmas.Option.{slice_get_within, slice_get-get_or}
 use Rattle.std.specs.List.{slice_get}
-use Rattle.std.specs.Option.{is_some}
 use Rattle.script_tree.specs.declared.limits.TheConstants.{SELECTORS}
-use Rattle.script_tree.specs.declared.value.Value.{Value}
 use Rattle.signal_graph.specs.Values.{taken}
-use Rattle.flow_model.specs.Machine.Words.{first_pick_over, pick_over}
 use Rattle.flow_state.specs.declared.found.Found.{Found}
 use Rattle.flow_state.specs.Found.{selection_of}
 

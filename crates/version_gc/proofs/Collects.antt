@@ -1,21 +1,20 @@
 -- What a collection asks and makes.
-use Rattle.std.proofs.Common.{◌≡◌, ℕ, zero, suc, ◌<◌, Bool, true, false, not, List, [], ◌∷◌, length, map, refl, sym, ap, ap₂, ◌∙◌, subst, arith, true≢false}
+use Rattle.std.proofs.Common.{◌≡◌, ℕ, ◌<◌, Bool, true, false, not, List, [], ◌∷◌, refl, sym, ap, ap₂, ◌∙◌, subst, arith, true≢false}
 use Rattle.std.proofs.lemmas.Bool.Decides.{eqb_tells}
 use Rattle.std.specs.List.{filter}
 use Rattle.std.specs.Option.{is_some}
-use Rattle.std.specs.Prelude.{slice_index_or, nat_lt}
+use Rattle.std.specs.Prelude.{nat_lt}
 use Rattle.signal_graph.specs.Graph.{Graph}
 use Rattle.node_versions.specs.declared.entry.Entry.{Entry}
 use Rattle.node_versions.specs.Entries.{Versions, IsUnique, EndedIsPrefix, HasEndedPrefix, has, at, behind, is_done, last_done, collected, with_entries}
 use Rattle.flow_model.specs.declared.step.Step.TheVariants.{Collect}
-use Rattle.flow_model.specs.Machine.State.{Cell, no_cell, call_of, ended, live, entries}
+use Rattle.flow_model.specs.Machine.State.{Cell, call_of, ended, live, entries}
 use Rattle.std.specs.Prelude.{is_some}
-use Rattle.flow_model.specs.Machine.Lists.{change_at}
 use Rattle.flow_model.specs.Machine.Steps.{allowed, collect}
 use Rattle.flow_model.proofs.OneList.InOrder.{on_calls}
 use Rattle.flow_model.proofs.OneList.StatesAndPlaces.{behind-has}
 use Rattle.flow_state.specs.Booked.{Booked, live_in, with_book}
-use Rattle.flow_model.specs.Parts.Books.{Work, book_of, work_in, Book}
+use Rattle.flow_model.specs.Parts.Books.{Book}
 use Rattle.flow_state.proofs.OneCell.{cell-inside, cell-changed, book-same}
 use Rattle.flow_state.specs.Fitting.{IsListStep, MakesList, list_of}
 
