@@ -14,11 +14,12 @@ use Rattle.flow_state.specs.Booked.{Booked, with_book}
 use Rattle.flow_state.specs.Fitting.{IsBookOf, IsListStep, MakesList, list_of, choosers}
 use Rattle.flow_state.specs.Joining.{MakesJoined}
 use Rattle.entering.specs.Marking.{CanMark, SomeCanMark, Marks}
-use Rattle.dynamic_edges.proofs.Cells.{inside, changed-at, same-flow, marked-length, marked-outs}
+use Rattle.flow_state.proofs.OneCell.{cell-inside, cell-changed, book-same}
+use Rattle.dynamic_edges.proofs.Cells.{marked-length, marked-outs}
 use Rattle.dynamic_edges.proofs.EdgeRoom.{edge-room, discover-no_edge}
 
 in-cells : (graph : Graph) (s : Core) (m : ℕ) (list : Versions) → list ≡ list_of graph s m → 0 < length list.entries → m < length s.cells
-in-cells graph s m list is some = inside s.cells m (subst (λ (v : Versions). 0 < length v.entries) is some)
+in-cells graph s m list is some = cell-inside s.cells m (subst (λ (v : Versions). 0 < length v.entries) is some)
 
 due-live : (graph : Graph) (s : Core) (t n : ℕ) → due graph s t n ≡ true → live s t ≡ true
 due-live graph s t n h = executes-live s t (at_front-executes graph s t n (can_work-at_front graph s t n (due-can_work graph s t n h)))
@@ -63,8 +64,8 @@ discover-makes graph book between t n m list marked new_list some marks added s 
     let q = ensure_mark s t m in
     let told = marks graph s (discover-can graph s book t n m list fits is some h) in
     let node = in-marked s t m (in-cells graph s m list is some) in (
-      told.0 ∙ ap (with_book book) (sym (same-flow q m (add_edge n t) (λ c. refl))),
-      added ∙ ap (λ (v : Versions). with_outs v (with_out v.outs n t)) told.1 ∙ ap (λ (c : Cell). record (list_of graph q m) { entries = c.entries; outs = c.outs }) (sym (changed-at m (add_edge n t) q.cells node)),
+      told.0 ∙ ap (with_book book) (sym (book-same q m (add_edge n t) (λ c. refl))),
+      added ∙ ap (λ (v : Versions). with_outs v (with_out v.outs n t)) told.1 ∙ ap (λ (c : Cell). record (list_of graph q m) { entries = c.entries; outs = c.outs }) (sym (cell-changed m (add_edge n t) q.cells node)),
     )
 
 -- ---- Drop
@@ -81,6 +82,6 @@ drop-makes graph book between t n m list marked new_list some marks removed s fi
     let q = ensure_mark s t m in
     let told = marks graph s (drop-can graph s book t n m list fits is some h) in
     let node = in-marked s t m (in-cells graph s m list is some) in (
-      told.0 ∙ ap (with_book book) (sym (same-flow q m (drop_edge n) (λ c. refl))),
-      removed ∙ ap (λ (v : Versions). with_outs v (remove_first n v.outs)) told.1 ∙ ap (λ (c : Cell). record (list_of graph q m) { entries = c.entries; outs = c.outs }) (sym (changed-at m (drop_edge n) q.cells node)),
+      told.0 ∙ ap (with_book book) (sym (book-same q m (drop_edge n) (λ c. refl))),
+      removed ∙ ap (λ (v : Versions). with_outs v (remove_first n v.outs)) told.1 ∙ ap (λ (c : Cell). record (list_of graph q m) { entries = c.entries; outs = c.outs }) (sym (cell-changed m (drop_edge n) q.cells node)),
     )

@@ -25,7 +25,8 @@ use Rattle.flow_model.proofs.OneList.StatesAndPlaces.{first_open-frame}
 use Rattle.flow_model.proofs.Reactions.WhereRunsBegin.{before-last}
 use Rattle.flow_model.proofs.Edges.EdgesFitCandidates.{step-EdgesFit}
 use Rattle.flow_state.specs.Fitting.{choosers}
-use Rattle.dynamic_edges.proofs.Cells.{changed-at, marked-length, marked-outs}
+use Rattle.flow_state.proofs.OneCell.{cell-changed}
+use Rattle.dynamic_edges.proofs.Cells.{marked-length, marked-outs}
 use Rattle.dynamic_edges.proofs.Counts.{few}
 
 -- ---- the node has no out-edge at a candidate that it discovers
@@ -135,7 +136,7 @@ is-chooser graph m x h =
 discovered-outs : (graph : Graph) (s : Core) (t n m : ℕ) → m < length s.cells → outs (apply graph s (Discover t n m)) m ≡ with_out (outs s m) n t
 discovered-outs graph s t n m h =
     let count = marked-length s t m in
-    ap (λ (c : Cell). c.outs) (changed-at m (add_edge n t) (ensure_mark s t m).cells (omega (arith, count, h))) ∙ ap (λ (edges : List OutEdge). with_out edges n t) (marked-outs s t m h)
+    ap (λ (c : Cell). c.outs) (cell-changed m (add_edge n t) (ensure_mark s t m).cells (omega (arith, count, h))) ∙ ap (λ (edges : List OutEdge). with_out edges n t) (marked-outs s t m h)
 
 pub edge-room : (graph : Graph) (s : Core) (t n m : ℕ) → IsLawful graph s → allowed graph s (Discover t n m) ≡ true → m < length s.cells → length (outs s m) < choosers graph m
 edge-room graph s t n m lawful h inside =

@@ -1,10 +1,11 @@
 -- The first out-edge of a node goes.
-use Rattle.std.proofs.Common.{◌≡◌, ℕ, Bool, true, false, ◌==◌, List, [], ◌∷◌, zero, suc, ◌+◌, ◌≢◌, drop, refl, sym, ap, ◌∙◌, arith, Option, Some, None}
+use Rattle.std.proofs.Common.{◌≡◌, ℕ, Bool, true, false, ◌==◌, List, [], ◌∷◌, suc, ◌+◌, ◌≢◌, drop, refl, sym, ap, ◌∙◌, arith, Option, Some, None}
 use Rattle.std.proofs.lemmas.Bool.Decides.{eqb_tells}
 use Rattle.std.proofs.lemmas.Bool.{eq-eqb, ne_eqb}
 use Rattle.std.specs.Prelude.{slice_get}
 use Rattle.node_versions.specs.Entries.{OutEdge, AreDifferent, has_out, without_out}
 use Rattle.flow_model.specs.Machine.Changes.{remove_first}
+use Rattle.flow_state.proofs.ListRests.{drop-at}
 use Rattle.dynamic_edges.specs.Edges.{first_since}
 
 pub since-has : (n since : ℕ) (edges : List OutEdge) → first_since n edges ≡ Some since → has_out edges n since ≡ true
@@ -24,11 +25,6 @@ removed-none n [] h = refl
 removed-none n (edge ∷ edges) h = let r = removed-none n edges in grind (arith, h, r)
 
 -- ---- the search for it
-
-drop-at : (edges : List OutEdge) (i : ℕ) (edge : OutEdge) → slice_get edges i ≡ Some edge → drop i edges ≡ edge ∷ drop (suc i) edges
-drop-at [] i edge h = cc
-drop-at (x ∷ xs) zero edge h = let s = h in grind (arith, s)
-drop-at (x ∷ xs) (suc i) edge h = drop-at xs i edge h
 
 since-here : (n : ℕ) (edge : OutEdge) (edges : List OutEdge) (b : Bool) → (edge.0 == n) ≡ b → first_since n (edge ∷ edges) ≡ elim b as (λ _. Option ℕ) [ true ↦ Some edge.1 | false ↦ first_since n edges ]
 since-here n edge edges b e = ap (λ (b : Bool). elim b as (λ _. Option ℕ) [ true ↦ Some edge.1 | false ↦ first_since n edges ]) e

@@ -1,5 +1,5 @@
 -- A call enters a list: what the code needs, and what it makes.
-use Rattle.std.proofs.Common.{◌≡◌, ℕ, zero, suc, ◌+◌, Bool, true, false, not, ◌==◌, ◌||◌, ◌&&◌, List, [], ◌∷◌, ◌++◌, Option, Some, None, map, take, drop, refl, sym, ap, ◌∙◌, arith}
+use Rattle.std.proofs.Common.{◌≡◌, ℕ, ◌+◌, Bool, true, false, not, ◌==◌, ◌||◌, ◌&&◌, List, ◌∷◌, ◌++◌, Option, Some, None, take, drop, refl, sym, ap, ◌∙◌, arith}
 use Rattle.std.specs.Prelude.{insert}
 use Rattle.std.specs.List.{position_or_len}
 use Rattle.std.proofs.lemmas.Bool.{eq-eqb, true≢false}
@@ -10,7 +10,6 @@ use Rattle.node_versions.specs.declared.entry.State.{State}
 use Rattle.node_versions.specs.declared.entry.Entry.{Entry}
 use Rattle.node_versions.specs.Entries.{Versions, has, front, rest, placed, with_entries}
 use Rattle.flow_model.specs.Machine.State.{Core, Cell, live, executes, entries}
-use Rattle.flow_model.specs.Machine.Lists.{change_at}
 use Rattle.flow_model.specs.Machine.Changes.{stops, stops_call, first_version, last_version, link_left, link_right, linked_at, new_entry, place_entry}
 use Rattle.flow_model.proofs.OneList.Chains.{reaches-link}
 use Rattle.flow_model.proofs.OrderStays.AfterEachStep.{lawful-Standing}
@@ -19,10 +18,12 @@ use Rattle.flow_model.proofs.OneList.InOrder.{front-goes, front-has, rest-has, l
 use Rattle.flow_model.proofs.OneList.InOrder.{first-has}
 use Rattle.flow_model.specs.Kept.Lawful.{ended_before}
 use Rattle.flow_state.specs.Booked.{Booked, live_in, call_in, stops_in}
-use Rattle.flow_model.specs.Parts.Books.{Work, work_in, book_of, Book}
+use Rattle.flow_model.specs.Parts.Books.{Work, book_of, Book}
 use Rattle.flow_state.specs.Fitting.{IsBookOf, choosers}
+use Rattle.flow_state.proofs.Fits.{works-same}
+use Rattle.flow_state.proofs.OneCell.{cell-changed}
 use Rattle.entering.specs.Entering.{CanEnter, Enters, stops_entry, link_if, link_before, link_behind, CanLinkBefore, CanLinkBehind}
-use Rattle.entering.proofs.Places.{place-same, take-front, drop-rest, cell-changed}
+use Rattle.entering.proofs.Places.{place-same, take-front, drop-rest}
 
 -- ---- the same words of a book and of its state
 
@@ -123,11 +124,6 @@ can_link_right graph s book between n list t place state left right can at l_is 
 
 -- ---- what the entry makes
 
-pub works-kept : (n : ℕ) (f : Cell → Cell) (cs : List Cell) → ((c : Cell) → work_in (f c) ≡ work_in c) → map work_in (change_at n f cs) ≡ map work_in cs
-works-kept n f [] same = refl
-works-kept zero f (c ∷ cs) same = ap (λ (w : Work). w ∷ map work_in cs) (same c)
-works-kept (suc n) f (c ∷ cs) same = ap (λ (ws : List Work). work_in c ∷ ws) (works-kept n f cs same)
-
 pub enters : (book between new : Booked) (n : ℕ) (list new_list : Versions) (t place slot : ℕ) (state : State) (left right : Option ℕ)
     → place ≡ position_or_len (stops_entry book t) list.entries → left ≡ last_version None (take place list.entries) → right ≡ first_version (drop place list.entries) → slot ≡ (call_in book t).slot
     → between ≡ link_before book left t n → new ≡ link_behind between right t n → new_list ≡ with_entries list (insert list.entries place (record { version = t; slot = slot; state = state }))
@@ -141,7 +137,7 @@ enters book between new n list new_list t place slot state left right p_is l_is 
       n_is ∙ ap (λ (b : Booked). link_behind b right t n) (b_is ∙ ap (λ (x : Option ℕ). link_before book x t n) l ∙ left-linked graph s book t n (last_version None (front (stops s t) (entries s n))) can.fits)
           ∙ ap (λ (x : Option ℕ). link_behind (with_pairs_of book s ps) x t n) r
           ∙ right-linked s book t n ps (first_version (rest (stops s t) (entries s n)))
-          ∙ ap (λ (ws : List Work). record book { book = record (book_of s) { works = ws; pairs = linked_at s t n } }) (sym (works-kept n (place_entry s t state) s.cells (λ c. refl))),
+          ∙ ap (λ (ws : List Work). record book { book = record (book_of s) { works = ws; pairs = linked_at s t n } }) (sym (works-same n (place_entry s t state) (λ c. refl) s.cells)),
       e_is
           ∙ ap (λ (es : List Entry). with_entries list (es ++ record { version = t; slot = slot; state = state } ∷ drop place list.entries)) at.before
           ∙ ap (λ (es : List Entry). with_entries list (front (stops s t) (entries s n) ++ record { version = t; slot = slot; state = state } ∷ es)) at.behind

@@ -1,3 +1,4 @@
 pub mod Places
 pub mod Entrances
+pub mod Stopping
 pub mod Marked

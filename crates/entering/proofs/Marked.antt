@@ -15,7 +15,7 @@ use Rattle.entering.specs.Marking.{CanMark, SomeCanMark, Marks}
 has-list : (graph : Graph) (s : Core) (n t : ℕ) (list : Versions) → list ≡ list_of graph s n → has list.entries t ≡ has (entries s n) t
 has-list graph s n t list is = ap (λ (l : Versions). has l.entries t) is
 
-room-left : (x y : Bool) → (x || y) ≡ true → x ≡ false → y ≡ true
+pub room-left : (x y : Bool) → (x || y) ≡ true → x ≡ false → y ≡ true
 room-left true y h k = cc
 room-left false y h k = h
 

@@ -1,11 +1,9 @@
 -- Places in lists, by index and by parts.
-use Rattle.std.proofs.Common.{◌≡◌, ◌≢◌, ℕ, zero, suc, ◌+◌, ◌-◌, ◌<◌, ◌≤◌, Bool, true, false, not, cond, List, [], ◌∷◌, Option, Some, None, length, take, drop, refl, sym, ap, ◌∙◌, arith}
-use Rattle.std.specs.Prelude.{slice_get, slice_index_or}
+use Rattle.std.proofs.Common.{◌≡◌, ◌≢◌, ℕ, zero, suc, ◌+◌, ◌-◌, ◌≤◌, Bool, true, false, not, cond, List, [], ◌∷◌, Option, Some, None, length, take, drop, refl, sym, ap, ◌∙◌, arith}
+use Rattle.std.specs.Prelude.{slice_get}
 use Rattle.std.specs.List.{position_or_len}
 use Rattle.node_versions.specs.declared.entry.Entry.{Entry}
 use Rattle.node_versions.specs.Entries.{front, rest}
-use Rattle.flow_model.specs.Machine.State.{Cell, no_cell}
-use Rattle.flow_model.specs.Machine.Lists.{change_at}
 use Rattle.flow_model.specs.Machine.Changes.{first_version, last_version}
 
 some_same : {X : Type 0} (x y : X) → Some x ≡ Some y → x ≡ y
@@ -55,8 +53,3 @@ drop-rest p (e ∷ es) = go (p e) (drop-rest p es)
     go : (b : Bool) → drop (position_or_len p es) es ≡ rest p es → drop (cond (not b) (1 + position_or_len p es) 0) (e ∷ es) ≡ elim b as (λ _. List Entry) [ true ↦ e ∷ es | false ↦ rest p es ]
     go true r = refl
     go false r = ap (λ n. drop n (e ∷ es)) (one_more (position_or_len p es)) ∙ r
-
-pub cell-changed : (n : ℕ) (f : Cell → Cell) (cs : List Cell) → n < length cs → slice_index_or (change_at n f cs) n no_cell ≡ f (slice_index_or cs n no_cell)
-cell-changed n f [] h = absurd (omega (arith, h))
-cell-changed zero f (c ∷ cs) h = refl
-cell-changed (suc n) f (c ∷ cs) h = cell-changed n f cs (omega (arith, h))

@@ -2,6 +2,7 @@
 
 ghost use Rattle.std.specs.Prelude.{◌≡◌, ◌≤◌, true, length, take, drop, None};
 ghost use Rattle.std.specs.List.{position_or_len};
+ghost use Rattle.node_versions.specs.Entries.{StopsToTheEnd};
 ghost use Rattle.flow_model.specs.Machine.Changes.{first_version, last_version};
 ghost use Rattle.flow_state.specs.Booked.{live_in};
 ghost use Rattle.entering.specs.Entering.{SomeCanEnter, Enters, stops_entry, link_before, link_behind, CanLinkBefore, CanLinkBehind};
@@ -31,13 +32,15 @@ pub fn enter(book: &mut Book, list: &mut NodeList, version: u32, node: u32, stat
     link_right(book, version, right, node);
 }
 
-// The index of the first entry that stops the call, else how many there are.
+// The index of the first entry that stops the call, else how many there are. All behind that entry stop the call too, so that
+// the place is found from the end, where most calls enter.
 fn place_in(book: &Book, list: &NodeList, version: u32) -> u32
-    requires { live_in book.now version ≡ true }
+    requires live { live_in book.now version ≡ true }
+    requires to_the_end { StopsToTheEnd (stops_entry book.now version) list.now.entries }
     ensures place { result ≡ position_or_len (stops_entry book.now version) list.now.entries }
     ensures bound { result ≤ length list.now.entries }
 {
-    list.place_of(|entry| book.stops(version, entry.version))
+    list.place_from_end(|entry| book.stops(version, entry.version))
 }
 
 // The call of the last entry before an index.

@@ -2,8 +2,8 @@
 
 ghost use Rattle.entering.specs.Marking.{SomeCanMark, Marks};
 
-use flow_state::Book;
 use crate::entry::enter;
+use flow_state::Book;
 use node_versions::{NodeList, State};
 
 /// A live call enters a node's list as a Mark, unless it has an entry there. Takes no memory.

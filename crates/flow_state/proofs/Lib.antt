@@ -12,5 +12,7 @@ pub mod FreeSlots
 pub mod JobLemmas
 pub mod BookLemmas
 pub mod Fits
+pub mod OneCell
+pub mod ListRests
 pub mod Fronts
 pub mod Resolved

@@ -1,5 +1,5 @@
 -- What framing a node needs, and what it makes.
-use Rattle.std.proofs.Common.{◌≡◌, ℕ, zero, suc, ◌+◌, ◌<◌, ◌≤◌, inl, inr, ◌⊎◌, Bool, true, false, ◌==◌, ◌||◌, ◌&&◌, cond, List, [], ◌∷◌, ◌++◌, Option, Some, None, length, filter, refl, sym, ap, ◌∙◌, subst, arith}
+use Rattle.std.proofs.Common.{◌≡◌, ℕ, ◌+◌, ◌<◌, ◌≤◌, inl, inr, Bool, true, false, ◌==◌, ◌||◌, ◌&&◌, cond, List, [], ◌∷◌, ◌++◌, Option, Some, None, length, filter, refl, sym, ap, ◌∙◌, subst, arith}
 use Rattle.std.proofs.lemmas.Bool.{eq-eqb, cases_lt, true≢false, false≢true}
 use Rattle.std.proofs.lemmas.List.{get_or_past, length-map}
 use Rattle.signal_graph.specs.declared.node.Node.{Node}
@@ -13,36 +13,27 @@ use Rattle.node_versions.proofs.Places.{at-has}
 use Rattle.flow_model.specs.declared.step.Step.TheVariants as step
 use Rattle.flow_model.specs.Machine.State.{Core, Cell, LiveCall, live, call_of, call_or, wants, entries, outs}
 use Rattle.std.specs.Prelude.{is_some}
-use Rattle.flow_model.specs.Machine.Lists.{change_at}
 use Rattle.flow_model.specs.Machine.Words.{active_outs}
 use Rattle.flow_model.specs.Machine.Changes.{stops_call, new_entry, place_entry, set_state, enter, raise, opened}
 use Rattle.flow_model.specs.Machine.Steps.{allowed, frame, open_node}
 use Rattle.flow_model.specs.Kept.Lawful.{lists_candidate}
+use Rattle.flow_model.proofs.General.Truths.{true_or_false}
+use Rattle.flow_model.proofs.OneStep.SameLengths.{change_at-length}
+use Rattle.flow_model.proofs.OneStep.WhoMayStep.{and_left, and_right}
 use Rattle.flow_model.proofs.OrderStays.AfterEachStep.{wanted-fresh}
 use Rattle.flow_model.proofs.OneList.InOrder.{with_state-has}
 use Rattle.flow_model.proofs.OneList.OneEntryACall.{placed-has}
 use Rattle.flow_state.specs.Booked.{Booked, live_in, node_count, with_book, on_call, opened_one}
 use Rattle.flow_model.specs.Parts.Books.{Work, work_in, book_of, Book}
+use Rattle.flow_state.proofs.Fits.{works-same}
+use Rattle.flow_state.proofs.OneCell.{cell-changed}
 use Rattle.flow_state.specs.Fitting.{IsBookOf, IsListStep, MakesList, list_of, choosers}
 use Rattle.entering.specs.Entering.{CanEnter, Enters}
+use Rattle.entering.proofs.Marked.{room-left}
 use Rattle.framing.specs.Framed.{wanting_all, with_frame, CanFrame, SomeCanFrame, TakesFrame, AreBelow, EdgesBelow}
-use Rattle.entering.proofs.Places.{cell-changed}
-use Rattle.entering.proofs.Entrances.{works-kept}
 use Rattle.framing.proofs.Wanting.{on-twice, all-append, opened-all, all-version}
 
 -- ---- where the step is allowed
-
-first_of : (a b : Bool) → (a && b) ≡ true → a ≡ true
-first_of true b h = refl
-first_of false b h = h
-
-second_of : (a b : Bool) → (a && b) ≡ true → b ≡ true
-second_of true b h = h
-second_of false b h = absurd (false≢true h)
-
-later : (a b : Bool) → (a || b) ≡ true → a ≡ false → b ≡ true
-later true b h e = absurd (true≢false e)
-later false b h e = h
 
 wants-live : (s : Core) (t n : ℕ) → wants s t n ≡ true → live s t ≡ true
 wants-live s t n h = go (call_of s.calls t) h
@@ -51,26 +42,22 @@ wants-live s t n h = go (call_of s.calls t) h
     go None h = h
     go (Some c) h = refl
 
-bool_cases : (b : Bool) → (b ≡ true) ⊎ (b ≡ false)
-bool_cases true = inl refl
-bool_cases false = inr refl
-
 pub frame_can : (graph : Graph) (s : Core) (book : Booked) (n : ℕ) (list : Versions) (t : ℕ) → IsBookOf graph s book → list ≡ list_of graph s n → allowed graph s (step.Frame t n) ≡ true → CanFrame graph s book n list t
 frame_can graph s book n list t fits is h =
-    let w = first_of (wants s t n) _ h in
+    let w = and_left (wants s t n) _ h in
     let free = fits.lawful.wants_are_free t n w in
     record {
       fits = fits;
       is_list = is;
       node = let a = free.node in let b = fits.lawful.lists in omega (arith, a, b);
       is_live = wants-live s t n w;
-      mark = λ k. elim (bool_cases (at is_mark (entries s n) t)) [
+      mark = λ k. elim (true_or_false (at is_mark (entries s n) t)) [
         | inl m ↦ m
         | inr m ↦ absurd (true≢false (sym k ∙ wanted-fresh graph s fits.lawful t n w m))
       ];
-      room = λ k. elim (bool_cases (at is_mark (entries s n) t)) [
+      room = λ k. elim (true_or_false (at is_mark (entries s n) t)) [
         | inl m ↦ absurd (true≢false (sym (at-has is_mark (entries s n) t m) ∙ k))
-        | inr m ↦ later (at is_mark (entries s n) t) _ (second_of (wants s t n) _ h) m
+        | inr m ↦ room-left (at is_mark (entries s n) t) _ (and_right (wants s t n) _ h) m
       ];
     }
 
@@ -99,7 +86,7 @@ takes_by_raise book n list new_list t h is graph s can =
     let m = can.mark (sym (list_has graph s n list t can.is_list) ∙ h) in
     let s_is = raised s t n m in (
       ap (λ (f : Book). record book { book = f }) can.fits.parts
-          ∙ ap (λ (ws : List Work). record book { book = record (book_of s) { works = ws } }) (sym (works-kept n (set_state t state.Frame) s.cells (λ c. refl)))
+          ∙ ap (λ (ws : List Work). record book { book = record (book_of s) { works = ws } }) (sym (works-same n (set_state t state.Frame) (λ c. refl) s.cells))
           ∙ ap (λ (x : Core). with_book book (book_of x)) (sym s_is),
       is ∙ ap (λ (l : Versions). with_entries l (with_state t state.Frame l.entries)) can.is_list
           ∙ ap (λ (c : Cell). record { entries = c.entries; outs = c.outs; room = s.callers + 9; outs_room = choosers graph n }) (sym (cell-changed n (set_state t state.Frame) s.cells can.node))
@@ -109,7 +96,7 @@ takes_by_raise book n list new_list t h is graph s can =
 pub takes_by_entry : (book new : Booked) (n : ℕ) (list new_list : Versions) (t : ℕ) → has list.entries t ≡ false → Enters book n list t state.Frame new new_list → TakesFrame book n list t new new_list
 takes_by_entry book new n list new_list t h enters graph s can =
     let k = frame_enters graph s book n list t can h in
-    let no_mark : at is_mark (entries s n) t ≡ false = elim (bool_cases (at is_mark (entries s n) t)) [ inl m ↦ absurd (true≢false (sym (at-has is_mark (entries s n) t m) ∙ k.no_entry)) | inr m ↦ m ] in
+    let no_mark : at is_mark (entries s n) t ≡ false = elim (true_or_false (at is_mark (entries s n) t)) [ inl m ↦ absurd (true≢false (sym (at-has is_mark (entries s n) t m) ∙ k.no_entry)) | inr m ↦ m ] in
     let s_is = entered s t n no_mark in
     let made = enters graph s k in
     (made.0 ∙ ap (λ (x : Core). with_book book (book_of x)) (sym s_is), made.1 ∙ ap (λ (x : Core). list_of graph x n) (sym s_is))
@@ -123,17 +110,12 @@ frame-calls s t n = go (at is_mark (entries s n) t)
     go true = refl
     go false = refl
 
-length-cells : (n : ℕ) (f : Cell → Cell) (cs : List Cell) → length (change_at n f cs) ≡ length cs
-length-cells n f [] = refl
-length-cells zero f (c ∷ cs) = refl
-length-cells (suc n) f (c ∷ cs) = ap suc (length-cells n f cs)
-
 frame-cells : (s : Core) (t n : ℕ) → length (with_frame s t n).cells ≡ length s.cells
 frame-cells s t n = go (at is_mark (entries s n) t)
   where
     go : (b : Bool) → length (elim b as (λ _. Core) [ true ↦ raise s t n | false ↦ enter s t n state.Frame ]).cells ≡ length s.cells
-    go true = length-cells n (set_state t state.Frame) s.cells
-    go false = length-cells n (place_entry s t state.Frame) s.cells
+    go true = change_at-length n (set_state t state.Frame) s.cells
+    go false = change_at-length n (place_entry s t state.Frame) s.cells
 
 frame-outs : (s : Core) (t n : ℕ) → n < length s.cells → outs (with_frame s t n) n ≡ outs s n
 frame-outs s t n h = go (at is_mark (entries s n) t)

@@ -1,6 +1,5 @@
 -- A call comes to want nodes, one after the other.
-use Rattle.std.proofs.Common.{◌≡◌, ℕ, zero, suc, ◌+◌, ◌<◌, ◌≤◌, Bool, true, false, ◌==◌, List, [], ◌∷◌, ◌++◌, Some, None, length, get_or, drop, refl, sym, ap, ◌∙◌, subst, arith, add-one}
-use Rattle.std.proofs.Math.Seq.{drop-cons}
+use Rattle.std.proofs.Common.{◌≡◌, ℕ, zero, suc, ◌+◌, ◌<◌, Bool, true, false, ◌==◌, List, [], ◌∷◌, ◌++◌, Some, None, length, get_or, drop, refl, sym, ap, ◌∙◌, subst, arith}
 use Rattle.node_versions.specs.declared.entry.Entry.{Entry}
 use Rattle.std.specs.Prelude.{slice_get}
 use Rattle.node_versions.specs.Entries.{OutEdge, is_active, active_nodes, since_at}
@@ -10,6 +9,7 @@ use Rattle.flow_model.specs.Machine.State.{LiveCall, change_call}
 use Rattle.flow_model.specs.Machine.Changes.{opened}
 use Rattle.flow_state.specs.Booked.{Booked, live_in, node_count, on_call, opened_one, wanting}
 use Rattle.flow_state.proofs.BookLemmas.{has-change}
+use Rattle.flow_state.proofs.Walks.{rest_is}
 use Rattle.framing.specs.Framed.{wanting_all, AreBelow, EdgesBelow}
 
 -- ---- changes of one call, one after the other
@@ -68,15 +68,6 @@ wanting_same first book new t all rest left so same is = subst (λ (b : Booked).
 
 pub wanting_ends : (first book : Booked) (t : ℕ) (all left : List ℕ) → IsWanting first book t all left → left ≡ [] → book ≡ on_call first t (wanting_all all)
 wanting_ends first book t all left so none = sym (on-none book t) ∙ ap (λ (ns : List ℕ). on_call book t (wanting_all ns)) (sym none) ∙ so.is
-
-pub rest_is : {X : Type 0} (xs : List X) (i : ℕ) (d : X) → i < length xs → drop i xs ≡ get_or xs i d ∷ drop (i + 1) xs
-rest_is xs i d h = drop-cons xs i d h ∙ ap (λ n. get_or xs i d ∷ drop n xs) (sym (add-one i))
-
-pub drop_past : {X : Type 0} (xs : List X) (i : ℕ) → length xs ≤ i → drop i xs ≡ []
-drop_past [] zero h = refl
-drop_past [] (suc i) h = refl
-drop_past (x ∷ xs) zero h = absurd (omega (arith, h))
-drop_past (x ∷ xs) (suc i) h = drop_past xs i (omega (arith, h))
 
 pub below_at : (size : ℕ) (ns : List ℕ) (i d : ℕ) → i < length ns → AreBelow size ns → get_or ns i d < size
 below_at size [] i d h all = absurd (omega (arith, h))

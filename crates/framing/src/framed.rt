@@ -55,8 +55,11 @@ fn want_active(book: &mut Book, list: &NodeList, version: u32)
     requires below { EdgesBelow (node_count book.old) list.now.outs }
     ensures { book.new ≡ on_call book.old version (wanting_all (active_nodes list.now.entries list.now.outs version)) }
 {
+    let Some(own) = list.entry_of(version) else {
+        return;
+    };
     for index in 0..list.outs_len() {
-        if list.active(index, version) {
+        if list.active_at(own, index) {
             let (chooser, _) = list.out(index);
             book.want(version, chooser);
         }

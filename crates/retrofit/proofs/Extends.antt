@@ -19,9 +19,10 @@ use Rattle.flow_model.proofs.OneStep.BegunCalls.{calls-distinct}
 use Rattle.flow_model.proofs.OneStep.SameLengths.{change_at-length}
 use Rattle.flow_state.specs.Booked.{Booked, node_count}
 use Rattle.flow_model.specs.Parts.Books.{book_of, work_in, Book}
+use Rattle.flow_state.proofs.ListRests.{drop-at, drop-past}
 use Rattle.flow_state.specs.Joining.{joined, IsJoined, IsJoinedOf, MakesTold}
 use Rattle.retrofit.specs.Telling.{with_calls, told_by, told_one}
-use Rattle.retrofit.proofs.Tells.{AreApart, apart, told_rest, rest-tells, none-tells, drop-at}
+use Rattle.retrofit.proofs.Tells.{AreApart, apart, told_rest, rest-tells, none-tells}
 
 -- ---- the state between
 
@@ -80,12 +81,6 @@ made-of : (graph : Graph) (t n m : ℕ) (book new : Booked) (list : Versions) �
     → (s : Core) → IsJoinedOf graph s t n m book list → new ≡ record book { book = book_of (apply graph s (Discover t n m)) }
 made-of graph t n m book new list made s h = made ∙ ap₂ (λ (f : Book) (v : Versions). record book { book = record f { calls = map (tell_call v.entries t n) f.calls } }) h.parts h.is_list
 
-drop-all : (es : List Entry) (i : ℕ) → length es ≤ i → drop i es ≡ []
-drop-all [] zero h = refl
-drop-all [] (suc i) h = refl
-drop-all (e ∷ es) zero h = absurd (omega (arith, h))
-drop-all (e ∷ es) (suc i) h = drop-all es i (omega (arith, h))
-
 no_entry : Entry
 no_entry = record { version = 0; slot = 0; state = modes.Mark }
 
@@ -98,7 +93,7 @@ makes-told t n own i book new list once inside own_entry over so graph m s h =
     let at_own = slice_get-get_or es own no_entry inside in
     let more : own + 1 ≡ suc own = omega arith in
     let told = rest-tells n t own e es book.book.calls (all-apart graph s t n m book list h) once at_own (own_entry.version e at_own) in
-    let calls = sym (ap (λ (xs : List Entry). told_rest n xs new.book.calls) (drop-all es i over)) ∙ so.0 ∙ ap (λ j. told_rest n (drop j es) book.book.calls) more ∙ told in
+    let calls = sym (ap (λ (xs : List Entry). told_rest n xs new.book.calls) (drop-past es i over)) ∙ so.0 ∙ ap (λ j. told_rest n (drop j es) book.book.calls) more ∙ told in
     (made-of graph t n m book new list (so.1 ∙ ap (with_calls book) calls) s h, h.is_list)
 
 pub makes-none : (t n : ℕ) (book : Booked) (list : Versions) → has list.entries t ≡ false → (graph : Graph) (m : ℕ) → MakesTold graph t n m book list book

@@ -1,5 +1,5 @@
 -- How the least call that wants a node is found.
-use Rattle.std.proofs.Common.{◌≡◌, ℕ, zero, suc, ◌≤◌, Bool, true, false, not, ◌||◌, ◌&&◌, List, [], ◌∷◌, length, drop, refl, sym, ap, ◌∙◌, arith, Option, Some, None}
+use Rattle.std.proofs.Common.{◌≡◌, ℕ, ◌≤◌, Bool, true, false, not, ◌||◌, ◌&&◌, List, [], ◌∷◌, length, drop, refl, sym, ap, ◌∙◌, arith, Option, Some, None}
 use Rattle.std.specs.Option.{is_some}
 use Rattle.std.specs.List.{list_any}
 use Rattle.signal_graph.specs.Graph.{is_in}
@@ -10,6 +10,7 @@ use Rattle.flow_model.specs.Machine.Words.{presses}
 use Rattle.flow_model.specs.Machine.Next.{lesser, least_version}
 use Rattle.flow_state.specs.Booked.{Booked, live_in}
 use Rattle.flow_model.specs.Parts.Books.{book_of, Book}
+use Rattle.flow_state.proofs.ListRests.{drop-past}
 use Rattle.retrofit.specs.Helping.{is_helped}
 
 abbrev pub helped : Booked → ℕ → ℕ → LiveCall → Bool
@@ -24,15 +25,9 @@ merge-none : (least : Option ℕ) → merged least None ≡ least
 merge-none None = refl
 merge-none (Some v) = refl
 
-drop-all : (cs : List LiveCall) (i : ℕ) → length cs ≤ i → drop i cs ≡ []
-drop-all [] zero h = refl
-drop-all [] (suc i) h = refl
-drop-all (c ∷ cs) zero h = absurd (omega (arith, h))
-drop-all (c ∷ cs) (suc i) h = drop-all cs i (omega (arith, h))
-
 -- all calls are gone over
 pub found-all : (test : LiveCall → Bool) (cs : List LiveCall) (i : ℕ) (least whole : Option ℕ) → length cs ≤ i → merged least (least_version test (drop i cs)) ≡ whole → least ≡ whole
-found-all test cs i least whole h so = sym (merge-none least) ∙ ap (λ (xs : List LiveCall). merged least (least_version test xs)) (sym (drop-all cs i h)) ∙ so
+found-all test cs i least whole h so = sym (merge-none least) ∙ ap (λ (xs : List LiveCall). merged least (least_version test xs)) (sym (drop-past cs i h)) ∙ so
 
 -- ---- in a state of which the book is
 

@@ -190,9 +190,3 @@ not-behind (e ∷ es) t v h = let r = not-behind es t v in grind (arith, r)
 -- none is told where the call has no entry
 pub none-tells : (n t : ℕ) (es : List Entry) (cs : List LiveCall) → has es t ≡ false → cs ≡ map (tell_call es t n) cs
 none-tells n t es cs h = sym (map-same cs) ∙ map-ext (λ c. c) (tell_call es t n) (λ c. ap (λ (b : Bool). record c { wanted = elim ((b && at hands_on es c.version) && not (is_in n c.open_nodes)) as (λ _. List ℕ) [ true ↦ put n c.wanted | false ↦ c.wanted ] }) (sym (not-behind es t c.version h))) cs
-
--- the entry at an index, and the rest
-pub drop-at : (es : List Entry) (i : ℕ) (e : Entry) → slice_get es i ≡ Some e → drop i es ≡ e ∷ drop (suc i) es
-drop-at [] i e h = cc
-drop-at (x ∷ xs) zero e h = let s = h in grind (arith, s)
-drop-at (x ∷ xs) (suc i) e h = drop-at xs i e h

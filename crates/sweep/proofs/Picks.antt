@@ -1,13 +1,10 @@
 -- The picks of what was found, and the first of them.
-use Rattle.std.proofs.Common.{◌≡◌, ℕ, ◌<◌, ◌≤◌, ◌+◌, List, [], ◌∷◌, ◌++◌, Option, Some, None, length, map, take, get_or, suc, refl, sym, ap, ◌∙◌, arith, true≢false}
+use Rattle.std.proofs.Common.{◌≡◌, ℕ, ◌<◌, ◌≤◌, ◌+◌, List, [], ◌∷◌, ◌++◌, Option, Some, None, length, map, take, get_or, suc, refl, sym, ap, ◌∙◌, arith}
 use Rattle.std.proofs.lemmas.List.{take_more, length-take-le}
 use Rattle.std.proofs.lemmas.Option.{slice_get_within, slice_get-get_or}
 use Rattle.std.specs.List.{slice_get}
-use Rattle.std.specs.Option.{is_some}
 use Rattle.script_tree.specs.declared.limits.TheConstants.{SELECTORS}
-use Rattle.script_tree.specs.declared.value.Value.{Value}
 use Rattle.signal_graph.specs.Values.{taken}
-use Rattle.flow_model.specs.Machine.Words.{first_pick_over, pick_over}
 use Rattle.flow_state.specs.declared.found.Found.{Found}
 use Rattle.flow_state.specs.Found.{selection_of}
 
@@ -40,7 +37,3 @@ picks-more xs ps i x p is at_i taken_is =
     ∙ ap (λ (y : Found). picks_for (take i xs) ++ taken (selection_of y) ∷ []) same
     ∙ ap (λ (qs : List (Option ℕ)). qs ++ taken (selection_of x) ∷ []) (sym is)
     ∙ ap (λ (q : Option ℕ). ps ++ q ∷ []) (sym taken_is))
-
-pub first-is : (read : ℕ → Value) (xs : List Found) (x : Found) → slice_get xs 0 ≡ Some x → pick_over read (selection_of x) ≡ first_pick_over read (map selection_of xs)
-first-is read [] x e = absurd (true≢false (sym (ap is_some e)))
-first-is read (y ∷ ys) x e = ap (λ (z : Found). pick_over read (selection_of z)) (sym (some_is y x y e))

@@ -4,8 +4,8 @@ ghost use Rattle.signal_graph.specs.Graph.{Graph};
 ghost use Rattle.flow_model.specs.declared.step.Step.TheVariants as step;
 ghost use Rattle.flow_state.specs.Fitting.{IsListStep, MakesList};
 
-use flow_state::Book;
 use entering::enter;
+use flow_state::Book;
 use node_versions::{NodeList, State};
 
 /// The call's Mark enters the list of a node whose value the call will read: the step Mark. It is allowed in a lawful

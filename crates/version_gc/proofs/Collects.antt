@@ -1,21 +1,21 @@
 -- What a collection asks and makes.
-use Rattle.std.proofs.Common.{◌≡◌, ℕ, zero, suc, ◌<◌, Bool, true, false, not, List, [], ◌∷◌, length, map, refl, sym, ap, ap₂, ◌∙◌, subst, arith, true≢false}
+use Rattle.std.proofs.Common.{◌≡◌, ℕ, ◌<◌, Bool, true, false, not, List, [], ◌∷◌, refl, sym, ap, ap₂, ◌∙◌, subst, arith, true≢false}
 use Rattle.std.proofs.lemmas.Bool.Decides.{eqb_tells}
 use Rattle.std.specs.List.{filter}
 use Rattle.std.specs.Option.{is_some}
-use Rattle.std.specs.Prelude.{slice_index_or, nat_lt}
+use Rattle.std.specs.Prelude.{nat_lt}
 use Rattle.signal_graph.specs.Graph.{Graph}
 use Rattle.node_versions.specs.declared.entry.Entry.{Entry}
 use Rattle.node_versions.specs.Entries.{Versions, IsUnique, EndedIsPrefix, HasEndedPrefix, has, at, behind, is_done, last_done, collected, with_entries}
 use Rattle.flow_model.specs.declared.step.Step.TheVariants.{Collect}
-use Rattle.flow_model.specs.Machine.State.{Cell, no_cell, call_of, ended, live, entries}
+use Rattle.flow_model.specs.Machine.State.{Cell, call_of, ended, live, entries}
 use Rattle.std.specs.Prelude.{is_some}
-use Rattle.flow_model.specs.Machine.Lists.{change_at}
 use Rattle.flow_model.specs.Machine.Steps.{allowed, collect}
 use Rattle.flow_model.proofs.OneList.InOrder.{on_calls}
 use Rattle.flow_model.proofs.OneList.StatesAndPlaces.{behind-has}
 use Rattle.flow_state.specs.Booked.{Booked, live_in, with_book}
-use Rattle.flow_model.specs.Parts.Books.{Work, book_of, work_in, Book}
+use Rattle.flow_model.specs.Parts.Books.{Book}
+use Rattle.flow_state.proofs.OneCell.{cell-inside, cell-changed, book-same}
 use Rattle.flow_state.specs.Fitting.{IsListStep, MakesList, list_of}
 
 -- ---- the ended entries come first
@@ -41,23 +41,6 @@ some-done : (gone : ℕ → Bool) (es : List Entry) (u : ℕ) → gone u ≡ tru
 some-done gone [] u g h = absurd (true≢false (sym h))
 some-done gone (e ∷ es) u g h = let r = some-done gone es u g in grind (arith, eqb_tells, r)
 
--- ---- cells
-
-inside : (cs : List Cell) (n : ℕ) → 0 < length (slice_index_or cs n no_cell).entries → n < length cs
-inside [] n h = absurd (omega (arith, h))
-inside (c ∷ cs) zero h = omega arith
-inside (c ∷ cs) (suc n) h = let r = inside cs n h in omega (arith, r)
-
-changed-at : (n : ℕ) (f : Cell → Cell) (cs : List Cell) → n < length cs → slice_index_or (change_at n f cs) n no_cell ≡ f (slice_index_or cs n no_cell)
-changed-at n f [] h = absurd (omega (arith, h))
-changed-at zero f (c ∷ cs) h = refl
-changed-at (suc n) f (c ∷ cs) h = changed-at n f cs (omega (arith, h))
-
-same-works : (n : ℕ) (f : Cell → Cell) → ((c : Cell) → work_in (f c) ≡ work_in c) → (cs : List Cell) → map work_in (change_at n f cs) ≡ map work_in cs
-same-works n f same [] = refl
-same-works zero f same (c ∷ cs) = ap (λ (w : Work). w ∷ map work_in cs) (same c)
-same-works (suc n) f same (c ∷ cs) = ap (λ (ws : List Work). work_in c ∷ ws) (same-works n f same cs)
-
 -- ---- the step
 
 some-entry : (a b : ℕ) → nat_lt a b ≡ true → 0 < b
@@ -70,7 +53,7 @@ in-state : (graph : Graph) (book : Booked) (n : ℕ) (list : Versions) → (h : 
 in-state graph book n list h =
     let s = h.state in
     let kept = h.fits.lawful.ended_is_prefix in
-    let some = kept.done n (inside s.cells n (some-entry _ _ h.allowed)) in
+    let some = kept.done n (cell-inside s.cells n (some-entry _ _ h.allowed)) in
     record {
       prefix = prefix (λ u. not (live s u)) (entries s n) (h.fits.lawful.one_entry n) (λ u v b. flips (live s v) (live s u) (kept.prefix n u v b));
       done = some-done (λ u. not (live s u)) (entries s n) some.0 (ap not some.1) some.2;
@@ -85,9 +68,9 @@ pub makes : (graph : Graph) (book : Booked) (n : ℕ) (list new : Versions) → 
     → MakesList graph book n list (Collect n) book new
 makes graph book n list new made s fits is_list allowed =
     let h : IsListStep graph book n list (Collect n) = record { state = s; fits = fits; is_list = is_list; allowed = allowed } in
-    let some = inside s.cells n (some-entry _ _ allowed) in
-    let now = changed-at n (collect s) s.cells some in
-    let flow = ap (λ (ws : List Work). record (book_of s) { works = ws }) (same-works n (collect s) (λ c. refl) s.cells) in (
+    let some = cell-inside s.cells n (some-entry _ _ allowed) in
+    let now = cell-changed n (collect s) s.cells some in
+    let flow = book-same s n (collect s) (λ c. refl) in (
       ap (with_book book) (fits.parts ∙ sym flow),
       made (ready graph book n list h)
           ∙ ap₂ (λ (f : Book) (v : Versions). with_entries v (collected (λ e. not (is_some (call_of f.calls e.version))) v.entries)) fits.parts is_list

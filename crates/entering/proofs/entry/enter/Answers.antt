@@ -1,5 +1,11 @@
 use Rattle.entering.proofs.Entrances.{place-is, can_link_left, can_link_right, enters}
+use Rattle.entering.proofs.Stopping.{entries-stop}
 use Rattle.entering.proofs.entry.enter.Goals as goal
+
+pub place_in-place-requires-clause-to_the_end : goal.place_in-place-requires-clause-to_the_end
+place_in-place-requires-clause-to_the_end c =
+    let k = c.requires in
+    entries-stop k.graph k.state c.args.book.now c.args.node c.args.list.now c.args.version k.can
 
 pub link_left-requires-clause-can : goal.link_left-requires-clause-can
 link_left-requires-clause-can c =

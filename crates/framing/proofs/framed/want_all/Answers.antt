@@ -1,6 +1,8 @@
 use Rattle.std.proofs.Common.{arith}
 use Rattle.flow_state.specs.Booked.{node_count}
-use Rattle.framing.proofs.Wanting.{wanting_begins, wanting_more, wanting_ends, rest_is, drop_past, below_at}
+use Rattle.flow_state.proofs.ListRests.{drop-past}
+use Rattle.flow_state.proofs.Walks.{rest_is}
+use Rattle.framing.proofs.Wanting.{wanting_begins, wanting_more, wanting_ends, below_at}
 use Rattle.framing.proofs.framed.want_all.Goals as goal
 
 pub loop-node-init : goal.loop-node-init
@@ -19,4 +21,4 @@ pub loop-node-preserved : goal.loop-node-preserved
 loop-node-preserved c = wanting_more c.args.book.now c.loop-node.book c.want.new.self c.args.version _ c.args.nodes.now _ _ c.loop-node.invariant (rest_is c.args.nodes.now c.loop-node.node-index 0 (omega arith)) c.want.ensures
 
 pub returns : goal.returns
-returns c = wanting_ends c.args.book.now c.loop-node.book c.args.version c.args.nodes.now _ c.loop-node.invariant (drop_past c.args.nodes.now c.loop-node.node-index (omega arith))
+returns c = wanting_ends c.args.book.now c.loop-node.book c.args.version c.args.nodes.now _ c.loop-node.invariant (drop-past c.args.nodes.now c.loop-node.node-index (omega arith))
