@@ -270,9 +270,7 @@ impl Book {
         requires { live_in self.now version ≡ true }
         ensures { result ≡ is_in node (call_in self.now version).wanted }
     {
-        let wanted = self.calls.seat(version).wanted();
-        wanted.is_kept();
-        node < wanted.size() && wanted.contains(node)
+        self.calls.seat(version).wants(node)
     }
 
     /// Whether the node is open for a live call.
@@ -378,7 +376,6 @@ impl Book {
     /// The least version among the executing calls behind a live one that want the node.
     pub fn first_pressing(&self, version: u32, node: u32) -> Option<u32>
         requires live { live_in self.now version ≡ true }
-        requires node { node < node_count self.now }
         ensures { result ≡ least_version (presses (bare self.now.book) version node) self.now.book.calls }
     {
         self.calls.first_pressing(version, node)

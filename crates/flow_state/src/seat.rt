@@ -115,6 +115,14 @@ impl Seat {
         &self.wanted
     }
 
+    /// Whether the call wants the node.
+    pub(crate) fn wants(&self, node: u32) -> bool
+        ensures { result ≡ is_in node self.now.call.wanted }
+    {
+        self.wanted.is_kept();
+        node < self.wanted.size() && self.wanted.contains(node)
+    }
+
     pub(crate) fn open_nodes(&self) -> &NodeSet
         ensures nodes { result.now.nodes ≡ self.now.call.open_nodes }
         ensures size { result.now.size ≡ self.now.size }

@@ -358,7 +358,6 @@ impl Seating {
     /// Whether an executing call behind a live one wants the node.
     pub(crate) fn pressed(&self, version: u32, node: u32) -> bool
         requires live { has_call self.now version ≡ true }
-        requires node { node < self.now.nodes }
         ensures { result ≡ pressed_live self.now version node }
     {
         for index in 0..self.live.len() {
@@ -374,7 +373,6 @@ impl Seating {
     /// The least version among the executing calls behind a live one that want the node.
     pub(crate) fn first_pressing(&self, version: u32, node: u32) -> Option<u32>
         requires live { has_call self.now version ≡ true }
-        requires node { node < self.now.nodes }
         ensures { result ≡ least_version (presses_live self.now version node) self.now.calls }
     {
         for index in 0..self.live.len() {
@@ -392,10 +390,9 @@ impl Seating {
         requires live { has_call self.now version ≡ true }
         requires other { has_call self.now other ≡ true }
         requires seat { seat.now.call.version ≡ other }
-        requires node { node < seat.now.size }
         ensures { result ≡ presses_live self.now version node seat.now.call }
     {
-        if !seat.executing() || !seat.wanted().contains(node) {
+        if !seat.executing() || !seat.wants(node) {
             return false;
         }
         self.reaches(version, other)

@@ -1,2 +1,1 @@
-pub mod Helping
 pub mod Telling

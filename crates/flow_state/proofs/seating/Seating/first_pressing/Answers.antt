@@ -35,20 +35,6 @@ presses-requires-clause-seat c =
     let read = seat_read s.seats.items x.slot c.index-seat.result.now inside c.index-seat.ensures in
     ap (λ (y : Seated). y.call.version) read ∙ at.0.version
 
-pub presses-requires-clause-node : goal.presses-requires-clause-node
-presses-requires-clause-node c =
-    let s = c.self.inside in
-    let len = c.len-index-end.ensures in
-    let x = c.index-tenant.result.now in
-    let below : c.loop-index.index < length s.live.items = omega (arith, len) in
-    let at = tenant_at s.seats.items s.live.items c.loop-index.index x c.self.invariant.kept.tenants below c.index-tenant.ensures in
-    let inside = at.0.inside in
-    let read = seat_read s.seats.items x.slot c.index-seat.result.now inside c.index-seat.ensures in
-    let count = c.self.invariant.kept.count in
-    let size = ap (λ (y : Seated). y.size) read ∙ c.self.invariant.kept.sizes x.slot (omega (arith, inside, count)) ∙ ap (λ (l : LiveCalls). l.nodes) c.self.view_is in
-    let node = c.requires.node in
-    omega (arith, size, node)
-
 pub returns-then-presses : goal.returns-then-presses
 returns-then-presses c =
     let s = c.self.inside in
