@@ -4,8 +4,8 @@ use flow_model::step::Step;
 
 /// The kinds of steps, by their names.
 pub const KINDS: [&str; 14] = [
-    "begin", "frame", "start", "skip", "gather", "evaluate", "body", "resolve", "discover", "drop", "mark", "look", "end",
-    "collect",
+    "begin", "frame", "start", "skip", "gather", "evaluate", "body", "resolve", "discover", "drop",
+    "mark", "look", "end", "collect",
 ];
 
 /// How many steps of each kind were made, in the order of `KINDS`.

@@ -75,7 +75,11 @@ fn counted(alloc: Global, counts: &Counts) -> Result<Text, OutOfMemory> {
     for (kind, name) in KINDS.iter().enumerate() {
         out.extend_from_slice(name.as_bytes())?;
         out.push(b' ')?;
-        number(&mut out, b"", counts.of_kind[kind].min(u32::MAX as u64) as u32)?;
+        number(
+            &mut out,
+            b"",
+            counts.of_kind[kind].min(u32::MAX as u64) as u32,
+        )?;
         out.push(b'\n')?;
     }
     Ok(out)

@@ -42,4 +42,6 @@ pub record IsAnswerStep (graph : Graph) (book : Booked) (answer : Answer) : Type
 
 -- In each such state the new book is that of the state after the step.
 abbrev pub MakesAnswer : Graph → Booked → Answer → Booked → Type 0
-MakesAnswer graph book answer new = (s : Core) → IsBookOf graph s book → allowed graph s (step_of answer) ≡ true → IsRight graph s answer → new ≡ book_after graph s (step_of answer) book
+MakesAnswer graph book answer new =
+    (s : Core) → IsBookOf graph s book → allowed graph s (step_of answer) ≡ true → IsRight graph s answer
+    → new ≡ book_after graph s (step_of answer) book

@@ -38,7 +38,8 @@ pub record IsBookStep (graph : Graph) (book : Booked) (step : Step) : Type 0 whe
 
 -- In each fitting state that allows the step, the new book is that of the state after it.
 abbrev pub MakesBook : Graph → Booked → Step → Booked → Type 0
-MakesBook graph book step new = (s : Core) → IsBookOf graph s book → allowed graph s step ≡ true → new ≡ book_after graph s step book
+MakesBook graph book step new =
+    (s : Core) → IsBookOf graph s book → allowed graph s step ≡ true → new ≡ book_after graph s step book
 
 -- ---- a step on the book and a node's list
 
@@ -57,4 +58,6 @@ MakesList graph book n list step new new_list =
 
 -- `IsListStep` says where such a step is allowed.
 abbrev pub MakesRead : Graph → Booked → ℕ → Versions → Step → Booked → Type 0
-MakesRead graph book n list step new = (s : Core) → IsBookOf graph s book → list ≡ list_of graph s n → allowed graph s step ≡ true → new ≡ book_after graph s step book
+MakesRead graph book n list step new =
+    (s : Core) → IsBookOf graph s book → list ≡ list_of graph s n → allowed graph s step ≡ true
+    → new ≡ book_after graph s step book

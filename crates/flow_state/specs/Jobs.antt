@@ -55,7 +55,11 @@ outcome_of node gathered acc None = outcome_in (finds node (read_from gathered) 
 outcome_of node gathered acc (Some found) = outcome.Body (body_over (body_of node) (read_from gathered) (map selection_of found))
 
 abbrev pub answer_of : Graph → ℕ → ℕ → List (ℕ × Value) → Value → Option (List Found) → Answer
-answer_of graph version node gathered acc found = record { version = version; node = node; outcome = outcome_of (node_at graph node) gathered acc found }
+answer_of graph version node gathered acc found = record {
+  version = version;
+  node = node;
+  outcome = outcome_of (node_at graph node) gathered acc found;
+}
 
 -- the answer from what a book has of the node
 abbrev pub answer_in : Graph → Booked → ℕ → ℕ → Value → Answer

@@ -79,7 +79,12 @@ pairs_of seats pairs = map (versions_of seats) pairs
 
 -- what is seen of them
 abbrev pub live_calls : ℕ → ℕ → List Seated → List Tenant → Order → LiveCalls
-live_calls callers nodes seats live order = record { callers = callers; nodes = nodes; calls = calls_of seats live; pairs = pairs_of seats order.pairs }
+live_calls callers nodes seats live order = record {
+  callers = callers;
+  nodes = nodes;
+  calls = calls_of seats live;
+  pairs = pairs_of seats order.pairs;
+}
 
 -- the slot of a version; 0 where it has none
 abbrev pub slot_in : List Tenant → ℕ → ℕ

@@ -516,7 +516,8 @@ impl Book {
     pub fn gather(&mut self, node: u32, input: u32, value: Value)
         requires node { node < node_count self.old }
         requires new { gathered_of input (work_at self.old node).gathered ≡ None }
-        requires room { AreApart (work_at self.old node).gathered → length (work_at self.old node).gathered < slice_index self.old.room_for node }
+        requires room { AreApart (work_at self.old node).gathered
+            → length (work_at self.old node).gathered < slice_index self.old.room_for node }
         ensures { self.new ≡ on_work self.old node (with_gathered input value) }
     {
         self.shelves[node as usize].gather(input, value);
@@ -549,7 +550,8 @@ impl Book {
 
 // A shelf for each node, with room for its inputs and picks.
 fn empty_shelves(alloc: Global, graph: &Graph) -> Result<Vec<Shelf>, OutOfMemory>
-    ensures { IfOk result (λ shelves. shelves.items ≡ map (λ n. record { work = no_work; room = room_at graph.now n }) (range_with_len 0 (length graph.now.nodes))) }
+    ensures { IfOk result (λ shelves.
+        shelves.items ≡ map (λ n. record { work = no_work; room = room_at graph.now n }) (range_with_len 0 (length graph.now.nodes))) }
 {
     let mut shelves = Vec::with_capacity(alloc, graph.len() as usize)?;
     for node in 0..graph.len() {

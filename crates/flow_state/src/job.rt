@@ -183,7 +183,8 @@ fn select_all(selectors: &[Selector], gathered: &[(u32, Value)]) -> FoundList
     requires can { AllByRecursion CanSelect selectors.now }
     requires few { AllByRecursion (λ s. length s.inputs ≤ INPUTS) selectors.now }
     requires count { length selectors.now ≤ SELECTORS }
-    ensures { result ≡ map found_as (map (λ s. select (run_over s.script s.inputs (read_from gathered.now) (values.Fault Kind)) s.candidates) selectors.now) }
+    ensures { result ≡ map found_as
+        (map (λ s. select (run_over s.script s.inputs (read_from gathered.now) (values.Fault Kind)) s.candidates) selectors.now) }
 {
     let mut found = FoundList::new();
     for selector in selectors {

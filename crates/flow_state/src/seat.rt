@@ -54,9 +54,27 @@ impl Model for Seat {
 
     ghost Value = { Seated };
 
-    ghost view = { λ s. record { call = record { caller = s.caller; version = s.version; slot = s.slot; executing = s.executing; call = s.call; sets = s.sets.items; looks = s.looks.items; wanted = s.wanted.nodes; open_nodes = s.open_nodes.nodes; changed = s.changed.nodes; evaluated = s.evaluated; looked = s.looked.items }; size = s.wanted.size; room = s.room } };
+    ghost view = { λ s. record {
+      call = record {
+        caller = s.caller;
+        version = s.version;
+        slot = s.slot;
+        executing = s.executing;
+        call = s.call;
+        sets = s.sets.items;
+        looks = s.looks.items;
+        wanted = s.wanted.nodes;
+        open_nodes = s.open_nodes.nodes;
+        changed = s.changed.nodes;
+        evaluated = s.evaluated;
+        looked = s.looked.items;
+      };
+      size = s.wanted.size;
+      room = s.room;
+    } };
 
-    ghost invariant = { λ s. IsSeat s.wanted s.open_nodes s.changed (vec_capacity s.sets) (vec_capacity s.looks) s.looked.items (vec_capacity s.looked) s.room };
+    ghost invariant = { λ s. IsSeat s.wanted s.open_nodes s.changed (vec_capacity s.sets) (vec_capacity s.looks)
+        s.looked.items (vec_capacity s.looked) s.room };
 }
 
 impl Seat {
@@ -166,7 +184,11 @@ impl Seat {
         requires size { self.old.size ≡ length graph.now.nodes }
         requires empty { looked.items ≡ [] }
         requires room { length (looks_of call) ≤ vec_capacity looked }
-        ensures { self.new ≡ record { call = begun_call graph.now caller version self.old.call.slot call; size = self.old.size; room = length (looks_of call) } }
+        ensures { self.new ≡ record {
+          call = begun_call graph.now caller version self.old.call.slot call;
+          size = self.old.size;
+          room = length (looks_of call);
+        } }
     {
         let room = looks_of(&call).len() as u32;
         fill_sets(graph, sets_of(&call), &mut self.sets);

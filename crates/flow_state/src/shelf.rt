@@ -40,7 +40,10 @@ impl Model for Shelf {
 
     ghost Value = { Shelved };
 
-    ghost view = { λ s. record { work = record { gathered = s.gathered.items; found = found_option s.found; body = s.body }; room = s.room } };
+    ghost view = { λ s. record {
+      work = record { gathered = s.gathered.items; found = found_option s.found; body = s.body };
+      room = s.room;
+    } };
 
     ghost invariant = { λ s. (length s.gathered.items ≤ s.room) × (s.room ≤ vec_capacity s.gathered) × AreApart s.gathered.items };
 }

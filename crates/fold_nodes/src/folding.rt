@@ -29,8 +29,10 @@ pub fn fold_acc(list: &NodeList, version: u32) -> Value
 /// The value that was found for a fold stands, and the call has finished there: the step Resolve. It is allowed in a
 /// lawful state of some graph that has this book and, at the node, which is a fold, this list. Takes no memory.
 pub fn resolve_fold(book: &mut Book, list: &mut NodeList, version: u32, node: u32)
-    requires { (graph : Graph) × (kind_of (node_at graph node) ≡ kinds.Fold) × IsListStep graph book.old node list.old (step.Resolve version node) }
-    ensures { (graph : Graph) → kind_of (node_at graph node) ≡ kinds.Fold → MakesList graph book.old node list.old (step.Resolve version node) book.new list.new }
+    requires { (graph : Graph) × (kind_of (node_at graph node) ≡ kinds.Fold)
+        × IsListStep graph book.old node list.old (step.Resolve version node) }
+    ensures { (graph : Graph) → kind_of (node_at graph node) ≡ kinds.Fold
+        → MakesList graph book.old node list.old (step.Resolve version node) book.new list.new }
 {
     let value = given_value(book, node);
     let same = is_same(value, fold_acc(list, version));

@@ -25,4 +25,5 @@ book_begun graph s caller call book = record book { book = book_of (begin graph 
 
 abbrev pub MakesBeginning : Graph → Booked → ℕ → Call → Booked → ℕ → Type 0
 MakesBeginning graph book caller call new version =
-    (s : Core) → IsBookOf graph s book → can_begin graph s caller call ≡ true → (new ≡ book_begun graph s caller call book) × (version ≡ suc s.begun)
+    (s : Core) → IsBookOf graph s book → can_begin graph s caller call ≡ true
+    → (new ≡ book_begun graph s caller call book) × (version ≡ suc s.begun)

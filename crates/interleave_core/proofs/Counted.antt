@@ -125,7 +125,7 @@ one_further m c cs i h is =
     let z : i + 1 ≡ suc i = omega arith in
     let more = take-suc cs i c h ∙ ap (λ (x : ℕ). take i cs ++ x ∷ []) (sym is) in
     or_false (is_in m (take i cs)) (c == m) ∙ sym (list_any-append (λ (k : ℕ). k == m) (take i cs) (c ∷ [])) ∙ ap (is_in m) (sym more)
-        ∙ ap (λ (k : ℕ). is_in m (take k cs)) (sym z)
+    ∙ ap (λ (k : ℕ). is_in m (take k cs)) (sym z)
   where
     or_false : (x y : Bool) → (x || y) ≡ (x || (y || false))
     or_false true y = refl
@@ -138,8 +138,8 @@ selector_further m s ss i h is =
     let z : i + 1 ≡ suc i = omega arith in
     let more = take-suc ss i s h ∙ ap (λ (x : Selector). take i ss ++ x ∷ []) (sym is) in
     or_false (lists_candidate m (take i ss)) (is_in m s.candidates)
-        ∙ sym (list_any-append (λ (x : Selector). is_in m x.candidates) (take i ss) (s ∷ [])) ∙ ap (lists_candidate m) (sym more)
-        ∙ ap (λ (k : ℕ). lists_candidate m (take k ss)) (sym z)
+    ∙ sym (list_any-append (λ (x : Selector). is_in m x.candidates) (take i ss) (s ∷ [])) ∙ ap (lists_candidate m) (sym more)
+    ∙ ap (λ (k : ℕ). lists_candidate m (take k ss)) (sym z)
   where
     or_false : (x y : Bool) → (x || y) ≡ (x || (y || false))
     or_false true y = refl

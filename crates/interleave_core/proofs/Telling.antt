@@ -44,7 +44,7 @@ tells_more n p q a b c d e f t u = record {
         → e ≡ c + one_if (y && not (d == n + 1)) → e ≡ a + one_if ((x || y) && not (b == n + 1))
     count true true a b c d e g h k =
         let z : one_if (not (d == n + 1)) ≡ 0 = ap (λ (d : ℕ). one_if (not (d == n + 1))) h
-            ∙ ap (λ (x : Bool). one_if (not x)) (marked n) in
+        ∙ ap (λ (x : Bool). one_if (not x)) (marked n) in
         omega (arith, g, k, z)
     count true false a b c d e g h k = omega (arith, g, k)
     count false true a b c d e g h k = let z : one_if (not (d == n + 1)) ≡ one_if (not (b == n + 1)) = ap (λ (d : ℕ). one_if (not (d == n + 1))) h in omega (arith, g, k, z)

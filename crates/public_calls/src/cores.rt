@@ -11,9 +11,11 @@ use std::test::Fail;
 const TWO_FIRES: &[u8] = b"source a = 0\nsignal b = a + 1\nthread\nfire a=1\nthread\nfire a=2\n";
 
 // Where thread 1 has fired, and thread 2 has changed `y`, thread 1 comes to pick `y`.
-const LATE_PICK: &[u8] = b"source s = 0\nsource x = 10\nsource y = 20\nsignal j = s + y\nchoose d = s among x, y\nsignal k = d + 1\nthread\nfire s=1 look k\nthread\nfire y=21 look k\n";
+const LATE_PICK: &[u8] =
+    b"source s = 0\nsource x = 10\nsource y = 20\nsignal j = s + y\nchoose d = s among x, y\nsignal k = d + 1\nthread\nfire s=1 look k\nthread\nfire y=21 look k\n";
 
 const A: u32 = 0;
+
 const B: u32 = 1;
 
 // The first call of each thread; the second thread has one too.
@@ -87,14 +89,38 @@ fn at_the_source(alloc: Global, core: &mut Core, scripts: Scripts) -> Result<(),
     let (first, second) = first_calls(scripts)?;
     begin(alloc, core, 1, first)?;
     begin(alloc, core, 2, second)?;
-    make(core, Step::Frame { version: 1, node: A })?;
-    make(core, Step::Frame { version: 2, node: A })
+    make(
+        core,
+        Step::Frame {
+            version: 1,
+            node: A,
+        },
+    )?;
+    make(
+        core,
+        Step::Frame {
+            version: 2,
+            node: A,
+        },
+    )
 }
 
 // The second call frames the signal first, and the first call starts.
 fn at_the_signal(core: &mut Core) -> Result<(), Fail> {
-    make(core, Step::Frame { version: 2, node: B })?;
-    make(core, Step::Frame { version: 1, node: B })?;
+    make(
+        core,
+        Step::Frame {
+            version: 2,
+            node: B,
+        },
+    )?;
+    make(
+        core,
+        Step::Frame {
+            version: 1,
+            node: B,
+        },
+    )?;
     make(core, Step::Start { version: 1 })
 }
 

@@ -28,4 +28,7 @@ worked_value w None = found_value w
 worked_value w (Some body) = value_or w.body
 
 abbrev pub new_value : Graph → Booked → ℕ → ℕ → Value
-new_value graph book t n = elim (is_source (node_at graph n)) [ true ↦ set_value n (Faulty NoChoice) (call_in book t).sets | false ↦ worked_value (work_at book n) (body_of (node_at graph n)) ]
+new_value graph book t n = elim (is_source (node_at graph n)) [
+  | true ↦ set_value n (Faulty NoChoice) (call_in book t).sets
+  | false ↦ worked_value (work_at book n) (body_of (node_at graph n))
+]

@@ -22,4 +22,4 @@ returns c =
     let some = some_length c.args.list.now.entries c.requires.done in
     let len = c.len.ensures in
     c.value_for.ensures
-        ∙ ap (λ (es : List Entry). value_of (state_of (last_done es))) (last_is c.args.list.now.entries _ c.get-last.result.now c.requires.unique (omega (arith, some, len)) c.get-last.ensures).all
+    ∙ ap (λ (es : List Entry). value_of (state_of (last_done es))) (last_is c.args.list.now.entries _ c.get-last.result.now c.requires.unique (omega (arith, some, len)) c.get-last.ensures).all

@@ -29,4 +29,4 @@ returns c =
     let h = c.loop-node-test.false in
     let far = c.loop-node.auto.node-end in
     c.loop-node.invariant
-        ∙ ap (map (bare_list c.args.graph.now c.args.callers)) (ap (range_with_len 0) (omega (arith, e, h, far)) ∙ sym (numbers_are c.args.graph.now))
+    ∙ ap (map (bare_list c.args.graph.now c.args.callers)) (ap (range_with_len 0) (omega (arith, e, h, far)) ∙ sym (numbers_are c.args.graph.now))

@@ -11,12 +11,12 @@ pub allowed-requires : goal.allowed-requires
 allowed-requires c =
     let m = c.self.inside in
     subst (λ (ls : List Versions). rules.IsWhole m.graph.now m.book (list_at ls) (length ls)) (sym c.as_slice.ensures.value)
-        (some_whole m.graph.now m.book m.lists.items c.self.invariant)
+    (some_whole m.graph.now m.book m.lists.items c.self.invariant)
 
 pub returns : goal.returns
 returns c =
     let m = c.self.inside in
     c.allowed.ensures.allowed (state_of m.book.book m.lists.items)
-        (subst (λ (ls : List Versions). rules.IsWholeOf m.graph.now (state_of m.book.book m.lists.items) m.book (list_at ls) (length ls))
-            (sym c.as_slice.ensures.value) (whole_of_lists m.graph.now m.book m.lists.items c.self.invariant))
+    (subst (λ (ls : List Versions). rules.IsWholeOf m.graph.now (state_of m.book.book m.lists.items) m.book (list_at ls) (length ls))
+    (sym c.as_slice.ensures.value) (whole_of_lists m.graph.now m.book m.lists.items c.self.invariant))
     ∙ ap (λ (w : Whole). allowed w.graph w.state c.args.step) c.self.view_is

@@ -26,4 +26,4 @@ returns-clause-version c =
     let m = c.self.inside in
     let can = can_begin_here m.graph.now m.book m.lists.items c.args.caller c.args.call c.args.self.now c.self.view_is c.requires.can in
     (c.begin.ensures (state_of m.book.book m.lists.items) (fits m.graph.now m.book m.lists.items c.self.invariant) can).1
-        ∙ ap (λ (w : Whole). suc w.state.begun) c.self.view_is
+    ∙ ap (λ (w : Whole). suc w.state.begun) c.self.view_is

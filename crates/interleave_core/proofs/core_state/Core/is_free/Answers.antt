@@ -9,5 +9,5 @@ returns c =
     let m = c.self.inside in
     let some = c.if-caller-eq0.false in
     free-is (state_of m.book.book m.lists.items) c.args.caller c.live_call.result c.is_none.result (omega (arith, some))
-        (subst (λ (k : ℕ). c.args.caller ≤ k) c.callers.ensures c.if-callers-caller.false) c.live_call.ensures c.is_none.ensures
+    (subst (λ (k : ℕ). c.args.caller ≤ k) c.callers.ensures c.if-callers-caller.false) c.live_call.ensures c.is_none.ensures
     ∙ ap (λ (w : Whole). is_free w.state c.args.caller) c.self.view_is

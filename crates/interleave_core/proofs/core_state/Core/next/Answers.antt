@@ -13,27 +13,26 @@ pub next-requires-clause-whole : goal.next-requires-clause-whole
 next-requires-clause-whole c =
     let m = c.self.inside in
     subst (λ (ls : List Versions). rules.IsWhole m.graph.now m.book (list_at ls) (length ls)) (sym c.as_slice.ensures.value)
-        (some_whole m.graph.now m.book m.lists.items c.self.invariant)
+    (some_whole m.graph.now m.book m.lists.items c.self.invariant)
 
 pub next-requires-clause-live : goal.next-requires-clause-live
 next-requires-clause-live c = ap (λ (w : Whole). live w.state c.args.version) c.self.view_is ∙ c.requires
-
 
 pub returns-clause-step : goal.returns-clause-step
 returns-clause-step c =
     let m = c.self.inside in
     let s = state_of m.book.book m.lists.items in
     let turn = c.next.ensures.turn s
-            (subst (λ (ls : List Versions). rules.IsWholeOf m.graph.now s m.book (list_at ls) (length ls))
-                (sym c.as_slice.ensures.value) (whole_of_lists m.graph.now m.book m.lists.items c.self.invariant)) in
+    (subst (λ (ls : List Versions). rules.IsWholeOf m.graph.now s m.book (list_at ls) (length ls))
+    (sym c.as_slice.ensures.value) (whole_of_lists m.graph.now m.book m.lists.items c.self.invariant)) in
     let lives = ap (λ (w : Whole). live w.state c.args.version) c.self.view_is ∙ c.requires in
     λ step e. ap (λ (w : Whole). allowed w.graph w.state step) (sym c.self.view_is)
-        ∙ c.next_is_allowed.ensures m.graph.now c.self.invariant.is_graph s c.self.invariant.lawful c.args.version lives step (sym turn ∙ e)
+    ∙ c.next_is_allowed.ensures m.graph.now c.self.invariant.is_graph s c.self.invariant.lawful c.args.version lives step (sym turn ∙ e)
 
 pub returns-clause-turn : goal.returns-clause-turn
 returns-clause-turn c =
     let m = c.self.inside in
     c.next.ensures.turn (state_of m.book.book m.lists.items)
-        (subst (λ (ls : List Versions). rules.IsWholeOf m.graph.now (state_of m.book.book m.lists.items) m.book (list_at ls) (length ls))
-            (sym c.as_slice.ensures.value) (whole_of_lists m.graph.now m.book m.lists.items c.self.invariant))
+    (subst (λ (ls : List Versions). rules.IsWholeOf m.graph.now (state_of m.book.book m.lists.items) m.book (list_at ls) (length ls))
+    (sym c.as_slice.ensures.value) (whole_of_lists m.graph.now m.book m.lists.items c.self.invariant))
     ∙ ap (λ (w : Whole). next w.graph w.state c.args.version) c.self.view_is
