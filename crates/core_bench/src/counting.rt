@@ -1,6 +1,6 @@
 // How many steps of each kind were made.
 
-use flow_model::step::Step;
+use flow_model::Step;
 
 /// The kinds of steps, by their names.
 pub const KINDS: [&str; 14] = [

@@ -1,7 +1,7 @@
 // The calls of threads, in turns.
 
 use crate::counting::Counts;
-use flow_model::step::{Step, Turn};
+use flow_model::{Step, Turn};
 use interleave_core::Core;
 use script_tree::limits::{THREADS, VERSIONS};
 use signal_graph::call::{Call, Scripts};
