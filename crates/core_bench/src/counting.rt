@@ -1,5 +1,7 @@
 // How many steps of each kind were made.
 
+ghost use Rattle.std.specs.Prelude.{◌<◌};
+
 use flow_model::Step;
 
 /// The kinds of steps, by their names.

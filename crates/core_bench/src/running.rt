@@ -69,8 +69,8 @@ impl<'g> Running<'g> {
     // One turn of each thread. Answers whether anything was done.
     fn round(&mut self, alloc: Global) -> Option<bool> {
         let mut any = false;
-        for thread in 0..self.left.len() as u32 {
-            if self.turn(alloc, thread + 1)? {
+        for thread in 0..self.core.book().callers() {
+            if self.turn(alloc, thread.saturating_add(1))? {
                 any = true;
             }
         }
@@ -79,6 +79,9 @@ impl<'g> Running<'g> {
 
     // A live call makes its next step, or ends.
     fn go_on(&mut self, version: u32) -> bool {
+        if !self.core.live(version) {
+            return false;
+        }
         match self.core.next(version) {
             Turn::Step(step) => {
                 self.counts.step(step);

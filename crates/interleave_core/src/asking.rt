@@ -1,6 +1,7 @@
 // Whose call is live, and whether a call may begin.
 
 ghost use Rattle.std.specs.Prelude.{◌≡◌};
+ghost use Rattle.flow_model.specs.Machine.State.{live};
 ghost use Rattle.flow_model.specs.Machine.Schedules.{version_of};
 ghost use Rattle.flow_model.specs.Machine.Steps.{can_begin};
 ghost use Rattle.interleave_core.specs.Beginning.{is_free, is_within};
@@ -15,6 +16,13 @@ impl Core<'_> {
         ensures { result ≡ version_of caller self.now.state.calls }
     {
         self.book.live_call(caller)
+    }
+
+    /// Whether the version is of a live call.
+    pub fn live(&self, version: u32) -> bool
+        ensures { result ≡ live self.now.state version }
+    {
+        self.book.live(version)
     }
 
     /// Whether a call of a caller may begin: it is one of the callers and has no live call, the call is within the limits and names

@@ -47,7 +47,7 @@ fn make(core: &mut Core, step: Step) -> Result<(), Fail> {
 
 // The next step of a live call, which is made, if there is one.
 fn go_on(core: &mut Core, version: u32) -> Option<Step> {
-    if !core.book().live(version) {
+    if !core.live(version) {
         return None;
     }
     match core.next(version) {
