@@ -1,7 +1,7 @@
 // The record of live calls.
 
 ghost use Rattle.std.specs.Prelude.{◌≡◌, ◌≢◌, ℕ, [], ◌<◌, ◌≤◌, ◌+◌, ◌^◌, true, false, length, map, slice_index, None, IfOk, OnOk, OnErr, slice_get, Some};
-ghost use Rattle.std.specs.List.{range_with_len};
+ghost use Rattle.std.specs.List.{list_any, range_with_len};
 ghost use Rattle.script_tree.specs.declared.limits.TheConstants.{THREADS, VERSIONS, SETS, LOOKS};
 ghost use Rattle.std.specs.Option.{option_copied};
 ghost use Rattle.script_tree.specs.declared.value.Value.TheVariants as values;
@@ -10,7 +10,7 @@ ghost use Rattle.signal_graph.specs.Graph.{is_in};
 ghost use Rattle.signal_graph.specs.Machine.{sets_of, looks_of, misnamed};
 ghost use Rattle.order_graph.specs.Order.{reaches, is_recorded};
 ghost use Rattle.flow_model.specs.Machine.Sets.{least};
-ghost use Rattle.flow_model.specs.Machine.State.{call_of};
+ghost use Rattle.flow_model.specs.Machine.State.{call_of, changes};
 ghost use Rattle.flow_model.specs.Machine.Words.{gathered_of, set_value, presses};
 ghost use Rattle.flow_model.specs.Machine.Changes.{closed};
 ghost use Rattle.flow_model.specs.Machine.Steps.{started, counted, with_look, free_slot, is_framing_before};
@@ -289,6 +289,14 @@ impl Book {
         ensures { result ≡ is_in node (call_in self.now version).changed }
     {
         self.calls.seat(version).changed().contains(node)
+    }
+
+    /// Whether a live call has changed one of some nodes.
+    pub fn any_changed(&self, version: u32, nodes: &[u32]) -> bool
+        requires { live_in self.now version ≡ true }
+        ensures { result ≡ list_any (changes (bare self.now.book) version) nodes.now }
+    {
+        self.calls.seat(version).any_changed(nodes)
     }
 
     /// The least node that a live call wants.

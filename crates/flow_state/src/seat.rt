@@ -1,6 +1,7 @@
 // The seat of a live call.
 
 ghost use Rattle.std.specs.Prelude.{◌≡◌, ◌<◌, ◌≤◌, ◌+◌, ◌^◌, true, false, [], length, slice_get, vec_capacity, None, IfOk};
+ghost use Rattle.std.specs.List.{list_any};
 ghost use Rattle.script_tree.specs.declared.limits.TheConstants.{SETS, LOOKS, NODES};
 ghost use Rattle.script_tree.specs.declared.value.Value.TheVariants as values;
 ghost use Rattle.script_tree.specs.declared.value.Fault.TheVariants.{NoChoice};
@@ -153,6 +154,20 @@ impl Seat {
         ensures size { result.now.size ≡ self.now.size }
     {
         &self.changed
+    }
+
+    /// Whether the call has changed one of some nodes.
+    pub(crate) fn any_changed(&self, nodes: &[u32]) -> bool
+        ensures { result ≡ list_any (λ n. is_in n self.now.call.changed) nodes.now }
+    {
+        nodes.iter().any(|node| self.has_changed(*node))
+    }
+
+    fn has_changed(&self, node: u32) -> bool
+        ensures { result ≡ is_in node self.now.call.changed }
+    {
+        self.changed.is_kept();
+        node < self.changed.size() && self.changed.contains(node)
     }
 
     /// The node that the call looks at next.

@@ -32,12 +32,7 @@ pub(crate) fn any_changed(book: &Book, version: u32, nodes: &[u32]) -> bool
     requires inside { AreBelow (node_count book.now) nodes.now }
     ensures { result ≡ list_any (changes (bare book.now.book) version) nodes.now }
 {
-    for node in nodes {
-        if book.changes(version, *node) {
-            return true;
-        }
-    }
-    false
+    book.any_changed(version, nodes)
 }
 
 /// The first of some nodes whose value is not gathered for a node.
@@ -45,20 +40,23 @@ pub(crate) fn first_ungathered(book: &Book, node: u32, inputs: &[u32]) -> Option
     requires { node < node_count book.now }
     ensures { result ≡ find (λ m. not (is_gathered (bare book.now.book) node m)) inputs.now }
 {
+    // Values are gathered in this order, so each is looked for where it comes first.
+    let mut place = 0u32;
     for input in inputs {
-        if !is_gathered(book, node, *input) {
+        if !is_gathered(book, node, place, *input) {
             return Some(*input);
         }
+        place = place.saturating_add(1);
     }
     None
 }
 
-// Whether the value of an input is gathered for a node.
-fn is_gathered(book: &Book, node: u32, input: u32) -> bool
+// Whether the value of an input is gathered for a node, looked for at a place first.
+fn is_gathered(book: &Book, node: u32, place: u32, input: u32) -> bool
     requires { node < node_count book.now }
     ensures { result ≡ is_gathered (bare book.now.book) node input }
 {
-    book.gathered(node, input).is_some()
+    book.gathered_near(node, place, input).is_some()
 }
 
 /// The first of the found candidates that a node did not pick before and that has no out-edge of the call to it.
