@@ -14,6 +14,8 @@ pub const KINDS: [&str; 14] = [
 #[derive(Clone, Copy)]
 pub struct Counts {
     pub of_kind: [u64; 14],
+    /// How many turns of live calls made no step, since another call was in the way.
+    pub idle: u64,
 }
 
 // The place of a step's kind.
@@ -39,7 +41,10 @@ fn kind_of(step: Step) -> usize
 
 impl Counts {
     pub fn new() -> Counts {
-        Counts { of_kind: [0; 14] }
+        Counts {
+            of_kind: [0; 14],
+            idle: 0,
+        }
     }
 
     /// One beginning more.
@@ -51,5 +56,10 @@ impl Counts {
     pub fn step(&mut self, step: Step) {
         let kind = kind_of(step);
         self.of_kind[kind] = self.of_kind[kind].saturating_add(1);
+    }
+
+    /// One turn more that made no step.
+    pub fn idle(&mut self) {
+        self.idle = self.idle.saturating_add(1);
     }
 }

@@ -4,7 +4,7 @@
 //! The words are `steps` or `log`, and then numbers of threads, counted from 1: whose turn it is, one after the other. In a
 //! turn a thread begins its next call, or makes the next step of its live one. Behind these turns come rounds of one turn a
 //! thread, until all calls are made. The deck is read from standard input. What is printed is how many steps of each kind
-//! were made, or the log and the final values, a line each.
+//! were made and how many turns made none, or the log and the final values, a line each.
 #![tactic(auto)]
 
 mod counting;

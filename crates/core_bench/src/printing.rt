@@ -82,10 +82,12 @@ fn counted(alloc: Global, counts: &Counts) -> Result<Text, OutOfMemory> {
         )?;
         out.push(b'\n')?;
     }
+    number(&mut out, b"idle ", counts.idle.min(u32::MAX as u64) as u32)?;
+    out.push(b'\n')?;
     Ok(out)
 }
 
-/// How many steps of each kind there were, a line for each. None where there is no memory.
+/// How many steps of each kind there were, a line for each, and how many turns made none. None where there is no memory.
 pub fn steps_text(alloc: Global, counts: &Counts) -> Option<Text> {
     match counted(alloc, counts) {
         Ok(text) => Some(text),

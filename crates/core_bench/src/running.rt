@@ -88,10 +88,14 @@ impl<'g> Running<'g> {
                 self.core.apply(step);
                 true
             }
-            Turn::NotYet(_) => false,
+            Turn::NotYet(_) => {
+                self.counts.idle();
+                false
+            }
             Turn::Ready => {
                 let end = Step::End { version };
                 if !self.core.allowed(end) {
+                    self.counts.idle();
                     return false;
                 }
                 self.counts.step(end);
