@@ -61,7 +61,8 @@ impl Model for Seating {
 
     ghost view = { λ s. live_calls s.callers s.nodes s.seats.items s.live.items s.order };
 
-    ghost invariant = { λ s. IsSeating s.callers s.nodes (vec_capacity s.live) s.seats.items s.live.items s.order s.hints.items s.free s.counts.items };
+    ghost invariant = { λ s. IsSeating s.callers s.nodes (vec_capacity s.live) s.seats.items s.live.items s.order
+        s.hints.items s.free s.counts.items };
 }
 
 impl Seating {
