@@ -8,6 +8,7 @@ pub mod Hints
 pub mod Openings
 pub mod Naming
 pub mod Beginning
+pub mod CountLemmas
 pub mod FreeSlots
 pub mod JobLemmas
 pub mod BookLemmas

@@ -1,5 +1,5 @@
 -- The seats of live calls, and the calls and pairs that they stand for.
-use Rattle.std.specs.Prelude.{◌≡◌, ℕ, ◌<◌, ◌≤◌, Bool, true, false, ◌||◌, ◌&&◌, ◌==◌, List, [], ◌∷◌, ◌++◌, length, map, filter, not, slice_index_or}
+use Rattle.std.specs.Prelude.{◌≡◌, ℕ, ◌+◌, ◌<◌, ◌≤◌, Bool, true, false, ◌||◌, ◌&&◌, ◌==◌, List, [], ◌∷◌, ◌++◌, length, map, filter, not, slice_index_or}
 use Rattle.std.specs.List.{AllByRecursion, list_any}
 use Rattle.signal_graph.specs.Graph.{is_in}
 use Rattle.order_graph.specs.declared.pair.Pair.{Pair}
@@ -141,12 +141,39 @@ pub record IsFree (callers : ℕ) (live : List Tenant) (free : Members) : Type 0
   pub size : free.size ≡ callers
   pub slots : (k : ℕ) → k < callers → is_in k free.nodes ≡ not (has_slot live k)
 
+-- ---- how many seats want a node
+
+-- 1 for true, and 0 for false
+abbrev pub one_if : Bool → ℕ
+one_if true = 1
+one_if false = 0
+
+-- how many seats want the node, free ones too
+abbrev pub wanting_in : ℕ → List Seated → ℕ
+wanting_in n [] = 0
+wanting_in n (seat ∷ seats) = one_if (is_in n seat.call.wanted) + wanting_in n seats
+
+-- a node's count; 0 for a number that no node has
+abbrev pub count_at : List ℕ → ℕ → ℕ
+count_at counts n = slice_index_or counts n 0
+
+-- Each node's count says how many seats want it.
+abbrev pub AreCounts : List ℕ → List Seated → Type 0
+AreCounts counts seats = (n : ℕ) → count_at counts n ≡ wanting_in n seats
+
+-- The counts have changed with what one seat wants: a node that it wanted has lost one, and a node that it wants has got one.
+abbrev pub Follow : List ℕ → List ℕ → List ℕ → List ℕ → Type 0
+Follow counts wanted counts' wanted' = (n : ℕ) → count_at counts' n + one_if (is_in n wanted) ≡ count_at counts n + one_if (is_in n wanted')
+
 -- Seats with hints and free slots. A hint says in which seat a call may sit, by the last bits of its version; it may be wrong.
+-- The counts say how many seats want each node.
 pub record IsSeating (callers nodes capacity : ℕ) (seats : List Seated) (live : List Tenant) (order : Order) (hints : List ℕ)
-    (free : Members) : Type 0 where
+    (free : Members) (counts : List ℕ) : Type 0 where
   pub kept : AreSeats callers nodes capacity seats live order
   pub hint_count : length hints ≡ HINTS
   pub free_kept : IsFree callers live free
+  pub count_each : length counts ≡ nodes
+  pub counted : AreCounts counts seats
 
 -- a free seat
 abbrev pub free_seat : ℕ → ℕ → Seated

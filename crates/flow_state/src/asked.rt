@@ -1,15 +1,10 @@
 // What a call asks for, by node.
 
-ghost use Rattle.std.specs.Prelude.{◌≡◌, ◌<◌, ◌≤◌, length, map, vec_capacity};
-ghost use Rattle.std.specs.List.{AllByRecursion};
+ghost use Rattle.std.specs.Prelude.{◌≡◌, ◌≤◌, length, map, vec_capacity};
 ghost use Rattle.signal_graph.specs.Graph.{number_of};
 ghost use Rattle.signal_graph.specs.Machine.{sets_of, looks_of};
-ghost use Rattle.flow_model.specs.Machine.Sets.{put_all};
-ghost use Rattle.flow_model.specs.Machine.Steps.{nodes_set};
-ghost use Rattle.node_set.specs.Members.{with_nodes};
-ghost use Rattle.flow_state.specs.Booked.{sets_by_node, AreInside};
+ghost use Rattle.flow_state.specs.Booked.{sets_by_node};
 
-use node_set::NodeSet;
 use script_tree::name::Name;
 use script_tree::value::Value;
 use signal_graph::call::Call;
@@ -65,15 +60,5 @@ pub(crate) fn fill_looks(graph: &Graph, looks: &[Name], filled: &mut Vec<u32>)
     filled.clear();
     for name in looks {
         filled.push_reserved(number_of(graph, name));
-    }
-}
-
-// Puts all nodes that are set into a set of nodes.
-pub(crate) fn want_all(sets: &[(u32, Value)], wanted: &mut NodeSet)
-    requires { AreInside wanted.old.size sets.now }
-    ensures { wanted.new ≡ with_nodes wanted.old (put_all (nodes_set sets.now) wanted.old.nodes) }
-{
-    for (node, _) in sets {
-        wanted.insert(*node);
     }
 }

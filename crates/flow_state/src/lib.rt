@@ -9,6 +9,7 @@ pub use room::Room;
 
 mod asked;
 mod book;
+mod counts;
 mod found;
 mod job;
 mod outcome;

@@ -1,6 +1,6 @@
 // The seat of a live call.
 
-ghost use Rattle.std.specs.Prelude.{◌≡◌, ◌<◌, ◌≤◌, ◌+◌, ◌^◌, true, false, [], length, slice_get, vec_capacity, None, IfOk};
+ghost use Rattle.std.specs.Prelude.{◌≡◌, ◌<◌, ◌≤◌, ◌+◌, ◌^◌, ◌&&◌, ℕ, not, true, false, [], length, slice_get, vec_capacity, None, IfOk};
 ghost use Rattle.std.specs.List.{list_any};
 ghost use Rattle.script_tree.specs.declared.limits.TheConstants.{SETS, LOOKS, NODES};
 ghost use Rattle.script_tree.specs.declared.value.Value.TheVariants as values;
@@ -15,10 +15,12 @@ ghost use Rattle.flow_model.specs.Machine.Steps.{started, counted, with_look, lo
 ghost use Rattle.node_set.specs.Members.{first_from};
 ghost use Rattle.flow_state.specs.Booked.{opened_one, wanting, reply_with, begun_call};
 ghost use Rattle.signal_graph.specs.Machine.{sets_of, looks_of, misnamed};
-ghost use Rattle.flow_state.specs.Seats.{Seated, with_seated};
+ghost use Rattle.flow_state.specs.Seats.{Seated, with_seated, one_if, count_at, Follow};
 
-use crate::asked::{fill_looks, fill_sets, looks_of, sets_of, want_all};
+use crate::asked::{fill_looks, fill_sets, looks_of, sets_of};
+use crate::counts::{want_all, want_none};
 use node_set::NodeSet;
+use order_graph::MAX_CALLERS;
 use script_tree::items::Items;
 use script_tree::limits::{LOOKS, SETS};
 use script_tree::memory::OutOfMemory;
@@ -184,7 +186,8 @@ impl Seat {
         last_set(self.sets.as_slice(), node)
     }
 
-    /// A call begins. It names what it has to in this graph, and `looked` has room for all its looks.
+    /// A call begins. It names what it has to in this graph, and `looked` has room for all its looks. The counts of nodes
+    /// change with what the seat wants.
     pub(crate) fn begin(
         &mut self,
         graph: &Graph,
@@ -192,6 +195,7 @@ impl Seat {
         caller: u32,
         call: Call,
         looked: Vec<Value>,
+        counts: &mut [u32],
     )
         requires named { misnamed graph.now call ≡ None }
         requires sets { length (sets_of call) ≤ SETS }
@@ -199,19 +203,24 @@ impl Seat {
         requires size { self.old.size ≡ length graph.now.nodes }
         requires empty { looked.items ≡ [] }
         requires room { length (looks_of call) ≤ vec_capacity looked }
-        ensures { self.new ≡ record {
+        requires count_each { length counts.old ≡ self.old.size }
+        requires counted { (n : ℕ) → one_if (is_in n self.old.call.wanted) ≤ count_at counts.old n }
+        requires few { (n : ℕ) → count_at counts.old n ≤ MAX_CALLERS }
+        ensures seat { self.new ≡ record {
           call = begun_call graph.now caller version self.old.call.slot call;
           size = self.old.size;
           room = length (looks_of call);
         } }
+        ensures count_each { length counts.new ≡ length counts.old }
+        ensures counts { Follow counts.old self.old.call.wanted counts.new self.new.call.wanted }
     {
         let room = looks_of(&call).len() as u32;
         fill_sets(graph, sets_of(&call), &mut self.sets);
         fill_looks(graph, looks_of(&call), &mut self.looks);
-        self.wanted.clear();
+        want_none(&mut self.wanted, counts);
         self.open_nodes.clear();
         self.changed.clear();
-        want_all(self.sets.as_slice(), &mut self.wanted);
+        want_all(self.sets.as_slice(), &mut self.wanted, counts);
         self.version = version;
         self.caller = caller;
         self.executing = self.sets.is_empty();
@@ -227,6 +236,7 @@ impl Seat {
         ensures version { self.new.call.version ≡ 0 }
         ensures slot { self.new.call.slot ≡ self.old.call.slot }
         ensures size { self.new.size ≡ self.old.size }
+        ensures wanted { self.new.call.wanted ≡ self.old.call.wanted }
     {
         let alloc = *self.looks.allocator();
         let empty = Call::Read {
@@ -247,24 +257,26 @@ impl Seat {
         }
     }
 
-    /// Opens a node that was wanted.
-    pub(crate) fn open(&mut self, node: u32)
+    /// Opens a node that was wanted. Answers whether it was.
+    pub(crate) fn open(&mut self, node: u32) -> bool
         requires { node < self.old.size }
-        ensures { self.new ≡ with_seated self.old (opened_one node self.old.call) }
+        ensures seat { self.new ≡ with_seated self.old (opened_one node self.old.call) }
+        ensures was_wanted { result ≡ is_in node self.old.call.wanted }
     {
-        self.wanted.remove(node);
         self.open_nodes.insert(node);
+        self.wanted.remove(node)
     }
 
-    /// Wants a node, unless it is open.
-    pub(crate) fn want(&mut self, node: u32)
+    /// Wants a node, unless it is open. Answers whether it was not wanted before, and is now.
+    pub(crate) fn want(&mut self, node: u32) -> bool
         requires { node < self.old.size }
-        ensures { self.new ≡ with_seated self.old (wanting node self.old.call) }
+        ensures seat { self.new ≡ with_seated self.old (wanting node self.old.call) }
+        ensures is_new { result ≡ (not (is_in node self.old.call.open_nodes) && not (is_in node self.old.call.wanted)) }
     {
         if self.open_nodes.contains(node) {
-            return;
+            return false;
         }
-        self.wanted.insert(node);
+        self.wanted.insert(node)
     }
 
     /// Closes an open node, changed or not.

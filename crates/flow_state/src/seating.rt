@@ -13,6 +13,7 @@ ghost use Rattle.flow_state.specs.Booked.{opened_one, wanting, begun_call};
 ghost use Rattle.signal_graph.specs.Machine.{sets_of, looks_of, misnamed};
 ghost use Rattle.flow_state.specs.Seats.{find_call, has_call, on_live, stops_live, presses_live, pressed_live, before_live, framing_before_live, LeadsToLive, with_pairs, one_call_more, slot_in, has_version, AreAscending, free_seat, no_calls, left_calls, without_tenant};
 
+use crate::counts::{is_unwanted, lower, raise};
 use crate::seat::Seat;
 use node_set::NodeSet;
 use order_graph::{MAX_CALLERS, OrderGraph};
@@ -39,6 +40,7 @@ pub(crate) struct Tenant {
 /// takes memory. `free` has the slots that no call has.
 ///
 /// Hints tell by a version's last bits in which seat its call may sit, so that most calls are found without a walk.
+/// `counts` has for each node how many seats want it, so that most nodes are told to be wanted by none in one read.
 #[derive(Drop)]
 pub(crate) struct Seating {
     callers: u32,
@@ -48,6 +50,7 @@ pub(crate) struct Seating {
     order: OrderGraph,
     hints: Vec<u16>,
     free: NodeSet,
+    counts: Vec<u32>,
 }
 
 impl Model for Seating {
@@ -58,7 +61,8 @@ impl Model for Seating {
 
     ghost view = { λ s. live_calls s.callers s.nodes s.seats.items s.live.items s.order };
 
-    ghost invariant = { λ s. IsSeating s.callers s.nodes (vec_capacity s.live) s.seats.items s.live.items s.order s.hints.items s.free };
+    ghost invariant = { λ s. IsSeating s.callers s.nodes (vec_capacity s.live) s.seats.items s.live.items s.order
+        s.hints.items s.free s.counts.items };
 }
 
 impl Seating {
@@ -74,6 +78,7 @@ impl Seating {
         let order = OrderGraph::new(alloc, callers)?;
         let hints = vec![in alloc; 0; HINTS]?;
         let free = all_slots(alloc, callers)?;
+        let counts = vec![in alloc; 0; nodes as usize]?;
         Ok(Seating {
             callers,
             nodes,
@@ -82,6 +87,7 @@ impl Seating {
             order,
             hints,
             free,
+            counts,
         })
     }
 
@@ -201,7 +207,8 @@ impl Seating {
     {
         let slot = self.free_slot();
         self.live.push_reserved(Tenant { version, slot });
-        self.seats[slot as usize].begin(graph, version, caller, call, looked);
+        let counts = self.counts.as_mut_slice();
+        self.seats[slot as usize].begin(graph, version, caller, call, looked, counts);
         self.hints[version as usize % HINTS] = slot as u16;
         self.free.remove(slot);
     }
@@ -213,7 +220,8 @@ impl Seating {
         ensures { self.new ≡ on_live self.old version (opened_one node) }
     {
         let slot = self.slot_of(version);
-        self.seats[slot as usize].open(node);
+        let was_wanted = self.seats[slot as usize].open(node);
+        lower(self.counts.as_mut_slice(), node, was_wanted);
     }
 
     /// The call wants a node, unless it is open for it.
@@ -223,7 +231,8 @@ impl Seating {
         ensures { self.new ≡ on_live self.old version (wanting node) }
     {
         let slot = self.slot_of(version);
-        self.seats[slot as usize].want(node);
+        let is_new = self.seats[slot as usize].want(node);
+        raise(self.counts.as_mut_slice(), node, is_new);
     }
 
     /// Closes an open node, changed or not.
@@ -360,6 +369,9 @@ impl Seating {
         requires live { has_call self.now version ≡ true }
         ensures { result ≡ pressed_live self.now version node }
     {
+        if is_unwanted(self.counts.as_slice(), node) {
+            return false;
+        }
         for index in 0..self.live.len() {
             let tenant = self.live[index];
             let seat = &self.seats[tenant.slot as usize];
@@ -375,6 +387,9 @@ impl Seating {
         requires live { has_call self.now version ≡ true }
         ensures { result ≡ least_version (presses_live self.now version node) self.now.calls }
     {
+        if is_unwanted(self.counts.as_slice(), node) {
+            return None;
+        }
         for index in 0..self.live.len() {
             let tenant = self.live[index];
             let seat = &self.seats[tenant.slot as usize];

@@ -7,6 +7,7 @@ use Rattle.flow_state.proofs.SeatLemmas.{slot_read, seat_read, read_call}
 use Rattle.flow_state.proofs.PairLemmas.{slot_fits}
 use Rattle.flow_state.proofs.FreeSlots.{free_given}
 use Rattle.flow_state.proofs.Leaving.{none_before, left_kept, left_seen, left_fewer}
+use Rattle.flow_state.proofs.CountLemmas.{counted_still}
 use Rattle.flow_state.proofs.seating.Seating.end.Goals as goal
 
 pub retire-requires-clause-a_is_slot : goal.retire-requires-clause-a_is_slot
@@ -46,6 +47,8 @@ invariant_of-self c =
       kept = subst (λ (cap : ℕ). P cap c.take_tenant.new.live.items) (sym c.take_tenant.ensures.capacity) (subst (P (vec_capacity s.live)) (sym c.take_tenant.ensures.items) kept);
       hint_count = c.self.invariant.hint_count;
       free_kept = free_given s.callers s.seats.items s.live.items c.take_tenant.new.live.items c.args.version c.slot_of-slot.result s.free c.insert.new.self (vec_capacity s.live) s.nodes s.order c.self.invariant.kept at c.self.invariant.free_kept c.take_tenant.ensures.items c.insert.ensures.nodes;
+      count_each = c.self.invariant.count_each;
+      counted = counted_still s.counts.items s.seats.items c.slot_of-slot.result c.index_mut.result.now c.end.new.self c.self.invariant.counted at.inside (seat_read s.seats.items c.slot_of-slot.result c.index_mut.result.now at.inside c.index_mut.ensures.value) c.end.ensures.wanted;
     }
 
 pub insert-requires : goal.insert-requires

@@ -3,6 +3,7 @@ use Rattle.flow_state.specs.Seats.{Seated, LiveCalls, has_call, presses_live}
 use Rattle.flow_state.proofs.SeatLemmas.{calls-has, seat_read}
 use Rattle.flow_state.proofs.Leaving.{tenant_at}
 use Rattle.flow_state.proofs.Firsts.{first_found, first_more, first_ends}
+use Rattle.flow_state.proofs.CountLemmas.{unwanted_seen, none_pressing}
 use Rattle.flow_state.proofs.seating.Seating.first_pressing.Goals as goal
 
 pub index-seat-requires : goal.index-seat-requires
@@ -61,3 +62,9 @@ loop-index-preserved c =
 
 pub returns : goal.returns
 returns c = first_ends (presses_live c.args.self.now c.args.version c.args.node) c.self.inside.seats.items c.self.inside.live.items c.loop-index.index _ (let len = c.len-index-end.ensures in omega (arith, len)) c.loop-index.invariant
+
+pub returns-then-is_unwanted : goal.returns-then-is_unwanted
+returns-then-is_unwanted c =
+    let s = c.self.inside in
+    sym (none_pressing c.args.self.now c.args.version c.args.node
+    (unwanted_seen s.callers s.nodes s.seats.items s.live.items s.order s.counts.items c.as_slice.result.now c.args.node c.is_unwanted.result c.args.self.now c.self.invariant.counted c.self.view_is c.as_slice.ensures.value c.is_unwanted.ensures c.if-is_unwanted.true))

@@ -36,7 +36,7 @@ invariant_of-self c =
     let s = c.self.inside in
     let a = slot_read s.callers s.nodes (vec_capacity s.live) s.seats.items s.live.items s.order c.args.before c.slot_of-first.result c.args.self.now c.self.invariant.kept c.self.view_is c.requires.before c.slot_of-first.ensures in
     let b = slot_read s.callers s.nodes (vec_capacity s.live) s.seats.items s.live.items s.order c.args.after c.slot_of-second.result c.args.self.now c.self.invariant.kept c.self.view_is c.requires.after c.slot_of-second.ensures in
-    record { kept = link_kept s.callers s.nodes (vec_capacity s.live) s.seats.items s.live.items s.order c.link.new.self c.args.before c.args.after c.slot_of-first.result c.slot_of-second.result c.args.node c.self.invariant.kept a b c.link.ensures.callers c.link.ensures.pairs; hint_count = c.self.invariant.hint_count; free_kept = c.self.invariant.free_kept }
+    record { kept = link_kept s.callers s.nodes (vec_capacity s.live) s.seats.items s.live.items s.order c.link.new.self c.args.before c.args.after c.slot_of-first.result c.slot_of-second.result c.args.node c.self.invariant.kept a b c.link.ensures.callers c.link.ensures.pairs; hint_count = c.self.invariant.hint_count; free_kept = c.self.invariant.free_kept; count_each = c.self.invariant.count_each; counted = c.self.invariant.counted }
 
 pub returns : goal.returns
 returns c =

@@ -1,7 +1,9 @@
-use Rattle.std.proofs.Common.{refl, arith}
+use Rattle.std.proofs.Common.{refl, arith, ap}
 use Rattle.std.specs.Vec.{vec_capacity}
 use Rattle.flow_model.specs.Machine.Steps.{started}
-use Rattle.flow_state.proofs.SeatLemmas.{slot_read, changed_kept, changed_seen}
+use Rattle.flow_state.specs.Seats.{Seated}
+use Rattle.flow_state.proofs.SeatLemmas.{slot_read, seat_read, changed_kept, changed_seen}
+use Rattle.flow_state.proofs.CountLemmas.{counted_still}
 use Rattle.flow_state.proofs.seating.Seating.start.Goals as goal
 
 pub index_mut-requires : goal.index_mut-requires
@@ -13,7 +15,8 @@ index_mut-requires c =
 pub invariant_of-self : goal.invariant_of-self
 invariant_of-self c =
     let at = slot_read c.self.inside.callers c.self.inside.nodes (vec_capacity c.self.inside.live) c.self.inside.seats.items c.self.inside.live.items c.self.inside.order c.args.version c.slot_of-slot.result c.args.self.now c.self.invariant.kept c.self.view_is c.requires c.slot_of-slot.ensures in
-    record { kept = changed_kept c.self.inside.callers c.self.inside.nodes (vec_capacity c.self.inside.live) c.self.inside.seats.items c.self.inside.live.items c.self.inside.order c.args.version c.slot_of-slot.result c.index_mut.result.now c.start.new.self started (record { version = λ _. refl; slot = λ _. refl; looks = λ _. refl }) c.self.invariant.kept at c.index_mut.ensures.value c.start.ensures; hint_count = c.self.invariant.hint_count; free_kept = c.self.invariant.free_kept }
+    let read = seat_read c.self.inside.seats.items c.slot_of-slot.result c.index_mut.result.now at.inside c.index_mut.ensures.value in
+    record { kept = changed_kept c.self.inside.callers c.self.inside.nodes (vec_capacity c.self.inside.live) c.self.inside.seats.items c.self.inside.live.items c.self.inside.order c.args.version c.slot_of-slot.result c.index_mut.result.now c.start.new.self started (record { version = λ _. refl; slot = λ _. refl; looks = λ _. refl }) c.self.invariant.kept at c.index_mut.ensures.value c.start.ensures; hint_count = c.self.invariant.hint_count; free_kept = c.self.invariant.free_kept; count_each = c.self.invariant.count_each; counted = counted_still c.self.inside.counts.items c.self.inside.seats.items c.slot_of-slot.result c.index_mut.result.now c.start.new.self c.self.invariant.counted at.inside read (ap (λ (s : Seated). s.call.wanted) c.start.ensures) }
 
 pub returns : goal.returns
 returns c =

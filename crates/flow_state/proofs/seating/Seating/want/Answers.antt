@@ -1,7 +1,9 @@
-use Rattle.std.proofs.Common.{refl, arith}
+use Rattle.std.proofs.Common.{List, ℕ, length, subst, refl, arith, ap, ◌∙◌}
 use Rattle.std.specs.Vec.{vec_capacity}
 use Rattle.flow_state.specs.Booked.{wanting}
-use Rattle.flow_state.proofs.SeatLemmas.{slot_read, read_size, changed_kept, changed_seen}
+use Rattle.flow_state.specs.Seats.{Seated, count_at, Follow}
+use Rattle.flow_state.proofs.SeatLemmas.{slot_read, seat_read, read_size, changed_kept, changed_seen}
+use Rattle.flow_state.proofs.CountLemmas.{counts_few, few_if, counts_back, wanting_follow}
 use Rattle.flow_state.proofs.seating.Seating.want.Goals as goal
 
 pub index_mut-requires : goal.index_mut-requires
@@ -10,18 +12,31 @@ index_mut-requires c =
     let inside = at.inside in
     omega (arith, inside)
 
-pub want-requires : goal.want-requires
-want-requires c =
+pub want-is_new-requires : goal.want-is_new-requires
+want-is_new-requires c =
     let at = slot_read c.self.inside.callers c.self.inside.nodes (vec_capacity c.self.inside.live) c.self.inside.seats.items c.self.inside.live.items c.self.inside.order c.args.version c.slot_of-slot.result c.args.self.now c.self.invariant.kept c.self.view_is c.requires.live c.slot_of-slot.ensures in
     let size = read_size c.self.inside.callers c.self.inside.nodes (vec_capacity c.self.inside.live) c.self.inside.seats.items c.self.inside.live.items c.self.inside.order c.slot_of-slot.result c.index_mut.result.now c.args.self.now c.self.invariant.kept c.self.view_is at.inside c.index_mut.ensures.value in
     let node = c.requires.node in
     omega (arith, size, node)
 
+pub raise-requires-clause-few : goal.raise-requires-clause-few
+raise-requires-clause-few c =
+    let lent = ap (λ (cs : List ℕ). count_at cs c.args.node) c.as_mut_slice.ensures.value in
+    let count = c.self.invariant.kept.count in
+    let few_callers = c.self.invariant.kept.few in
+    let few = counts_few c.self.inside.counts.items c.self.inside.seats.items c.self.invariant.counted (omega (arith, count, few_callers)) c.args.node in
+    let one = few_if c.want-is_new.result in
+    omega (arith, few, one, lent)
+
 pub invariant_of-self : goal.invariant_of-self
 invariant_of-self c =
     let at = slot_read c.self.inside.callers c.self.inside.nodes (vec_capacity c.self.inside.live) c.self.inside.seats.items c.self.inside.live.items c.self.inside.order c.args.version c.slot_of-slot.result c.args.self.now c.self.invariant.kept c.self.view_is c.requires.live c.slot_of-slot.ensures in
-    record { kept = changed_kept c.self.inside.callers c.self.inside.nodes (vec_capacity c.self.inside.live) c.self.inside.seats.items c.self.inside.live.items c.self.inside.order c.args.version c.slot_of-slot.result c.index_mut.result.now c.want.new.self (wanting c.args.node) (record { version = λ _. refl; slot = λ _. refl; looks = λ _. refl }) c.self.invariant.kept at c.index_mut.ensures.value c.want.ensures; hint_count = c.self.invariant.hint_count; free_kept = c.self.invariant.free_kept }
+    let read = seat_read c.self.inside.seats.items c.slot_of-slot.result c.index_mut.result.now at.inside c.index_mut.ensures.value in
+    let follow = wanting_follow c.as_mut_slice.result.now c.raise.new.counts c.args.node c.index_mut.result.now c.want-is_new.new.self c.want-is_new.result (ap (λ (s : Seated). s.call) c.want-is_new.ensures.seat) c.want-is_new.ensures.is_new c.raise.ensures.counts in
+    let back = counts_back c.self.inside.counts.len c.self.inside.nodes c.self.inside.counts.items c.raise.new.counts c.self.inside.seats.items c.slot_of-slot.result c.index_mut.result.now c.want-is_new.new.self c.self.invariant.count_each c.self.invariant.counted (omega arith) (c.raise.ensures.size ∙ ap length c.as_mut_slice.ensures.value) at.inside read
+    (subst (λ (cs : List ℕ). Follow cs c.index_mut.result.now.call.wanted c.raise.new.counts c.want-is_new.new.self.call.wanted) c.as_mut_slice.ensures.value follow) in
+    record { kept = changed_kept c.self.inside.callers c.self.inside.nodes (vec_capacity c.self.inside.live) c.self.inside.seats.items c.self.inside.live.items c.self.inside.order c.args.version c.slot_of-slot.result c.index_mut.result.now c.want-is_new.new.self (wanting c.args.node) (record { version = λ _. refl; slot = λ _. refl; looks = λ _. refl }) c.self.invariant.kept at c.index_mut.ensures.value c.want-is_new.ensures.seat; hint_count = c.self.invariant.hint_count; free_kept = c.self.invariant.free_kept; count_each = back.0; counted = back.1 }
 
 pub returns : goal.returns
 returns c =
-    changed_seen c.self.inside.callers c.self.inside.nodes (vec_capacity c.self.inside.live) c.self.inside.seats.items c.self.inside.live.items c.self.inside.order c.args.version c.slot_of-slot.result c.index_mut.result.now c.want.new.self (wanting c.args.node) c.args.self.now (record { version = λ _. refl; slot = λ _. refl; looks = λ _. refl }) c.self.invariant.kept c.self.view_is c.requires.live c.slot_of-slot.ensures c.index_mut.ensures.value c.want.ensures
+    changed_seen c.self.inside.callers c.self.inside.nodes (vec_capacity c.self.inside.live) c.self.inside.seats.items c.self.inside.live.items c.self.inside.order c.args.version c.slot_of-slot.result c.index_mut.result.now c.want-is_new.new.self (wanting c.args.node) c.args.self.now (record { version = λ _. refl; slot = λ _. refl; looks = λ _. refl }) c.self.invariant.kept c.self.view_is c.requires.live c.slot_of-slot.ensures c.index_mut.ensures.value c.want-is_new.ensures.seat
