@@ -2,32 +2,11 @@
 
 ghost use Rattle.std.specs.Prelude.{◌≡◌, ◌≤◌, length, map, vec_capacity};
 ghost use Rattle.signal_graph.specs.Graph.{number_of};
-ghost use Rattle.signal_graph.specs.Machine.{sets_of, looks_of};
 ghost use Rattle.flow_state.specs.Booked.{sets_by_node};
 
 use script_tree::name::Name;
 use script_tree::value::Value;
-use signal_graph::call::Call;
 use signal_graph::graph::Graph;
-
-// What a call sets, and what it looks at.
-pub(crate) fn sets_of(call: &Call) -> &[(Name, Value)]
-    ensures { result.now ≡ sets_of call.now }
-{
-    match call {
-        Call::Fire { sets, .. } => sets.as_slice(),
-        Call::Read { .. } => &[],
-    }
-}
-
-pub(crate) fn looks_of(call: &Call) -> &[Name]
-    ensures { result.now ≡ looks_of call.now }
-{
-    match call {
-        Call::Fire { looks, .. } => looks.as_slice(),
-        Call::Read { looks } => looks.as_slice(),
-    }
-}
 
 // The number of the node with a name, or how many nodes there are.
 fn number_of(graph: &Graph, name: &Name) -> u32

@@ -101,7 +101,7 @@ impl Book {
         let Some(rooms) = self.rooms.checked_add(1) else {
             return Err(OutOfMemory);
         };
-        let looks = looks_len(call);
+        let looks = call.looks().len() as u32;
         let looked = Vec::with_capacity(alloc, looks as usize)?;
         if self.spare == 0 {
             self.log.reserve_one()?;
@@ -567,15 +567,4 @@ fn empty_shelves(alloc: Global, graph: &Graph) -> Result<Vec<Shelf>, OutOfMemory
         shelves.push(shelf)?;
     }
     Ok(shelves)
-}
-
-// How many looks a call has.
-fn looks_len(call: &Call) -> u32
-    requires { length (looks_of call.now) ≤ LOOKS }
-    ensures { result ≡ length (looks_of call.now) }
-{
-    match call {
-        Call::Fire { looks, .. } => looks.len() as u32,
-        Call::Read { looks } => looks.len() as u32,
-    }
 }

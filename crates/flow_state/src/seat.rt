@@ -17,7 +17,7 @@ ghost use Rattle.flow_state.specs.Booked.{opened_one, wanting, reply_with, begun
 ghost use Rattle.signal_graph.specs.Machine.{sets_of, looks_of, misnamed};
 ghost use Rattle.flow_state.specs.Seats.{Seated, with_seated, one_if, count_at, Follow};
 
-use crate::asked::{fill_looks, fill_sets, looks_of, sets_of};
+use crate::asked::{fill_looks, fill_sets};
 use crate::counts::{want_all, want_none};
 use node_set::NodeSet;
 use order_graph::MAX_CALLERS;
@@ -214,9 +214,9 @@ impl Seat {
         ensures count_each { length counts.new ≡ length counts.old }
         ensures counts { Follow counts.old self.old.call.wanted counts.new self.new.call.wanted }
     {
-        let room = looks_of(&call).len() as u32;
-        fill_sets(graph, sets_of(&call), &mut self.sets);
-        fill_looks(graph, looks_of(&call), &mut self.looks);
+        let room = call.looks().len() as u32;
+        fill_sets(graph, call.sets(), &mut self.sets);
+        fill_looks(graph, call.looks(), &mut self.looks);
         want_none(&mut self.wanted, counts);
         self.open_nodes.clear();
         self.changed.clear();

@@ -9,5 +9,5 @@ pub want_all-requires-clause-inside : goal.want_all-requires-clause-inside
 want_all-requires-clause-inside c =
     let graph = c.args.graph.now in
     let size = ap (λ (m : Members). m.size) c.want_none.ensures.wanted ∙ ap (λ (s : Seated). s.size) c.self.view_is ∙ c.requires.size in
-    let sets = c.as_slice.ensures.value ∙ c.fill_sets.ensures.items ∙ ap (sets_by_node graph) c.sets_of.ensures in
+    let sets = c.as_slice.ensures.value ∙ c.fill_sets.ensures.items ∙ ap (sets_by_node graph) c.sets.ensures in
     subst (λ (n : ℕ). AreInside n c.as_slice.result.now) (sym size) (subst (AreInside (length graph.nodes)) (sym sets) (named_inside graph c.args.call c.requires.named))
