@@ -3,6 +3,7 @@
 use deck_text::read_deck;
 use flow_model::{Step, Turn};
 use interleave_core::Core;
+use node_versions::NodeList;
 use signal_graph::call::{Call, Scripts};
 use signal_graph::graph::Graph;
 use std::alloc::Global;
@@ -13,6 +14,9 @@ const TWO_FIRES: &[u8] = b"source a = 0\nsignal b = a + 1\nthread\nfire a=1\nthr
 // Where thread 1 has fired, and thread 2 has changed `y`, thread 1 comes to pick `y`.
 const LATE_PICK: &[u8] =
     b"source s = 0\nsource x = 10\nsource y = 20\nsignal j = s + y\nchoose d = s among x, y\nsignal k = d + 1\nthread\nfire s=1 look k\nthread\nfire y=21 look k\n";
+
+// Two chooses pick `x`; a fire has the first one pick `y`.
+const TWO_CHOOSES: &[u8] = b"source s = 0\nsource q = 0\nsource x = 10\nsource y = 20\nchoose d = s among x, y\nchoose e = q among x, y\nthread\nfire s=1 look d\nthread\nfire s=0 look d\n";
 
 const A: u32 = 0;
 
@@ -72,6 +76,25 @@ fn is_discover(step: Step) -> bool {
     }
 }
 
+fn is_drop(step: Step) -> bool {
+    match step {
+        Step::Drop { .. } => true,
+        _ => false,
+    }
+}
+
+// Makes the steps of a call up to its first Drop. Answers whether there was one.
+fn go_on_to_drop(core: &mut Core, version: u32) -> bool {
+    for _ in 0..100 {
+        match go_on(core, version) {
+            Some(step) if is_drop(step) => return true,
+            Some(_) => {}
+            None => return false,
+        }
+    }
+    false
+}
+
 // Makes the steps of a call up to its first Discover. Answers whether there was one.
 fn go_on_to_discover(core: &mut Core, version: u32) -> bool {
     for _ in 0..100 {
@@ -82,6 +105,38 @@ fn go_on_to_discover(core: &mut Core, version: u32) -> bool {
         }
     }
     false
+}
+
+fn are_versions(list: &NodeList, versions: &[u32]) -> bool {
+    if list.len() as usize != versions.len() {
+        return false;
+    }
+    for index in 0..list.len() {
+        if list.get(index).version != versions[index as usize] {
+            return false;
+        }
+    }
+    true
+}
+
+// Whether the list of a node has entries of these versions, in this order.
+fn has_versions(core: &Core, node: u32, versions: &[u32]) -> bool {
+    if node >= core.book().nodes() {
+        return false;
+    }
+    are_versions(core.list(node), versions)
+}
+
+fn is_one_out(list: &NodeList, chooser: u32, since: u32) -> bool {
+    list.outs_len() == 1 && list.out(0) == (chooser, since)
+}
+
+// Whether the node has this out-edge, and no other.
+fn has_one_out(core: &Core, node: u32, chooser: u32, since: u32) -> bool {
+    if node >= core.book().nodes() {
+        return false;
+    }
+    is_one_out(core.list(node), chooser, since)
 }
 
 // Both calls have begun and have a Frame at the source, the first one first.
@@ -132,11 +187,12 @@ fn stands_before(core: &Core, before: u32, after: u32) -> bool {
 fn meet(alloc: Global, graph: &Graph, scripts: Scripts) -> Result<bool, Fail> {
     let mut core = Core::new(alloc, graph, 2, 10)?;
     at_the_source(alloc, &mut core, scripts)?;
-    if !stands_before(&core, 1, 2) || core.allowed(Step::Start { version: 2 }) {
+    let met = has_versions(&core, A, [0, 1, 2].as_slice()) && stands_before(&core, 1, 2);
+    if !met || core.allowed(Step::Start { version: 2 }) {
         return Ok(false);
     }
     at_the_signal(&mut core)?;
-    Ok(core.allowed(Step::Start { version: 2 }))
+    Ok(has_versions(&core, B, [0, 1, 2].as_slice()) && core.allowed(Step::Start { version: 2 }))
 }
 
 // A call that comes behind another at the source comes behind it at the signal too, though it was there first, and starts
@@ -178,5 +234,21 @@ fn picks_late(alloc: Global, graph: &Graph, scripts: Scripts) -> Result<bool, Fa
 fn a_later_call_comes_to_want_what_picks_its_node(rt: HostRuntime) -> Result<(), Fail> {
     let (graph, scripts) = read_deck(rt.alloc(), LATE_PICK)?.into_parts();
     assert!(rt; picks_late(rt.alloc(), &graph, scripts)?);
+    Ok(())
+}
+
+// The first choose drops its out-edge at `x`, and that of the second one stays.
+fn drops_one(alloc: Global, graph: &Graph, scripts: Scripts) -> Result<bool, Fail> {
+    let mut core = Core::new(alloc, graph, 2, 10)?;
+    let (first, _) = first_calls(scripts)?;
+    begin(alloc, &mut core, 1, first)?;
+    let dropped = go_on_to_drop(&mut core, 1);
+    Ok(dropped && has_one_out(&core, 2, 5, 0))
+}
+
+#[test]
+fn a_drop_takes_one_edge(rt: HostRuntime) -> Result<(), Fail> {
+    let (graph, scripts) = read_deck(rt.alloc(), TWO_CHOOSES)?.into_parts();
+    assert!(rt; drops_one(rt.alloc(), &graph, scripts)?);
     Ok(())
 }
