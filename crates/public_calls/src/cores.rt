@@ -16,7 +16,8 @@ const LATE_PICK: &[u8] =
     b"source s = 0\nsource x = 10\nsource y = 20\nsignal j = s + y\nchoose d = s among x, y\nsignal k = d + 1\nthread\nfire s=1 look k\nthread\nfire y=21 look k\n";
 
 // Two chooses pick `x`; a fire has the first one pick `y`.
-const TWO_CHOOSES: &[u8] = b"source s = 0\nsource q = 0\nsource x = 10\nsource y = 20\nchoose d = s among x, y\nchoose e = q among x, y\nthread\nfire s=1 look d\nthread\nfire s=0 look d\n";
+const TWO_CHOOSES: &[u8] =
+    b"source s = 0\nsource q = 0\nsource x = 10\nsource y = 20\nchoose d = s among x, y\nchoose e = q among x, y\nthread\nfire s=1 look d\nthread\nfire s=0 look d\n";
 
 const A: u32 = 0;
 
