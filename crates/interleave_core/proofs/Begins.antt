@@ -16,7 +16,7 @@ use Rattle.flow_state.specs.Rooms.{Roomy}
 use Rattle.framing.specs.Begins.{book_begun, IsBeginning}
 use Rattle.interleave_core.specs.Whole.{Whole, cells_of, state_of, whole_of, HaveRooms, IsWhole}
 use Rattle.interleave_core.specs.Opening.{start_list, opened_core}
-use Rattle.interleave_core.specs.Rooms.{after_beginning}
+use Rattle.interleave_core.specs.Rooms.{IsRoomFor, after_beginning}
 use Rattle.interleave_core.proofs.Fits.{works-back, fits, all_nodes}
 
 -- ---- before any call
@@ -94,11 +94,15 @@ pub works_nodes : (graph : Graph) (book : Booked) (lists : List Versions) → Is
     → length book.book.works ≡ length graph.nodes
 works_nodes graph book lists kept = sym kept.many ∙ all_nodes graph book lists kept
 
-pub room_is : (result : Result Roomy OutOfMemory) (looks nodes size : ℕ)
-    → IfOk result (λ room. room ≡ record { looks = looks; nodes = nodes }) → nodes ≡ size
-    → IfOk result (λ room. room ≡ record { looks = looks; nodes = size })
-room_is (Ok room) looks nodes size h e = h ∙ ap (λ (n : ℕ). record { looks = looks; nodes = n }) e
-room_is (Err f) looks nodes size h e = h
+pub room_for : (room : Roomy) (graph : Graph) (call : Call) (nodes : ℕ) → room ≡ record { looks = length (looks_of call); nodes = nodes }
+    → nodes ≡ length graph.nodes → IsRoomFor graph call room
+room_for room graph call nodes h e = record { looks = ap (λ (r : Roomy). r.looks) h; nodes = ap (λ (r : Roomy). r.nodes) h ∙ e }
+
+pub room_is : (result : Result Roomy OutOfMemory) (graph : Graph) (call : Call) (nodes : ℕ)
+    → IfOk result (λ room. room ≡ record { looks = length (looks_of call); nodes = nodes }) → nodes ≡ length graph.nodes
+    → IfOk result (IsRoomFor graph call)
+room_is (Ok room) graph call nodes h e = room_for room graph call nodes h e
+room_is (Err f) graph call nodes h e = h
 
 pub can_begin_here : (graph : Graph) (book : Booked) (lists : List Versions) (caller : ℕ) (call : Call) (seen : Whole)
     → whole_of graph book lists ≡ seen → can_begin seen.graph seen.state caller call ≡ true
@@ -107,13 +111,13 @@ can_begin_here graph book lists caller call seen view can = ap (λ (w : Whole). 
 
 pub is_beginning : (graph : Graph) (book : Booked) (lists : List Versions) (caller : ℕ) (call : Call) (room : Roomy) (seen : Whole)
     → IsWhole graph book lists → whole_of graph book lists ≡ seen → can_begin seen.graph seen.state caller call ≡ true
-    → room.looks ≡ length (looks_of call) → room.nodes ≡ length seen.graph.nodes → 0 < seen.rooms → IsBeginning graph book caller call room
-is_beginning graph book lists caller call room seen kept view can looks nodes out = record {
+    → IsRoomFor seen.graph call room → 0 < seen.rooms → IsBeginning graph book caller call room
+is_beginning graph book lists caller call room seen kept view can made out = record {
   state = state_of book.book lists;
   fits = fits graph book lists kept;
   allowed = can_begin_here graph book lists caller call seen view can;
-  looks = looks;
-  nodes = nodes ∙ sym (ap (λ (w : Whole). length w.graph.nodes) view);
+  looks = made.looks;
+  nodes = made.nodes ∙ sym (ap (λ (w : Whole). length w.graph.nodes) view);
   out = subst (λ (w : Whole). 0 < w.rooms) (sym view) out;
 }
 

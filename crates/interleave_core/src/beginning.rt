@@ -1,14 +1,16 @@
 // A core begins, and calls begin in it.
 
-ghost use Rattle.std.specs.Prelude.{◌≡◌, ◌<◌, ◌≤◌, suc, true, length, IfOk, OnOk, OnErr};
-ghost use Rattle.script_tree.specs.declared.limits.TheConstants.{THREADS, VERSIONS, LOOKS};
-ghost use Rattle.signal_graph.specs.Machine.{looks_of};
+ghost use Rattle.std.specs.Prelude.{◌≡◌, ◌<◌, ◌≤◌, suc, true, length, None, IfOk, IfErr, OnOk, OnErr};
+ghost use Rattle.script_tree.specs.declared.limits.TheConstants.{THREADS, VERSIONS, SETS, LOOKS};
+ghost use Rattle.signal_graph.specs.Machine.{sets_of, looks_of, misnamed};
 ghost use Rattle.flow_model.specs.Machine.Steps.{can_begin};
+ghost use Rattle.interleave_core.specs.Beginning.{AllCanBegin, refused_in, why_of};
 ghost use Rattle.interleave_core.specs.Opening.{opened_core};
-ghost use Rattle.interleave_core.specs.Rooms.{one_room_more, one_room_less, after_beginning};
+ghost use Rattle.interleave_core.specs.Rooms.{IsRoomFor, one_room_more, one_room_less, after_beginning};
 
 use crate::core_state::Core;
 use crate::opening::opening_lists;
+use crate::refusal::Refusal;
 use flow_model::laws::{lawful_stays, opening_is_lawful};
 use flow_state::{Book, Room};
 use framing::begin;
@@ -45,13 +47,39 @@ impl<'g> Core<'g> {
 }
 
 impl Core<'_> {
-    /// Takes all memory that a call will need. The room has to be spent by the call's beginning, or given back. Where there is no
-    /// memory the core is as it was.
+    /// Whether a call may begin now, and if so the room that it will need. It is refused for the first of its names that is unknown
+    /// or not of a source, else for the limit of versions, else for want of memory. It takes all memory that the call will need.
+    /// Nothing is said of its caller: each caller without a live call may begin it. Where it is refused the core is as it was.
+    pub fn admit(&mut self, alloc: Global, call: &Call) -> Result<Room, Refusal>
+        requires sets { length (sets_of call.now) ≤ SETS }
+        requires looks { length (looks_of call.now) ≤ LOOKS }
+        ensures ok { OnOk result (self.new ≡ one_room_more self.old) }
+        ensures err { OnErr result (self.new ≡ self.old) }
+        ensures room { IfOk result (IsRoomFor self.old.graph call.now) }
+        ensures fits { OnOk result (refused_in self.old.graph self.old.state call.now ≡ None) }
+        ensures begins { OnOk result (AllCanBegin self.old.graph self.old.state call.now) }
+        ensures why { IfErr result (λ refusal. why_of refusal ≡ refused_in self.old.graph self.old.state call.now) }
+    {
+        if let Some(place) = call.misnamed(self.graph) {
+            return Err(Refusal::UnknownName(place));
+        }
+        let limit = self.book.limit();
+        if self.book.begun() >= limit {
+            return Err(Refusal::VersionsUsedUp(limit));
+        }
+        let Ok(room) = self.book.make_room(alloc, call) else {
+            return Err(Refusal::Memory);
+        };
+        Ok(room)
+    }
+
+    /// Takes all memory that a call will need, which names in this graph what it has to. The room has to be spent by the call's
+    /// beginning, or given back. Where there is no memory the core is as it was.
     pub fn make_room(&mut self, alloc: Global, call: &Call) -> Result<Room, OutOfMemory>
         requires { length (looks_of call.now) ≤ LOOKS }
         ensures ok { OnOk result (self.new ≡ one_room_more self.old) }
         ensures err { OnErr result (self.new ≡ self.old) }
-        ensures room { IfOk result (λ room. room ≡ record { looks = length (looks_of call.now); nodes = length self.old.graph.nodes }) }
+        ensures room { misnamed self.old.graph call.now ≡ None → IfOk result (IsRoomFor self.old.graph call.now) }
     {
         self.book.make_room(alloc, call)
     }
@@ -64,12 +92,11 @@ impl Core<'_> {
         self.book.give_back(room);
     }
 
-    /// A call of a caller begins, in a room that was made for its looks and this graph. It has the next version, which is the
-    /// answer, and the least free slot. Takes no memory.
+    /// A call of a caller begins, in a room that was made for it. It has the next version, which is the answer, and the least free
+    /// slot. Takes no memory.
     pub fn begin(&mut self, caller: u32, call: Call, room: Room) -> u32
         requires can { can_begin self.old.graph self.old.state caller call ≡ true }
-        requires looks { room.looks ≡ length (looks_of call) }
-        requires nodes { room.nodes ≡ length self.old.graph.nodes }
+        requires room { IsRoomFor self.old.graph call room }
         requires rooms { 0 < self.old.rooms }
         ensures state { self.new ≡ after_beginning self.old caller call }
         ensures version { result ≡ suc self.old.state.begun }

@@ -2,6 +2,7 @@
 #![tactic(auto)]
 
 pub use core_state::Core;
+pub use refusal::Refusal;
 
 mod answering;
 mod asking;
@@ -12,6 +13,7 @@ mod ending;
 pub mod laws;
 mod opening;
 mod parts;
+mod refusal;
 mod rules;
 mod steps;
 mod turns;

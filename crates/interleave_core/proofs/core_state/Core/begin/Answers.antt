@@ -7,7 +7,7 @@ use Rattle.interleave_core.proofs.core_state.Core.begin.Goals as goal
 pub begin-requires : goal.begin-requires
 begin-requires c =
     let m = c.self.inside in
-    is_beginning m.graph.now m.book m.lists.items c.args.caller c.args.call c.args.room c.args.self.now c.self.invariant c.self.view_is c.requires.can c.requires.looks c.requires.nodes c.requires.rooms
+    is_beginning m.graph.now m.book m.lists.items c.args.caller c.args.call c.args.room c.args.self.now c.self.invariant c.self.view_is c.requires.can c.requires.room c.requires.rooms
 
 pub invariant_of-self : goal.invariant_of-self
 invariant_of-self c =
