@@ -298,13 +298,15 @@ pub record SetsAreSets (s : Core) : Type 0 where
   pub open_nodes : (u : ℕ) → IsSet (call s u).open_nodes
   pub changed : (u : ℕ) → IsSet (call s u).changed
 
--- What a live call sets and looks at by node is what it names, and it names sources and nodes, within the limits.
+-- What a live call sets and looks at by node is what it names, and it names sources and nodes, within the limits. A call that sets
+-- nothing executes.
 pub record IsCallRight (graph : Graph) (c : LiveCall) : Type 0 where
   pub well_named : misnamed graph c.call ≡ None
   pub sets : c.sets ≡ sets_in graph c.call
   pub looks : c.looks ≡ looks_in graph c.call
   pub few_sets : length c.sets ≤ SETS
   pub few_looks : length c.looks ≤ LOOKS
+  pub executing : c.sets ≡ [] → c.executing ≡ true
 
 -- No live call has taken more looks than it asks for.
 abbrev pub LooksAreFew : Core → Type 0
