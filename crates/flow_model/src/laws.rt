@@ -13,7 +13,7 @@ ghost use Rattle.signal_graph.specs.Graph.{Graph, IsGraph};
 ghost use Rattle.signal_graph.specs.Values.{val, picks};
 ghost use Rattle.signal_graph.specs.Legal.{Legal, state_after, finals};
 ghost use Rattle.flow_model.specs.Machine.State.{Core, precedes, opening, entries, ended, call, call_of, live, executes};
-ghost use Rattle.flow_model.specs.Machine.Words.{has_room, found_now, body_now};
+ghost use Rattle.flow_model.specs.Machine.Words.{has_room, list_room, found_now, body_now};
 ghost use Rattle.flow_model.specs.Machine.Order.{IsBefore};
 ghost use Rattle.flow_model.specs.declared.step.Step.{Step};
 ghost use Rattle.flow_model.specs.declared.step.Step.TheVariants as Steps;
@@ -189,10 +189,10 @@ pub fn histories_are_bounded()
 pub fn moves_are_bounded()
     ensures moves { (graph : Graph) → IsGraph graph → (s : Core) → IsLawful graph s → (moves : List Move)
         → may_all graph s moves ≡ true
-        → length moves ≤ (length s.calls + count_begins moves) * (140 * length graph.nodes + 200) + length graph.nodes * (s.callers + 9) }
+        → length moves ≤ (length s.calls + count_begins moves) * (140 * length graph.nodes + 200) + length graph.nodes * list_room s.callers }
     ensures alone { (graph : Graph) → IsGraph graph → (s : Core) → IsLawful graph s → (t : ℕ) (steps : List Step)
         → AreNext graph t s steps
-        → length steps ≤ length s.calls * (140 * length graph.nodes + 200) + length graph.nodes * (s.callers + 9) }
+        → length steps ≤ length s.calls * (140 * length graph.nodes + 200) + length graph.nodes * list_room s.callers }
 {
     signal_graph::laws::inputs_are_few();
     lawful_stays();
