@@ -1,5 +1,5 @@
 -- The points of what comes next, over the lists that are asked.
-use Rattle.std.specs.Prelude.{ℕ, ◌<◌, ◌≡◌, Bool, true, false, not, ◌&&◌, nat_lt, List, [], ◌∷◌, ◌++◌, length, Option, Some, None, find}
+use Rattle.std.specs.Prelude.{ℕ, Bool, true, false, not, ◌&&◌, nat_lt, List, [], ◌∷◌, ◌++◌, length, Option, Some, None, find}
 use Rattle.signal_graph.specs.Graph.{Graph, node_at, is_in, inputs_of}
 use Rattle.signal_graph.specs.Values.{nodes_in}
 use Rattle.node_versions.specs.declared.entry.Entry.{Entry}
@@ -107,7 +107,3 @@ open_given graph book t n picked given = elim given [
   | true ↦ find (opens (bare book.book) t) (inputs_of (node_at graph n) ++ picked)
   | false ↦ None
 ]
-
--- All numbers of a list are below this one.
-abbrev pub AreBelow : ℕ → List ℕ → Type 0
-AreBelow count ns = (m : ℕ) → is_in m ns ≡ true → m < count
