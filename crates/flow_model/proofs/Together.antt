@@ -4,3 +4,4 @@ pub mod Points
 pub mod WorkIsAllowed
 pub mod NextIsAllowed
 pub mod NeverStuck
+pub mod WhyNotEnded

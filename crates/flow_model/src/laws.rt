@@ -2,7 +2,7 @@
 //! is always a next step, and not without end; what calls find again after moves of others; and what schedules make of scripts. The
 //! functions do nothing when they run.
 
-ghost use Rattle.std.specs.Prelude.{◌≡◌, ◌≢◌, ℕ, ◌+◌, ◌*◌, ◌<◌, ◌≤◌, ◌⊎◌, List, [], ◌∷◌, ◌++◌, length, Some, true, false, IsTrue, ◌↔◌};
+ghost use Rattle.std.specs.Prelude.{◌≡◌, ◌≢◌, ℕ, ◌+◌, ◌*◌, ◌<◌, ◌≤◌, ◌⊎◌, List, [], ◌∷◌, ◌++◌, length, Some, is_none, ◌&&◌, true, false, IsTrue, ◌↔◌};
 ghost use Rattle.std.specs.List.{AllByRecursion};
 ghost use Rattle.node_versions.specs.Entries.{ended_len, last_done, state_of, picks_of};
 ghost use Rattle.script_tree.specs.declared.value.Value.{Value};
@@ -12,14 +12,14 @@ ghost use Rattle.signal_graph.specs.declared.call.Call.{Call};
 ghost use Rattle.signal_graph.specs.Graph.{Graph, IsGraph};
 ghost use Rattle.signal_graph.specs.Values.{val, picks};
 ghost use Rattle.signal_graph.specs.Legal.{Legal, state_after, finals};
-ghost use Rattle.flow_model.specs.Machine.State.{Core, precedes, opening, entries, ended, call, call_of, live};
-ghost use Rattle.flow_model.specs.Machine.Words.{has_room, found_now, body_now};
+ghost use Rattle.flow_model.specs.Machine.State.{Core, precedes, opening, entries, ended, call, call_of, live, executes};
+ghost use Rattle.flow_model.specs.Machine.Words.{has_room, list_room, found_now, body_now};
 ghost use Rattle.flow_model.specs.Machine.Order.{IsBefore};
 ghost use Rattle.flow_model.specs.declared.step.Step.{Step};
 ghost use Rattle.flow_model.specs.declared.step.Step.TheVariants as Steps;
 ghost use Rattle.flow_model.specs.declared.step.Turn.TheVariants as Turn;
 ghost use Rattle.flow_model.specs.Machine.Keys.{version_of_step};
-ghost use Rattle.flow_model.specs.Machine.Next.{next, next_at};
+ghost use Rattle.flow_model.specs.Machine.Next.{next, next_at, why_not_ended};
 ghost use Rattle.flow_model.specs.Machine.Steps.{allowed, apply, can_begin, begin, has_call};
 ghost use Rattle.flow_model.specs.Kept.Lawful.{IsLawful};
 ghost use Rattle.flow_model.specs.Machine.Histories.{Move, Make, may, after_move, after_moves, may_all, state, is_history, last_values, HasGathered, HasEvaluated};
@@ -148,6 +148,15 @@ pub fn never_stuck()
         → (u : ℕ) × (live s u ≡ true) × ((v : ℕ) → live s v ≡ true → precedes s v u ≡ false) }
 {}
 
+/// In a lawful state a live call can end exactly where nothing is named that keeps it from its end. A call that frames can't: it
+/// sets something and has finished nowhere, so it has a node that it wants or one that is open.
+pub fn causes_are_exact()
+    ensures lawful { (graph : Graph) (s : Core) → IsLawful graph s → (t : ℕ) → live s t ≡ true
+        → allowed graph s (Steps.End t) ≡ is_none (why_not_ended s t) }
+    ensures executing { (graph : Graph) (s : Core) (t : ℕ)
+        → allowed graph s (Steps.End t) ≡ (executes s t && is_none (why_not_ended s t)) }
+{}
+
 /// In a lawful state some of a full list, one with nine entries more than there are callers, can be collected, and Collect leaves at
 /// most one entry more than there are callers. So an entry can always be made room for.
 pub fn full_lists_are_collected()
@@ -180,10 +189,10 @@ pub fn histories_are_bounded()
 pub fn moves_are_bounded()
     ensures moves { (graph : Graph) → IsGraph graph → (s : Core) → IsLawful graph s → (moves : List Move)
         → may_all graph s moves ≡ true
-        → length moves ≤ (length s.calls + count_begins moves) * (140 * length graph.nodes + 200) + length graph.nodes * (s.callers + 9) }
+        → length moves ≤ (length s.calls + count_begins moves) * (140 * length graph.nodes + 200) + length graph.nodes * list_room s.callers }
     ensures alone { (graph : Graph) → IsGraph graph → (s : Core) → IsLawful graph s → (t : ℕ) (steps : List Step)
         → AreNext graph t s steps
-        → length steps ≤ length s.calls * (140 * length graph.nodes + 200) + length graph.nodes * (s.callers + 9) }
+        → length steps ≤ length s.calls * (140 * length graph.nodes + 200) + length graph.nodes * list_room s.callers }
 {
     signal_graph::laws::inputs_are_few();
     lawful_stays();

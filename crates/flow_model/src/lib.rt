@@ -2,8 +2,10 @@
 //! that they reach keeps.
 #![tactic(auto)]
 
+pub use limits::SPARE_ENTRIES;
 pub use step::{Cause, Step, Turn};
 
 pub mod laws;
+mod limits;
 mod step;
 pub mod stored_laws;

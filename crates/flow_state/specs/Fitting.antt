@@ -1,9 +1,10 @@
 -- Lawful states that a book, and lists, are of: what a step may rely on, and what it makes.
-use Rattle.std.specs.Prelude.{◌≡◌, ℕ, ◌+◌, true, length, filter}
+use Rattle.std.specs.Prelude.{◌≡◌, ℕ, true, length, filter}
 use Rattle.signal_graph.specs.Graph.{Graph, IsGraph, node_at, numbers, selectors_of}
 use Rattle.node_versions.specs.Entries.{Versions}
 use Rattle.flow_model.specs.declared.step.Step.{Step}
 use Rattle.flow_model.specs.Machine.State.{Core, entries, outs}
+use Rattle.flow_model.specs.Machine.Words.{list_room}
 use Rattle.flow_model.specs.Machine.Steps.{allowed, apply}
 use Rattle.flow_model.specs.Kept.Lawful.{IsLawful, lists_candidate}
 use Rattle.flow_state.specs.Booked.{Booked, rooms_for, with_book}
@@ -15,7 +16,7 @@ choosers graph m = length (filter (λ n. lists_candidate m (selectors_of (node_a
 
 -- the list of a node in a state
 abbrev pub list_of : Graph → Core → ℕ → Versions
-list_of graph s n = record { entries = entries s n; outs = outs s n; room = s.callers + 9; outs_room = choosers graph n }
+list_of graph s n = record { entries = entries s n; outs = outs s n; room = list_room s.callers; outs_room = choosers graph n }
 
 -- The state is a lawful one of the graph, and the book is its.
 pub record IsBookOf (graph : Graph) (s : Core) (book : Booked) : Type 0 where

@@ -4,6 +4,7 @@ use Rattle.signal_graph.specs.Graph.{Graph, is_in}
 use Rattle.signal_graph.specs.Values.{nodes_in, val, picks, start}
 use Rattle.node_versions.specs.Entries.{Versions, opened, has_out, with_out, with_outs}
 use Rattle.flow_model.specs.Machine.State.{opening, start_entry, start_outs}
+use Rattle.flow_model.specs.Machine.Words.{list_room}
 use Rattle.flow_state.specs.Fitting.{choosers}
 use Rattle.interleave_core.specs.Whole.{Whole}
 
@@ -16,13 +17,13 @@ abbrev pub start_list : Graph → ℕ → ℕ → Versions
 start_list graph callers n = record {
   entries = start_entry graph n ∷ [];
   outs = start_outs graph n;
-  room = callers + 9;
+  room = list_room callers;
   outs_room = choosers graph n;
 }
 
 -- the same without out-edges
 abbrev pub bare_list : Graph → ℕ → ℕ → Versions
-bare_list graph callers n = opened (callers + 9) (choosers graph n) (val graph (start graph) n) (picks graph (start graph) n)
+bare_list graph callers n = opened (list_room callers) (choosers graph n) (val graph (start graph) n) (picks graph (start graph) n)
 
 -- a list with nothing in it
 abbrev pub no_list : Versions

@@ -5,6 +5,7 @@ use Rattle.node_versions.specs.Entries.{Versions}
 use Rattle.flow_model.specs.Machine.State.{Core, Cell}
 use Rattle.flow_model.specs.declared.step.Step.{Step}
 use Rattle.flow_model.specs.declared.step.Step.TheVariants.{Evaluate, Body}
+use Rattle.flow_model.specs.Machine.Words.{list_room}
 use Rattle.flow_model.specs.Machine.Steps.{allowed, apply}
 use Rattle.flow_model.specs.Kept.Lawful.{IsLawful}
 use Rattle.flow_state.specs.Booked.{Booked, rooms_for}
@@ -51,7 +52,7 @@ whole_of graph book lists = record { graph = graph; state = state_of book.book l
 -- the rooms of lists, from the node n on
 abbrev pub HaveRooms : Graph → ℕ → ℕ → List Versions → Type 0
 HaveRooms graph callers n [] = Unit {0}
-HaveRooms graph callers n (l ∷ ls) = (l.room ≡ callers + 9) × (l.outs_room ≡ choosers graph n) × HaveRooms graph callers (n + 1) ls
+HaveRooms graph callers n (l ∷ ls) = (l.room ≡ list_room callers) × (l.outs_room ≡ choosers graph n) × HaveRooms graph callers (n + 1) ls
 
 -- There is a list for each node, all rooms are those of the graph, and the state is a lawful one.
 pub record IsWhole (graph : Graph) (book : Booked) (lists : List Versions) : Type 0 where

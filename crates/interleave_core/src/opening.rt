@@ -7,14 +7,12 @@ ghost use Rattle.signal_graph.specs.Values.{nodes_in};
 ghost use Rattle.interleave_core.specs.Opening.{start_list, bare_list, GainsEdges, CanGain, CanGainAll, CanGainNew, is_at, is_new_pick};
 
 use crate::choosers::count_choosers;
+use flow_model::SPARE_ENTRIES;
 use node_versions::NodeList;
 use script_tree::memory::OutOfMemory;
 use script_tree::picks::Picks;
 use signal_graph::graph::Graph;
 use std::alloc::Global;
-
-// How many entries more than there are callers a list has room for.
-const SPARE_ENTRIES: u32 = 9;
 
 /// The list of each node before any call: the start value and picks as version 0, and an out-edge to each node that picks
 /// it at the start. Takes all memory that the lists will need. Goes over the nodes twice and over all candidates once.

@@ -84,7 +84,7 @@ allowed-nodes graph g s h (steps.Look t) a = refl
 allowed-nodes graph g s h (steps.End t) a = refl
 allowed-nodes graph g s h (steps.Collect n) a = one-node graph n (changed-node graph g s h (steps.Collect n) a n refl)
 
-live-same : (graph : Graph) (s : Core) (book : Booked) (t : ℕ) → IsBookOf graph s book → live_in book t ≡ live s t
+pub live-same : (graph : Graph) (s : Core) (book : Booked) (t : ℕ) → IsBookOf graph s book → live_in book t ≡ live s t
 live-same graph s book t fits = ap (λ (b : Book). live_in (record book { book = b }) t) fits.parts
 
 allowed-live : (graph : Graph) (s : Core) (book : Booked) (step : Step) (o : Option ℕ) → IsBookOf graph s book → version_of_step step ≡ o → allowed graph s step ≡ true → is_of_live book o ≡ true

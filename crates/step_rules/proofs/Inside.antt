@@ -30,7 +30,8 @@ use Rattle.flow_model.proofs.Books.BooksTellNext.{next-same, next_at-same, next-
 use Rattle.flow_state.specs.Booked.{Booked, live_in, call_in, next_look_in, node_count}
 use Rattle.flow_state.specs.Fitting.{list_of}
 use Rattle.step_rules.specs.Fits.{IsWholeOf, listed}
-use Rattle.step_rules.specs.Points.{AreBelow, picked_in, turn_in, turn_at_in}
+use Rattle.step_rules.specs.Points.{picked_in, turn_in, turn_at_in}
+use Rattle.step_rules.specs.Rests.{AreBelow}
 
 least-in : (xs : List ℕ) (n : ℕ) → least xs ≡ Some n → is_in n xs ≡ true
 least-in [] n h = cc

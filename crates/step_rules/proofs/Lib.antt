@@ -7,6 +7,5 @@ mod Seen
 mod Shrinking
 mod Truths
 mod Turns
-mod WhereToEnd
 mod Wholes
 mod Works

@@ -1,5 +1,5 @@
 -- The points of what comes next, over the lists that are asked.
-use Rattle.std.specs.Prelude.{ℕ, ◌+◌, ◌<◌, ◌≡◌, Bool, true, false, not, ◌&&◌, nat_lt, List, [], ◌∷◌, ◌++◌, length, Option, Some, None, find}
+use Rattle.std.specs.Prelude.{ℕ, Bool, true, false, not, ◌&&◌, nat_lt, List, [], ◌∷◌, ◌++◌, length, Option, Some, None, find}
 use Rattle.signal_graph.specs.Graph.{Graph, node_at, is_in, inputs_of}
 use Rattle.signal_graph.specs.Values.{nodes_in}
 use Rattle.node_versions.specs.declared.entry.Entry.{Entry}
@@ -10,6 +10,7 @@ use Rattle.flow_model.specs.declared.step.Cause.TheVariants.{FramingBefore, Inpu
 use Rattle.flow_model.specs.declared.step.Turn.{Turn}
 use Rattle.flow_model.specs.declared.step.Turn.TheVariants as turn
 use Rattle.flow_model.specs.Machine.State.{opens}
+use Rattle.flow_model.specs.Machine.Words.{list_room}
 use Rattle.flow_model.specs.Machine.Steps.{is_framing_before}
 use Rattle.flow_model.specs.Machine.Next.{first_of, when, for_some, least_version, blocked}
 use Rattle.flow_model.specs.Machine.Next.{points_at, to_frame, to_start, next_over, next_at_over}
@@ -25,7 +26,7 @@ outs_in lists n = (lists n).outs
 
 -- a step that enters a list with so many entries; where that is full, some of it is collected first
 abbrev pub entering_list : ℕ → ℕ → ℕ → Step → Turn
-entering_list callers len m step = turn.Step (elim (nat_lt len (callers + 9)) [ true ↦ step | false ↦ Collect m ])
+entering_list callers len m step = turn.Step (elim (nat_lt len (list_room callers)) [ true ↦ step | false ↦ Collect m ])
 
 -- only where a test fails it enters the list
 abbrev pub entering_unless : Bool → ℕ → ℕ → ℕ → Step → Turn
@@ -106,7 +107,3 @@ open_given graph book t n picked given = elim given [
   | true ↦ find (opens (bare book.book) t) (inputs_of (node_at graph n) ++ picked)
   | false ↦ None
 ]
-
--- All numbers of a list are below this one.
-abbrev pub AreBelow : ℕ → List ℕ → Type 0
-AreBelow count ns = (m : ℕ) → is_in m ns ≡ true → m < count

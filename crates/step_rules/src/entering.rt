@@ -7,12 +7,10 @@ ghost use Rattle.flow_model.specs.Parts.Books.{bare};
 ghost use Rattle.flow_state.specs.Booked.{live_in, node_count};
 ghost use Rattle.step_rules.specs.Points.{entering_list, unless_blocked, framing_in, entered_in, reading_in, reading_candidate_in};
 
+use crate::fronts::has_room;
 use crate::lists::{Lists, Sight};
 use flow_model::{Cause, Step, Turn};
 use flow_state::Book;
-
-// How many entries a list may have beyond one for each caller.
-const SPARE_ENTRIES: u64 = 9;
 
 /// To frame a node the call enters its list, unless it has a Mark there.
 pub(crate) fn framing<L: Lists>(book: &Book, lists: &mut L, version: u32, node: u32) -> Turn
@@ -98,7 +96,7 @@ pub(crate) fn reading_candidate<L: Lists>(
 fn entering(book: &Book, sight: Sight, node: u32, step: Step) -> Turn
     ensures { result ≡ entering_list book.now.book.callers sight.len node step }
 {
-    if (sight.len as u64) < book.callers() as u64 + SPARE_ENTRIES {
+    if has_room(book, sight.len) {
         Turn::Step(step)
     } else {
         Turn::Step(Step::Collect { node })

@@ -1,7 +1,7 @@
 // Where a call can work.
 
 ghost use Rattle.std.specs.Prelude.{◌≡◌, ◌<◌, ◌+◌, true, nat_lt};
-ghost use Rattle.flow_model.specs.Machine.Words.{pressed};
+ghost use Rattle.flow_model.specs.Machine.Words.{pressed, list_room};
 ghost use Rattle.flow_model.specs.Parts.Books.{bare, has_room_for_in};
 ghost use Rattle.flow_state.specs.Booked.{live_in, node_count};
 ghost use Rattle.step_rules.specs.Fits.{IsWhole, listed};
@@ -9,12 +9,10 @@ ghost use Rattle.step_rules.specs.Fronts.{is_first, wants_nothing, front_picks, 
 
 use crate::lists::Lists;
 use crate::resting::{is_touched, rests_on_open};
+use flow_model::SPARE_ENTRIES;
 use flow_state::Book;
 use script_tree::picks::Picks;
 use signal_graph::graph::Graph;
-
-// How many entries a list may have beyond one for each caller.
-const SPARE_ENTRIES: u64 = 9;
 
 /// The node's picks before the call, where the call is at the front of the node: it executes, its Frame is the first of
 /// the node's list, and it has finished at all that the node rests on.
@@ -117,9 +115,9 @@ pub(crate) fn has_place<L: Lists>(book: &Book, lists: &mut L, version: u32, node
 
 /// Whether a list with so many entries has room for one more.
 pub(crate) fn has_room(book: &Book, len: u32) -> bool
-    ensures { result ≡ nat_lt len (book.now.book.callers + 9) }
+    ensures { result ≡ nat_lt len (list_room book.now.book.callers) }
 {
-    (len as u64) < book.callers() as u64 + SPARE_ENTRIES
+    (len as u64) < book.callers() as u64 + SPARE_ENTRIES as u64
 }
 
 // Whether the call executes and its Frame is the first of the node's list.

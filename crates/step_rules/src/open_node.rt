@@ -10,7 +10,8 @@ ghost use Rattle.flow_model.specs.Machine.Next.{first_of, other_than};
 ghost use Rattle.flow_model.specs.Parts.Books.{bare};
 ghost use Rattle.flow_state.specs.Booked.{live_in, node_count};
 ghost use Rattle.step_rules.specs.Fits.{IsWhole};
-ghost use Rattle.step_rules.specs.Points.{AreBelow, points_in, picked_in, open_given};
+ghost use Rattle.step_rules.specs.Points.{points_in, picked_in, open_given};
+ghost use Rattle.step_rules.specs.Rests.{AreBelow};
 
 use crate::entering::{entered, framing, reading, reading_candidate};
 use crate::lists::Lists;

@@ -7,7 +7,8 @@ ghost use Rattle.flow_model.specs.Machine.State.{opens, changes};
 ghost use Rattle.flow_model.specs.Machine.Words.{is_gathered};
 ghost use Rattle.flow_model.specs.Parts.Books.{bare};
 ghost use Rattle.flow_state.specs.Booked.{live_in, node_count};
-ghost use Rattle.step_rules.specs.Points.{AreBelow, is_new_in, is_held_in};
+ghost use Rattle.step_rules.specs.Points.{is_new_in, is_held_in};
+ghost use Rattle.step_rules.specs.Rests.{AreBelow};
 
 use crate::lists::Lists;
 use flow_state::Book;

@@ -116,11 +116,11 @@ number-there graph n h = let e : 0 + n ≡ n = omega arith in subst (λ (j : ℕ
 pub input-static : (graph : Graph) (n m : ℕ) → n < length graph.nodes → is_in m (inputs_of (node_at graph n)) ≡ true → is_in n (static_outs graph m) ≡ true
 input-static graph n m h k = in-filter (λ j. is_in m (inputs_of (node_at graph j))) (numbers graph) n (number-there graph n h) k
 
-empty-none : (ns : List ℕ) (n : ℕ) → is_empty ns ≡ true → is_in n ns ≡ false
+pub empty-none : (ns : List ℕ) (n : ℕ) → is_empty ns ≡ true → is_in n ns ≡ false
 empty-none [] n h = refl
 empty-none (x ∷ xs) n h = absurd (true≢false (sym h))
 
-framed-done : (s : Core) (u n : ℕ) → framed s u n ≡ true → at is_frame (entries s n) u ≡ false → at is_done (entries s n) u ≡ true
+pub framed-done : (s : Core) (u n : ℕ) → framed s u n ≡ true → at is_frame (entries s n) u ≡ false → at is_done (entries s n) u ≡ true
 framed-done s u n h k = go (entries s n) h k
   where
     go : (es : List _) → at is_framed_state es u ≡ true → at is_frame es u ≡ false → at is_done es u ≡ true

@@ -7,10 +7,11 @@ use Rattle.signal_graph.specs.declared.call.Call.{Call}
 use Rattle.script_tree.specs.declared.value.Value.{Value}
 use Rattle.signal_graph.specs.Graph.{Graph, number_of, is_in}
 use Rattle.signal_graph.specs.Machine.{misnamed, sets_of, looks_of}
+use Rattle.flow_model.specs.Machine.Lists.{is_empty}
 use Rattle.flow_model.specs.Machine.State.{Core, LiveCall, call, call_of, call_or, live}
 use Rattle.std.specs.List.{list_any}
 use Rattle.call_log.specs.Made.{versions_in}
-use Rattle.flow_model.specs.Machine.Steps.{can_begin, begin, new_call, has_call, uses_slot, free_slot}
+use Rattle.flow_model.specs.Machine.Steps.{can_begin, begin, new_call, nodes_set, has_call, uses_slot, free_slot}
 use Rattle.flow_model.specs.Kept.Lawful.{IsLawful, IsCallRight, RoomIsKept, VersionsAreFresh, AreDistinct, times}
 use Rattle.flow_model.proofs.General.Truths.{or_left, or_right, same_number, equal_test, is_not_true, true_or_false}
 use Rattle.flow_model.proofs.OneStep.WhoMayStep.{and_left, and_right, not_is}
@@ -33,6 +34,7 @@ new-right graph s caller c h = record {
   looks = refl;
   few_sets = let e = length-map (λ (set : List ℕ × Value). (number_of graph set.0, set.1)) (sets_of c) in subst (λ (k : ℕ). k ≤ SETS) (sym e) (at_most (length (sets_of c)) SETS (and_right _ _ (and_left _ _ (and_left _ _ (and_left _ _ h)))));
   few_looks = let e = length-map (number_of graph) (looks_of c) in subst (λ (k : ℕ). k ≤ LOOKS) (sym e) (at_most (length (looks_of c)) LOOKS (and_right _ _ (and_left _ _ (and_left _ _ h))));
+  executing = λ n. ap (λ (xs : List (ℕ × Value)). is_empty (nodes_set xs)) n;
 }
 
 -- the record of a call after another has begun: as it was, or the new one

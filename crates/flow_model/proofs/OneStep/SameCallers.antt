@@ -1,5 +1,5 @@
 -- No step changes a live call's caller and slot, nor what it sets and looks at.
-use Rattle.std.proofs.Common.{◌≡◌, ℕ, ◌<◌, ◌≤◌, Bool, true, false, ◌==◌, ◌⊎◌, inl, inr, refl, sym, ap, arith, List, length, ◌∙◌, subst, Option}
+use Rattle.std.proofs.Common.{◌≡◌, ℕ, ◌<◌, ◌≤◌, Bool, true, false, not, ◌==◌, ◌⊎◌, inl, inr, refl, sym, ap, arith, List, length, ◌∙◌, subst, Option}
 use Rattle.std.specs.Prelude.{is_some}
 use Rattle.script_tree.specs.declared.value.Value.{Value}
 use Rattle.signal_graph.specs.Graph.{Graph}
@@ -10,14 +10,15 @@ use Rattle.node_versions.specs.declared.entry.State.TheVariants.{Mark, Frame, Do
 use Rattle.node_versions.specs.Entries.{has, at, is_mark, value_before, picks_before}
 use Rattle.flow_model.specs.declared.step.Step.{Step}
 use Rattle.flow_model.specs.declared.step.Step.TheVariants as steps
-use Rattle.flow_model.specs.Machine.State.{Core, LiveCall, call, call_or, live, entries, with_cell}
+use Rattle.flow_model.specs.Machine.State.{Core, LiveCall, call, call_or, live, executes, entries, with_cell}
 use Rattle.flow_model.specs.Machine.Words.{active_outs, found_now, value_now, found_picks, next_look}
 use Rattle.flow_model.specs.Machine.Changes.{enter, raise, ensure_mark, set_state, opened, closed, tell_call, add_edge}
 use Rattle.flow_model.specs.Machine.Steps.{allowed, apply, open_node, frame, started, counted, with_look, is_change, keep_found, look_value, sets_in, looks_in}
 use Rattle.flow_model.specs.Kept.Lawful.{IsLawful, RoomIsKept, IsCallRight}
-use Rattle.flow_model.proofs.General.Truths.{same_number, equal_test, is_not_true, true_or_false}
+use Rattle.flow_model.proofs.General.Truths.{and_make, same_number, equal_test, is_not_true, not_false, true_or_false}
+use Rattle.flow_model.proofs.OneStep.WhoMayStep.{and_right}
 use Rattle.flow_model.proofs.OneList.CallsAndCells.{with_call-keeps, map_call-keeps, without_call-other, without_call-same}
-use Rattle.flow_model.proofs.OneStep.WhoLivesAndFrames.{PhaseStep, stays, starts, ends, step-phases}
+use Rattle.flow_model.proofs.OneStep.WhoLivesAndFrames.{PhaseStep, stays, starts, ends, step-phases, phase-is_framing}
 use Rattle.flow_model.proofs.OneStep.SameLengths.{step-parts}
 use Rattle.flow_model.proofs.OrderStays.VersionsAndLengths.{step-room}
 
@@ -102,18 +103,29 @@ step-RoomIsKept graph s step h a =
     }
 
 -- What a call names is right where its parts are those of a right one.
-moved : (graph : Graph) (c d : LiveCall) → c.call ≡ d.call → c.sets ≡ d.sets → c.looks ≡ d.looks → IsCallRight graph d → IsCallRight graph c
-moved graph c d e f g h = record {
+moved : (graph : Graph) (c d : LiveCall) → c.call ≡ d.call → c.sets ≡ d.sets → c.looks ≡ d.looks → (d.executing ≡ true → c.executing ≡ true)
+    → IsCallRight graph d → IsCallRight graph c
+moved graph c d e f g x h = record {
   well_named = ap (misnamed graph) e ∙ h.well_named;
   sets = f ∙ h.sets ∙ ap (sets_in graph) (sym e);
   looks = g ∙ h.looks ∙ ap (looks_in graph) (sym e);
   few_sets = subst (λ (xs : List (ℕ × Value)). length xs ≤ SETS) (sym f) h.few_sets;
   few_looks = subst (λ (xs : List ℕ). length xs ≤ LOOKS) (sym g) h.few_looks;
+  executing = λ n. x (h.executing (sym f ∙ n));
 }
 
-pub step-calls_right : (graph : Graph) (s : Core) (step : Step) → IsLawful graph s → allowed graph s step ≡ true → (u : ℕ) → live (apply graph s step) u ≡ true → IsCallRight graph (call (apply graph s step) u)
+-- Whoever executes before a step and lives after it executes after it.
+phase-executes : (s q : Core) → PhaseStep s q → (u : ℕ) → live q u ≡ true → executes s u ≡ true → executes q u ≡ true
+phase-executes s q p u l x = not_false (executes q u) (λ e.
+    let f = phase-is_framing s q p u (and_make _ _ l (ap not e)) in
+    is_not_true (not (executes s u)) (ap not x) (and_right (live s u) (not (executes s u)) f))
+
+pub step-calls_right : (graph : Graph) (s : Core) (step : Step) → IsLawful graph s → allowed graph s step ≡ true → (u : ℕ)
+    → live (apply graph s step) u ≡ true
+    → IsCallRight graph (call (apply graph s step) u)
 step-calls_right graph s step h a u l = moved graph (call (apply graph s step) u) (call s u)
     (step-stable (λ (c : LiveCall). c.call) call-stable graph s step u l)
     (step-stable (λ (c : LiveCall). c.sets) sets-stable graph s step u l)
     (step-stable (λ (c : LiveCall). c.looks) looks-stable graph s step u l)
+    (phase-executes s (apply graph s step) (step-phases graph s step a) u l)
     (h.calls_are_right u (phase-live s (apply graph s step) (step-phases graph s step a) u l))

@@ -18,7 +18,7 @@ use Rattle.node_versions.specs.declared.entry.Entry.{Entry}
 use Rattle.node_versions.specs.Entries.{OutEdge, IsUnique, AreDifferent, is_frame, is_done, is_mark, has, at, behind, state_of, last_done, value_of, picks_of, changed_of, done_at, value_at, value_before, picks_at, picks_before, has_out, has_node}
 use Rattle.flow_model.specs.Machine.Sets.{IsSet}
 use Rattle.flow_model.specs.Machine.State.{Core, LiveCall, Found, call, cell, entries, outs, live, ended, executes, is_framing, wants, opens, changes, precedes}
-use Rattle.flow_model.specs.Machine.Words.{deps, touched, heads, gathered_of, is_gathered, is_found, found_candidates, is_candidate, finds, found_now, body_now, value_over, picks_of_found, set_value}
+use Rattle.flow_model.specs.Machine.Words.{deps, touched, heads, gathered_of, is_gathered, is_found, found_candidates, is_candidate, finds, found_now, body_now, value_over, picks_of_found, set_value, list_room}
 use Rattle.flow_model.specs.Machine.Steps.{sets_in, looks_in, nodes_set, all_gathered}
 use Rattle.flow_model.specs.Kept.Runs.{Run, read_all, nothing_read, runs, reacts, framed, was_due, picks_it, IsSettled}
 
@@ -145,7 +145,7 @@ pub record EndedIsPrefix (s : Core) : Type 0 where
 
 -- Each list has room, and live calls have callers and slots of their own.
 pub record RoomIsKept (s : Core) : Type 0 where
-  pub room : (n : ℕ) → length (entries s n) ≤ s.callers + 9
+  pub room : (n : ℕ) → length (entries s n) ≤ list_room s.callers
   pub callers_apart : (u v : ℕ) → IsLive s u → IsLive s v → (call s u).caller ≡ (call s v).caller → u ≡ v
   pub callers_fit : (u : ℕ) → IsLive s u → (1 ≤ (call s u).caller) × ((call s u).caller ≤ s.callers)
   pub slots_apart : (u v : ℕ) → IsLive s u → IsLive s v → (call s u).slot ≡ (call s v).slot → u ≡ v
@@ -298,13 +298,15 @@ pub record SetsAreSets (s : Core) : Type 0 where
   pub open_nodes : (u : ℕ) → IsSet (call s u).open_nodes
   pub changed : (u : ℕ) → IsSet (call s u).changed
 
--- What a live call sets and looks at by node is what it names, and it names sources and nodes, within the limits.
+-- What a live call sets and looks at by node is what it names, and it names sources and nodes, within the limits. A call that sets
+-- nothing executes.
 pub record IsCallRight (graph : Graph) (c : LiveCall) : Type 0 where
   pub well_named : misnamed graph c.call ≡ None
   pub sets : c.sets ≡ sets_in graph c.call
   pub looks : c.looks ≡ looks_in graph c.call
   pub few_sets : length c.sets ≤ SETS
   pub few_looks : length c.looks ≤ LOOKS
+  pub executing : c.sets ≡ [] → c.executing ≡ true
 
 -- No live call has taken more looks than it asks for.
 abbrev pub LooksAreFew : Core → Type 0

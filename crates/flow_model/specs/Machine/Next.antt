@@ -1,5 +1,5 @@
 -- The next step of a live call, or why there is none now: the first that applies of a list of points.
-use Rattle.std.specs.Prelude.{ℕ, ◌+◌, Bool, true, false, ◌&&◌, not, ◌==◌, nat_lt, List, [], ◌∷◌, ◌++◌, length, Option, Some, None, find, option_map}
+use Rattle.std.specs.Prelude.{ℕ, Bool, true, false, ◌&&◌, not, ◌==◌, nat_lt, List, [], ◌∷◌, ◌++◌, length, Option, Some, None, find, option_map}
 use Rattle.std.specs.List.{list_any}
 use Rattle.signal_graph.specs.Graph.{Graph, node_at, is_in, is_source, inputs_of}
 use Rattle.signal_graph.specs.Values.{nodes_in}
@@ -14,7 +14,7 @@ use Rattle.flow_model.specs.declared.step.Turn.{Turn}
 use Rattle.flow_model.specs.declared.step.Turn.TheVariants as turn
 use Rattle.flow_model.specs.Machine.Sets.{least}
 use Rattle.flow_model.specs.Machine.State.{Core, LiveCall, call, entries, outs, executes, opens, changes}
-use Rattle.flow_model.specs.Machine.Words.{is_gathered, is_found, found_candidates, is_candidate, presses, next_look}
+use Rattle.flow_model.specs.Machine.Words.{is_gathered, is_found, found_candidates, is_candidate, presses, next_look, list_room}
 use Rattle.flow_model.specs.Machine.Steps.{is_framing_before, has_body_value}
 
 -- ---- points
@@ -70,7 +70,7 @@ other_than t (Some v) = kept_if (not (v == t)) v
 module _ (graph : Graph) (s : Core) (list : ℕ → List Entry) (edges : ℕ → List OutEdge) (t : ℕ) where
   -- a step that enters a list; where that is full, some of it is collected first
   abbrev pub entering : ℕ → Step → Turn
-  entering m step = turn.Step (elim (nat_lt (length (list m)) (s.callers + 9)) [ true ↦ step | false ↦ Collect m ])
+  entering m step = turn.Step (elim (nat_lt (length (list m)) (list_room s.callers)) [ true ↦ step | false ↦ Collect m ])
 
   -- a step that enters a list only where a test fails
   abbrev pub entering_unless : Bool → ℕ → Step → Turn

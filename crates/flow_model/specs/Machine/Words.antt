@@ -12,6 +12,7 @@ use Rattle.signal_graph.specs.declared.node.Node.TheVariants.{Source, Signal, Fo
 use Rattle.signal_graph.specs.Graph.{Graph, node_at, is_in, is_source, inputs_of, body_of, static_outs}
 use Rattle.signal_graph.specs.Values.{select, taken, nodes_in}
 use Rattle.node_versions.specs.Entries.{first_open, value_before, picks_before, active_nodes}
+use Rattle.flow_model.specs.declared.limits.TheConstants.{SPARE_ENTRIES}
 use Rattle.flow_model.specs.Machine.Lists.{is_empty}
 use Rattle.flow_model.specs.Machine.State.{Core, LiveCall, Found, Gives, Selects, call, cell, entries, outs, executes, opens, changes, precedes}
 
@@ -110,9 +111,12 @@ presses s t n c = c.executing && precedes s t c.version && is_in n c.wanted
 abbrev pub pressed : Core → ℕ → ℕ → Bool
 pressed s t n = list_any (presses s t n) s.calls
 
--- a list may have nine entries more than there are callers
+-- how many entries a list may have, and whether one more finds room
+abbrev pub list_room : ℕ → ℕ
+list_room callers = callers + SPARE_ENTRIES
+
 abbrev pub has_room : Core → ℕ → Bool
-has_room s m = nat_lt (length (entries s m)) (s.callers + 9)
+has_room s m = nat_lt (length (entries s m)) (list_room s.callers)
 
 -- the node that the call looks at next
 abbrev pub next_look : Core → ℕ → Option ℕ

@@ -1,6 +1,6 @@
 -- A state in two parts: its book, and a list with out-edges for each node. Which lists a step reads, and what it makes of the
 -- book and of one list.
-use Rattle.std.specs.Prelude.{◌≡◌, ℕ, suc, ◌+◌, Bool, true, false, ◌&&◌, ◌||◌, not, nat_lt, List, [], ◌∷◌, ◌++◌, length, map, Option, Some, None, is_none, is_some}
+use Rattle.std.specs.Prelude.{◌≡◌, ℕ, suc, Bool, true, false, ◌&&◌, ◌||◌, not, nat_lt, List, [], ◌∷◌, ◌++◌, length, map, Option, Some, None, is_none, is_some}
 use Rattle.std.specs.List.{list_any, list_all}
 use Rattle.script_tree.specs.declared.value.Value.{Value}
 use Rattle.signal_graph.specs.declared.call.Call.{Call}
@@ -18,7 +18,7 @@ use Rattle.flow_model.specs.declared.step.Step.{Step}
 use Rattle.flow_model.specs.declared.step.Step.TheVariants.{Frame, Start, Skip, Gather, Evaluate, Body, Resolve, Discover, Drop, Mark, Look, End, Collect}
 use Rattle.flow_model.specs.Machine.Lists.{is_empty, change_at}
 use Rattle.flow_model.specs.Machine.State.{Core, Cell, LiveCall, Found, call, cell, ended, executes, is_framing, wants, opens, changes, change_call}
-use Rattle.flow_model.specs.Machine.Words.{is_gathered, is_found, found_picks, found_candidates, is_candidate, is_some_of, pressed, next_look, is_idle, finds, value_gathered, body_now, value_now}
+use Rattle.flow_model.specs.Machine.Words.{is_gathered, is_found, found_picks, found_candidates, is_candidate, is_some_of, pressed, list_room, next_look, is_idle, finds, value_gathered, body_now, value_now}
 use Rattle.flow_model.specs.Machine.Changes.{stops, new_entry, first_version, last_version, link_left, link_right, opened, closed, tell_call, remove_first}
 use Rattle.flow_model.specs.Machine.Steps.{all_gathered, any_framing_before, any_before, has_body_value, new_call, started, counted, with_look, logged, without_call}
 
@@ -86,7 +86,7 @@ bare b = record {
 
 -- The listing has room.
 abbrev pub has_room_in : Book → Listing → Bool
-has_room_in b l = nat_lt (length l.entries) (b.callers + 9)
+has_room_in b l = nat_lt (length l.entries) (list_room b.callers)
 
 -- The call has an entry there or finds room for one.
 abbrev pub has_room_for_in : Book → Listing → ℕ → Bool
