@@ -16,7 +16,8 @@ use Rattle.flow_model.specs.Kept.Lawful.{times, AreDistinct}
 use Rattle.flow_model.proofs.General.Pigeons.{times-it, times-other, total-all, total-missing}
 use Rattle.flow_state.specs.declared.seating.Tenant.{Tenant}
 use Rattle.flow_state.specs.Booked.{begun_call}
-use Rattle.flow_state.specs.Seats.{Seated, LiveCalls, Shelved, no_seat, has_call, one_call_more, seat_at, call_at, version_at, calls_of, versions_of, pairs_of, live_calls, has_version, has_slot, AreTenants, AreAscending, AreLinked, AreSeats}
+use Rattle.flow_state.specs.Seats.{Seated, LiveCalls, no_seat, has_call, one_call_more, seat_at, call_at, version_at, calls_of, versions_of, pairs_of, live_calls, has_version, has_slot, AreTenants, AreAscending, AreLinked, AreSeats}
+use Rattle.flow_state.specs.Shelves.{Shelved}
 use Rattle.flow_state.specs.Kept.{IsKept}
 use Rattle.flow_state.proofs.SeatLemmas.{calls-away}
 use Rattle.flow_state.proofs.Leaving.{at_seat, tenant-away, not_true}
@@ -253,7 +254,7 @@ has-more c (x ∷ xs) t h none =
     let both = neither (x.version == t) _ (sym (has-cons x xs t) ∙ none) in
     has-more c xs t (later (x.version == t) _ (sym (has-cons x (xs ++ c ∷ []) t) ∙ h) both.0) both.1
 
-pub kept_begin : (limit begun rooms spare : ℕ) (live new : LiveCalls) (shelves : List Shelved) (log : Record) (call : LiveCall) → IsKept limit begun rooms spare live shelves log → new ≡ one_call_more live call → call.version ≡ begun + 1 → begun < limit → 0 < rooms → IsKept limit (begun + 1) (rooms - 1) spare new shelves log
+pub kept_begin : (limit begun rooms spare : ℕ) (live new : LiveCalls) (shelves : Shelved) (log : Record) (call : LiveCall) → IsKept limit begun rooms spare live shelves log → new ≡ one_call_more live call → call.version ≡ begun + 1 → begun < limit → 0 < rooms → IsKept limit (begun + 1) (rooms - 1) spare new shelves log
 kept_begin limit begun rooms spare live new shelves log call kept is version left some = subst (λ (l : LiveCalls). IsKept limit (begun + 1) (rooms - 1) spare l shelves log) (sym is) (record {
   nodes = kept.nodes;
   counted = let n = kept.counted in let l = length-more live.calls call in omega (arith, n, l);
@@ -271,5 +272,5 @@ kept_begin limit begun rooms spare live new shelves log call kept is version lef
     go t h true e = let k = kept.known t e in omega (arith, k)
     go t h false e = let v = has-more call live.calls t h e in omega (arith, v, version)
 
-pub newest_version : (limit begun rooms spare : ℕ) (live : LiveCalls) (shelves : List Shelved) (log : Record) → IsKept limit begun rooms spare live shelves log → (t : ℕ) → has_call live t ≡ true → t < begun + 1
+pub newest_version : (limit begun rooms spare : ℕ) (live : LiveCalls) (shelves : Shelved) (log : Record) → IsKept limit begun rooms spare live shelves log → (t : ℕ) → has_call live t ≡ true → t < begun + 1
 newest_version limit begun rooms spare live shelves log kept t h = let k = kept.known t h in omega (arith, k)

@@ -1,5 +1,6 @@
 pub mod Walks
 pub mod Gathered
+pub mod ShelfLemmas
 pub mod SeatLemmas
 pub mod PairLemmas
 pub mod Leaving

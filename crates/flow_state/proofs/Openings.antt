@@ -1,8 +1,8 @@
 -- The seats and shelves at opening.
-use Rattle.std.proofs.Common.{◌≡◌, ℕ, ◌+◌, ◌<◌, ◌≤◌, inl, inr, List, [], ◌∷◌, ◌++◌, length, map, refl, sym, ap, ◌∙◌, subst, arith}
+use Rattle.std.proofs.Common.{◌≡◌, ℕ, ◌+◌, ◌<◌, ◌≤◌, suc, inl, inr, List, [], ◌∷◌, ◌++◌, length, map, refl, sym, ap, ◌∙◌, subst, arith}
 use Rattle.std.specs.List.{range_with_len}
 use Rattle.std.proofs.lemmas.Bool.{cases_lt, false≢true}
-use Rattle.std.proofs.lemmas.List.{get_or_past}
+use Rattle.std.proofs.lemmas.List.{get_or_past, length-map}
 use Rattle.std.proofs.lemmas.List.FromFn.{get_or-map-range_with_len, length-map-range_with_len, map-range_with_len_more}
 use Rattle.call_log.specs.Record.{Record}
 use Rattle.signal_graph.specs.declared.log.Logged.{Logged}
@@ -10,9 +10,10 @@ use Rattle.signal_graph.specs.declared.node.Node.{Node}
 use Rattle.signal_graph.specs.Graph.{Graph, numbers, numbers_from}
 use Rattle.order_graph.specs.Order.{Order, without_pairs}
 use Rattle.flow_model.specs.Machine.State.{start_cell}
-use Rattle.flow_state.specs.Booked.{Booked, room_at, opened_book}
+use Rattle.flow_state.specs.Booked.{Booked, rooms_for, opened_book}
 use Rattle.flow_model.specs.Parts.Books.{Work, no_work, work_in}
-use Rattle.flow_state.specs.Seats.{Seated, Shelved, LiveCalls, no_seat, free_seat, no_calls, seat_at, AreSeats}
+use Rattle.flow_state.specs.Shelves.{Shelved, empty_shelves}
+use Rattle.flow_state.specs.Seats.{Seated, LiveCalls, no_seat, free_seat, no_calls, seat_at, AreSeats}
 use Rattle.flow_state.specs.Kept.{booked, IsKept}
 use Rattle.flow_state.specs.declared.seating.Tenant.{Tenant}
 
@@ -46,37 +47,28 @@ free_kept callers nodes capacity seats live order some few few_nodes e none new 
 
 -- ---- shelves
 
-abbrev pub empty_shelf : Graph → ℕ → Shelved
-empty_shelf graph n = record { work = no_work; room = room_at graph n }
-
-numbers-range : (n : ℕ) (nodes : List Node) → numbers_from n nodes ≡ range_with_len n (length nodes)
-numbers-range n [] = refl
-numbers-range n (x ∷ xs) = ap (λ ys. n ∷ ys) (numbers-range (n + 1) xs)
-
-works-empty : (graph : Graph) (ns : List ℕ) → map (λ (s : Shelved). s.work) (map (empty_shelf graph) ns) ≡ map work_in (map (start_cell graph) ns)
-works-empty graph [] = refl
-works-empty graph (n ∷ ns) = ap (λ (ws : List Work). no_work ∷ ws) (works-empty graph ns)
-
-rooms-empty : (graph : Graph) (ns : List ℕ) → map (λ (s : Shelved). s.room) (map (empty_shelf graph) ns) ≡ map (room_at graph) ns
-rooms-empty graph [] = refl
-rooms-empty graph (n ∷ ns) = ap (λ (rs : List ℕ). room_at graph n ∷ rs) (rooms-empty graph ns)
-
-pub opening_seen : (graph : Graph) (callers limit : ℕ) (live : LiveCalls) (shelves : List Shelved) (log : Record) → live ≡ no_calls callers (length graph.nodes) → shelves ≡ map (empty_shelf graph) (range_with_len 0 (length graph.nodes)) → log.entries ≡ [] → booked limit 0 0 live shelves log ≡ opened_book graph callers limit
+pub opening_seen : (graph : Graph) (callers limit : ℕ) (live : LiveCalls) (shelves : Shelved) (log : Record) → live ≡ no_calls callers (length graph.nodes) → shelves ≡ empty_shelves graph → log.entries ≡ [] → booked limit 0 0 live shelves log ≡ opened_book graph callers limit
 opening_seen graph callers limit live shelves log none empty new =
-    let B : List Work → List ℕ → List Logged → LiveCalls → Booked = λ ws rs es l. record { book = record { callers = l.callers; limit = limit; begun = 0; calls = l.calls; works = ws; pairs = l.pairs; log = es }; rooms = 0; room_for = rs } in
-    let all : shelves ≡ map (empty_shelf graph) (numbers graph) = empty ∙ ap (map (empty_shelf graph)) (sym (numbers-range 0 graph.nodes)) in
-    ap (λ (l : LiveCalls). B (map (λ (s : Shelved). s.work) shelves) (map (λ (s : Shelved). s.room) shelves) log.entries l) none
-    ∙ ap (λ (es : List Logged). B (map (λ (s : Shelved). s.work) shelves) (map (λ (s : Shelved). s.room) shelves) es (no_calls callers (length graph.nodes))) new
-    ∙ ap (λ (ss : List Shelved). B (map (λ (s : Shelved). s.work) ss) (map (λ (s : Shelved). s.room) ss) [] (no_calls callers (length graph.nodes))) all
-    ∙ ap (λ (ws : List Work). B ws (map (λ (s : Shelved). s.room) (map (empty_shelf graph) (numbers graph))) [] (no_calls callers (length graph.nodes))) (works-empty graph (numbers graph))
-    ∙ ap (λ (rs : List ℕ). B (map work_in (map (start_cell graph) (numbers graph))) rs [] (no_calls callers (length graph.nodes))) (rooms-empty graph (numbers graph))
+    let B : Shelved → List Logged → LiveCalls → Booked = λ ss es l. record { book = record { callers = l.callers; limit = limit; begun = 0; calls = l.calls; works = ss.works; pairs = l.pairs; log = es }; rooms = 0; room_for = ss.room_for } in
+    ap (λ (l : LiveCalls). B shelves log.entries l) none
+    ∙ ap (λ (es : List Logged). B shelves es (no_calls callers (length graph.nodes))) new
+    ∙ ap (λ (ss : Shelved). B ss [] (no_calls callers (length graph.nodes))) empty
+    ∙ ap (λ (ws : List Work). B (record { works = ws; room_for = rooms_for graph }) [] (no_calls callers (length graph.nodes))) (works-empty (numbers graph))
+  where
+    works-empty : (ns : List ℕ) → map (λ (n : ℕ). no_work) ns ≡ map work_in (map (start_cell graph) ns)
+    works-empty [] = refl
+    works-empty (n ∷ ns) = ap (λ (ws : List Work). no_work ∷ ws) (works-empty ns)
 
-pub opening_kept : (graph : Graph) (callers limit : ℕ) (live : LiveCalls) (shelves : List Shelved) (log : Record) → limit ≤ 4000000 → live ≡ no_calls callers (length graph.nodes) → shelves ≡ map (empty_shelf graph) (range_with_len 0 (length graph.nodes)) → log.entries ≡ [] → IsKept limit 0 0 0 live shelves log
+pub opening_kept : (graph : Graph) (callers limit : ℕ) (live : LiveCalls) (shelves : Shelved) (log : Record) → limit ≤ 4000000 → live ≡ no_calls callers (length graph.nodes) → shelves ≡ empty_shelves graph → log.entries ≡ [] → IsKept limit 0 0 0 live shelves log
 opening_kept graph callers limit live shelves log few none empty new = subst (λ (l : LiveCalls). IsKept limit 0 0 0 l shelves log) (sym none) (record {
-  nodes = ap length empty ∙ length-map-range_with_len (empty_shelf graph) 0 (length graph.nodes);
+  nodes = ap (λ (ss : Shelved). length ss.works) empty ∙ length-map (numbers graph) (λ (n : ℕ). no_work) ∙ length-numbers 0 graph.nodes;
   counted = let e = ap length new in omega (arith, e);
   within = omega arith;
   few = few;
   known = λ t h. absurd (false≢true h);
   rows = omega arith;
 })
+  where
+    length-numbers : (n : ℕ) (nodes : List Node) → length (numbers_from n nodes) ≡ length nodes
+    length-numbers n [] = refl
+    length-numbers n (x ∷ xs) = ap suc (length-numbers (n + 1) xs)

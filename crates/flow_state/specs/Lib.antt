@@ -5,5 +5,6 @@ pub mod Fitting
 pub mod Joining
 pub mod Rooms
 pub mod Seats
+pub mod Shelves
 pub mod Kept
 pub mod Jobs

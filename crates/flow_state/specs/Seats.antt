@@ -8,7 +8,6 @@ use Rattle.flow_model.specs.Machine.Steps.{without_call}
 use Rattle.flow_model.specs.Machine.State.{LiveCall, no_call, call_of, call_or, change_call}
 use Rattle.std.specs.Prelude.{is_some}
 use Rattle.node_set.specs.Members.{Members}
-use Rattle.flow_model.specs.Parts.Books.{Work}
 use Rattle.flow_state.specs.declared.seating.Tenant.{Tenant}
 use Rattle.flow_state.specs.declared.seating.TheConstants.{HINTS}
 
@@ -23,14 +22,6 @@ no_seat = record { call = no_call; size = 0; room = 0 }
 
 abbrev pub with_seated : Seated → LiveCall → Seated
 with_seated seat call = record seat { call = call }
-
--- what contracts see in a `Shelf`: the work at a node, and room for how many values
-pub record Shelved : Type 0 where
-  pub work : Work
-  pub room : ℕ
-
-abbrev pub with_work : Shelved → Work → Shelved
-with_work shelf work = record shelf { work = work }
 
 -- what contracts see in a `Seating`: how many callers and nodes there are, and the live calls with their recorded order
 pub record LiveCalls : Type 0 where

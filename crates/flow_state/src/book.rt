@@ -27,9 +27,8 @@ use crate::job::Job;
 use crate::outcome::Answer;
 use crate::room::Room;
 use crate::seating::Seating;
-use crate::shelf::Shelf;
+use crate::shelf::Shelves;
 use call_log::Log;
-use script_tree::limits::SELECTORS;
 use script_tree::memory::OutOfMemory;
 use script_tree::value::Value;
 use signal_graph::call::Call;
@@ -48,7 +47,7 @@ pub struct Book {
     rooms: u32,
     spare: u32,
     calls: Seating,
-    shelves: Vec<Shelf>,
+    shelves: Shelves,
     log: Log,
 }
 
@@ -58,9 +57,9 @@ impl Model for Book {
 
     ghost Value = { Booked };
 
-    ghost view = { λ b. booked b.limit b.begun b.rooms b.calls b.shelves.items b.log };
+    ghost view = { λ b. booked b.limit b.begun b.rooms b.calls b.shelves b.log };
 
-    ghost invariant = { λ b. IsKept b.limit b.begun b.rooms b.spare b.calls b.shelves.items b.log };
+    ghost invariant = { λ b. IsKept b.limit b.begun b.rooms b.spare b.calls b.shelves b.log };
 }
 
 impl Book {
@@ -78,7 +77,7 @@ impl Book {
         ensures { IfOk result (λ book. book ≡ opened_book graph.now callers versions) }
     {
         let calls = Seating::new(alloc, callers, graph.len())?;
-        let shelves = empty_shelves(alloc, graph)?;
+        let shelves = Shelves::new(alloc, graph)?;
         let log = Log::new(alloc);
         Ok(Book {
             limit: versions,
@@ -394,7 +393,7 @@ impl Book {
         requires { node < node_count self.now }
         ensures { result ≡ gathered_of input (work_at self.now node).gathered }
     {
-        self.shelves[node as usize].gathered(input)
+        self.shelves.gathered(node, input)
     }
 
     /// The same, at once where the value was the one at this place, counted from 0, to be gathered for the node.
@@ -402,7 +401,7 @@ impl Book {
         requires { node < node_count self.now }
         ensures { result ≡ gathered_of input (work_at self.now node).gathered }
     {
-        self.shelves[node as usize].gathered_near(place, input)
+        self.shelves.gathered_near(node, place, input)
     }
 
     /// What is found for a node.
@@ -410,7 +409,7 @@ impl Book {
         requires { node < node_count self.now }
         ensures { found_option (option_copied result) ≡ (work_at self.now node).found }
     {
-        self.shelves[node as usize].found()
+        self.shelves.found(node)
     }
 
     /// The body's value for a node.
@@ -418,7 +417,7 @@ impl Book {
         requires { node < node_count self.now }
         ensures { result ≡ (work_at self.now node).body }
     {
-        self.shelves[node as usize].body()
+        self.shelves.body(node)
     }
 
     /// The job of a node for a call: its scripts where nothing is found yet, else its body. `acc` is the node's value
@@ -429,14 +428,13 @@ impl Book {
         requires few { length (work_at self.now node).gathered ≤ 68 }
         ensures { result ≡ answer_in graph.now self.now version node acc }
     {
-        let shelf = &self.shelves[node as usize];
         Job {
             graph,
             version,
             node,
             acc,
-            gathered: shelf.held(),
-            found: shelf.found_items(),
+            gathered: self.shelves.held(node),
+            found: self.shelves.found_items(node),
         }
     }
 
@@ -447,7 +445,7 @@ impl Book {
         requires job { IsJob graph.now node (found_items (work_at self.now node).found) }
         ensures { result ≡ answer_in graph.now self.now version node acc }
     {
-        let outcome = self.shelves[node as usize].outcome(graph.node(node), acc);
+        let outcome = self.shelves.outcome(node, graph.node(node), acc);
         Answer {
             version,
             node,
@@ -528,7 +526,7 @@ impl Book {
             → length (work_at self.old node).gathered < slice_index self.old.room_for node }
         ensures { self.new ≡ on_work self.old node (with_gathered input value) }
     {
-        self.shelves[node as usize].gather(input, value);
+        self.shelves.gather(node, input, value);
     }
 
     /// What is found for a node is kept.
@@ -536,7 +534,7 @@ impl Book {
         requires { node < node_count self.old }
         ensures { self.new ≡ on_work self.old node (with_found (found_of found)) }
     {
-        self.shelves[node as usize].keep_found(found);
+        self.shelves.keep_found(node, found);
     }
 
     /// The body's value for a node is kept.
@@ -544,7 +542,7 @@ impl Book {
         requires { node < node_count self.old }
         ensures { self.new ≡ on_work self.old node (with_body value) }
     {
-        self.shelves[node as usize].keep_body(value);
+        self.shelves.keep_body(node, value);
     }
 
     /// What was gathered, found and evaluated for a node is forgotten.
@@ -552,19 +550,6 @@ impl Book {
         requires { node < node_count self.old }
         ensures { self.new ≡ on_work self.old node forgotten }
     {
-        self.shelves[node as usize].clear();
+        self.shelves.clear(node);
     }
-}
-
-// A shelf for each node, with room for its inputs and picks.
-fn empty_shelves(alloc: Global, graph: &Graph) -> Result<Vec<Shelf>, OutOfMemory>
-    ensures { IfOk result (λ shelves.
-        shelves.items ≡ map (λ n. record { work = no_work; room = room_at graph.now n }) (range_with_len 0 (length graph.now.nodes))) }
-{
-    let mut shelves = Vec::with_capacity(alloc, graph.len() as usize)?;
-    for node in 0..graph.len() {
-        let shelf = Shelf::new(alloc, graph.inputs(node).len() + SELECTORS)?;
-        shelves.push(shelf)?;
-    }
-    Ok(shelves)
 }

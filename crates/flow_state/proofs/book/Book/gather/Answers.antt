@@ -1,12 +1,6 @@
 use Rattle.flow_model.specs.Parts.Books.{with_gathered}
-use Rattle.flow_state.proofs.BookLemmas.{shelf_inside, kept_shelf, seen_shelf}
+use Rattle.flow_state.proofs.BookLemmas.{kept_shelf}
 use Rattle.flow_state.proofs.book.Book.gather.Goals as goal
 
 pub invariant_of-self : goal.invariant_of-self
-invariant_of-self c = let b = c.self.inside in kept_shelf b.limit b.begun b.rooms b.spare b.calls b.shelves.items b.log c.args.node c.gather.new.self c.self.invariant
-
-pub returns : goal.returns
-returns c =
-    let b = c.self.inside in
-    let h = shelf_inside b.limit b.begun b.rooms b.spare b.calls b.shelves.items b.log c.args.node c.args.self.now c.self.view_is c.requires.node in
-    seen_shelf b.limit b.begun b.rooms b.calls b.shelves.items b.log c.args.node c.index_mut.result.now c.gather.new.self (with_gathered c.args.input c.args.value) c.args.self.now c.self.view_is h c.index_mut.ensures.value c.gather.ensures
+invariant_of-self c = let b = c.self.inside in kept_shelf b.limit b.begun b.rooms b.spare b.calls b.shelves c.gather.new.self b.log c.args.node (with_gathered c.args.input c.args.value) c.self.invariant c.gather.ensures

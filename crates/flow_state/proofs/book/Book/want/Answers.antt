@@ -4,4 +4,4 @@ use Rattle.flow_state.proofs.BookLemmas.{kept_call}
 use Rattle.flow_state.proofs.book.Book.want.Goals as goal
 
 pub invariant_of-self : goal.invariant_of-self
-invariant_of-self c = let b = c.self.inside in kept_call b.limit b.begun b.rooms b.spare b.calls c.want.new.self b.shelves.items b.log c.args.version (wanting c.args.node) c.self.invariant (λ _. refl) c.want.ensures
+invariant_of-self c = let b = c.self.inside in kept_call b.limit b.begun b.rooms b.spare b.calls c.want.new.self b.shelves b.log c.args.version (wanting c.args.node) c.self.invariant (λ _. refl) c.want.ensures
