@@ -10,6 +10,7 @@ pub mod Naming
 pub mod Beginning
 pub mod CountLemmas
 pub mod FreeSlots
+pub mod FoundPicks
 pub mod JobLemmas
 pub mod BookLemmas
 pub mod Fits
