@@ -1,5 +1,5 @@
 -- How a book stays kept, and what is seen of its changes.
-use Rattle.std.proofs.Common.{◌≡◌, ℕ, zero, suc, ◌+◌, ◌-◌, ◌<◌, Bool, true, false, ◌==◌, ◌||◌, List, [], ◌∷◌, ◌++◌, length-append, Some, length, map, get_or, set, refl, sym, ap, ◌∙◌, subst, arith, length-set}
+use Rattle.std.proofs.Common.{◌≡◌, ℕ, zero, suc, ◌+◌, ◌-◌, ◌<◌, Bool, true, false, ◌==◌, ◌||◌, List, [], ◌∷◌, ◌++◌, length-append, length, map, get_or, set, refl, sym, ap, ◌∙◌, subst, arith, length-set}
 use Rattle.call_log.specs.Record.{Record}
 use Rattle.order_graph.specs.declared.pair.Pair.{Pair}
 use Rattle.signal_graph.specs.declared.log.Logged.{Logged}
@@ -11,12 +11,10 @@ use Rattle.flow_model.specs.Parts.Books.{Work, no_work}
 use Rattle.flow_model.specs.Machine.Lists.{change_at}
 use Rattle.flow_state.specs.Seats.{LiveCalls, Shelved, with_pairs, with_work, has_call, on_live, left_calls}
 use Rattle.flow_state.specs.Kept.{booked, IsKept}
+use Rattle.flow_state.proofs.SeatLemmas.{elim_some}
+use Rattle.flow_state.proofs.Truths.{or_there}
 
 -- ---- calls
-
-elim_some : (b : Bool) (c : LiveCall) (rest : List LiveCall) (t : ℕ) → is_some (elim b [ true ↦ Some c | false ↦ call_of rest t ]) ≡ (b || is_some (call_of rest t))
-elim_some true c rest t = refl
-elim_some false c rest t = refl
 
 pub has-cons : (c : LiveCall) (cs : List LiveCall) (u : ℕ) → is_some (call_of (c ∷ cs) u) ≡ ((c.version == u) || is_some (call_of cs u))
 has-cons c cs u = elim_some (c.version == u) c cs u
@@ -103,10 +101,6 @@ pub shelf_room : (limit begun rooms : ℕ) (live : LiveCalls) (shelves : List Sh
 shelf_room limit begun rooms live shelves log n was seen view h e = room_at shelves n was h e ∙ ap (λ (b : Booked). get_or b.room_for n 0) view
 
 -- ---- a call ends
-
-or_there : (a b : Bool) → b ≡ true → (a || b) ≡ true
-or_there true b h = refl
-or_there false b h = h
 
 has-left : (t u : ℕ) (cs : List LiveCall) → is_some (call_of (without_call t cs) u) ≡ true → is_some (call_of cs u) ≡ true
 has-left t u [] h = h

@@ -1,3 +1,4 @@
+pub mod Truths
 pub mod Walks
 pub mod Gathered
 pub mod SeatLemmas
