@@ -1,4 +1,4 @@
-use Rattle.std.proofs.Common.{◌≡◌, ◌∙◌, List, length, sym, ap, subst}
+use Rattle.std.proofs.Common.{◌∙◌, List, length, sym, ap, subst}
 use Rattle.node_versions.specs.Entries.{Versions}
 use Rattle.flow_model.specs.Machine.Steps.{allowed}
 use Rattle.step_rules.specs.Sights.{list_at}

@@ -1,4 +1,4 @@
-use Rattle.std.proofs.Common.{◌≡◌, ◌≤◌, ◌∙◌, ℕ, subst, ap, arith}
+use Rattle.std.proofs.Common.{◌≤◌, ◌∙◌, ℕ, subst, ap, arith}
 use Rattle.interleave_core.specs.Whole.{Whole, state_of}
 use Rattle.interleave_core.specs.Beginning.{is_free}
 use Rattle.interleave_core.proofs.Callers.{free-is}
