@@ -189,7 +189,8 @@ pub fn histories_are_bounded()
 pub fn moves_are_bounded()
     ensures moves { (graph : Graph) → IsGraph graph → (s : Core) → IsLawful graph s → (moves : List Move)
         → may_all graph s moves ≡ true
-        → length moves ≤ (length s.calls + count_begins moves) * (140 * length graph.nodes + 200) + length graph.nodes * list_room s.callers }
+        → length moves ≤ (length s.calls + count_begins moves) * (140 * length graph.nodes + 200)
+        + length graph.nodes * list_room s.callers }
     ensures alone { (graph : Graph) → IsGraph graph → (s : Core) → IsLawful graph s → (t : ℕ) (steps : List Step)
         → AreNext graph t s steps
         → length steps ≤ length s.calls * (140 * length graph.nodes + 200) + length graph.nodes * list_room s.callers }

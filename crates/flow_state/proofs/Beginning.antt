@@ -19,17 +19,10 @@ use Rattle.flow_state.specs.Booked.{begun_call}
 use Rattle.flow_state.specs.Seats.{Seated, LiveCalls, no_seat, has_call, one_call_more, seat_at, call_at, version_at, calls_of, versions_of, pairs_of, live_calls, has_version, has_slot, AreTenants, AreAscending, AreLinked, AreSeats}
 use Rattle.flow_state.specs.Shelves.{Shelved}
 use Rattle.flow_state.specs.Kept.{IsKept}
-use Rattle.flow_state.proofs.SeatLemmas.{calls-away}
-use Rattle.flow_state.proofs.Leaving.{at_seat, tenant-away, not_true}
+use Rattle.flow_state.proofs.SeatLemmas.{calls-away, at_seat}
+use Rattle.flow_state.proofs.Leaving.{tenant-away}
 use Rattle.flow_state.proofs.BookLemmas.{has-cons}
-
-or_there : (a b : Bool) → b ≡ true → (a || b) ≡ true
-or_there true b h = refl
-or_there false b h = h
-
-later : (a b : Bool) → (a || b) ≡ true → a ≡ false → b ≡ true
-later true b h e = absurd (true≢false e)
-later false b h e = h
+use Rattle.flow_state.proofs.Truths.{or_there, later, not_true}
 
 -- ---- the slots that are used
 

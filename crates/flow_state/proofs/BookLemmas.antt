@@ -11,12 +11,10 @@ use Rattle.flow_model.specs.Machine.Lists.{change_at}
 use Rattle.flow_state.specs.Seats.{LiveCalls, with_pairs, has_call, on_live, left_calls}
 use Rattle.flow_state.specs.Shelves.{Shelved, on_shelf}
 use Rattle.flow_state.specs.Kept.{IsKept}
+use Rattle.flow_state.proofs.SeatLemmas.{elim_some}
+use Rattle.flow_state.proofs.Truths.{or_there}
 
 -- ---- calls
-
-elim_some : (b : Bool) (c : LiveCall) (rest : List LiveCall) (t : ℕ) → is_some (elim b [ true ↦ Some c | false ↦ call_of rest t ]) ≡ (b || is_some (call_of rest t))
-elim_some true c rest t = refl
-elim_some false c rest t = refl
 
 pub has-cons : (c : LiveCall) (cs : List LiveCall) (u : ℕ) → is_some (call_of (c ∷ cs) u) ≡ ((c.version == u) || is_some (call_of cs u))
 has-cons c cs u = elim_some (c.version == u) c cs u
@@ -63,10 +61,6 @@ pub kept_shelf : (limit begun rooms spare : ℕ) (live : LiveCalls) (shelves new
 kept_shelf limit begun rooms spare live shelves new log n f kept is = record { nodes = ap (λ (s : Shelved). length s.works) is ∙ length-change_at n f shelves.works ∙ kept.nodes; counted = kept.counted; within = kept.within; few = kept.few; known = kept.known; rows = kept.rows }
 
 -- ---- a call ends
-
-or_there : (a b : Bool) → b ≡ true → (a || b) ≡ true
-or_there true b h = refl
-or_there false b h = h
 
 has-left : (t u : ℕ) (cs : List LiveCall) → is_some (call_of (without_call t cs) u) ≡ true → is_some (call_of cs u) ≡ true
 has-left t u [] h = h

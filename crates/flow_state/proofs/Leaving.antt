@@ -13,18 +13,15 @@ use Rattle.flow_model.specs.Machine.Steps.{without_call}
 use Rattle.flow_model.proofs.OneList.Chains.{none-reaches, last_pair}
 use Rattle.flow_state.specs.declared.seating.Tenant.{Tenant}
 use Rattle.flow_state.specs.Seats.{Seated, LiveCalls, no_seat, has_call, left_calls, without_tenant, AreAscending, seat_at, call_at, version_at, calls_of, versions_of, pairs_of, live_calls, has_version, has_slot, IsTenant, AreTenants, AreLinked, AreSeats, LeadsToLive}
-use Rattle.flow_state.proofs.SeatLemmas.{IsSlotOf, calls-away, calls-has}
+use Rattle.flow_state.proofs.SeatLemmas.{IsSlotOf, calls-away, calls-has, at_seat}
 use Rattle.flow_state.proofs.PairLemmas.{Tells, tells, slot-version, recorded-versions, retired-versions, not_reached}
+use Rattle.flow_state.proofs.Truths.{or_there, later, not_true}
 
 -- ---- the tenants that stay
 
 -- Of each tenant: it has the version exactly where it has the slot.
 abbrev Agree : ℕ → ℕ → List Tenant → Type 0
 Agree t k xs = AllByRecursion (λ (x : Tenant). (x.version == t) ≡ (x.slot == k)) xs
-
-or_there : (a b : Bool) → b ≡ true → (a || b) ≡ true
-or_there true b h = refl
-or_there false b h = h
 
 agree : (seats : List Seated) (live : List Tenant) (t k : ℕ) (xs : List Tenant) → Tells seats live → has_slot live k ≡ true → version_at seats k ≡ t → AreTenants seats xs → ((j : ℕ) → has_slot xs j ≡ true → has_slot live j ≡ true) → Agree t k xs
 agree seats live t k [] says there e ok within = tt
@@ -114,12 +111,6 @@ pub record IsFreed (old new : Seated) : Type 0 where
   pub version : new.call.version ≡ 0
   pub slot : new.call.slot ≡ old.call.slot
   pub size : new.size ≡ old.size
-
-pub at_seat : (P : ℕ → Seated → Type 0) (seats : List Seated) (k : ℕ) (new : Seated) → k < length seats → P k new → (j : ℕ) → P j (seat_at seats j) → P j (seat_at (set seats k new) j)
-at_seat P seats k new h here j p = elim (cases_eq j k) [
-  | inl same ↦ subst (λ (i : ℕ). P i (seat_at (set seats k new) i)) (sym same) (subst (P k) (sym (get_or-set_same seats k new no_seat h)) here)
-  | inr other ↦ subst (P j) (sym (get_or-set_other seats k j new no_seat other)) p
-]
 
 free-left : (seats : List Seated) (live : List Tenant) (t k : ℕ) (new : Seated) → Agree t k live → k < length seats → new.call.version ≡ 0 → ((j : ℕ) → has_slot live j ≡ false → version_at seats j ≡ 0) → (j : ℕ) → has_slot (without_tenant live t) j ≡ false → version_at (set seats k new) j ≡ 0
 free-left seats live t k new a h zero_there free j none = elim (cases_eq j k) [
@@ -211,10 +202,6 @@ linked-from live (p ∷ ps) a b l h = elim (cases_eq p.from a) [
     later : (x y z : Bool) → ((x && y) || z) ≡ true → x ≡ false → z ≡ true
     later x y z h e = grind (arith, h, e)
 
-pub not_true : (b : Bool) → (b ≡ true → ⊥) → b ≡ false
-not_true true h = absurd (h refl)
-not_true false h = refl
-
 pub none_before : (callers nodes capacity : ℕ) (seats : List Seated) (live : List Tenant) (order : Order) (t k : ℕ) (seen : LiveCalls) → AreSeats callers nodes capacity seats live order → live_calls callers nodes seats live order ≡ seen → IsSlotOf seats live t k → ((u : ℕ) → is_recorded seen.pairs u t ≡ false) → (x : ℕ) → ¬ (Precedes order.pairs x k)
 none_before callers nodes capacity seats live order t k seen kept view at none x =
     not_reached order.pairs x k (none-reaches order.pairs k x (λ w. not_true (is_recorded order.pairs w k) (λ r.
@@ -231,9 +218,6 @@ length-left (x ∷ xs) t seats ok h = go (cases_eq x.version t) (λ h. length-le
     none-left : (ys : List Tenant) → has_version ys t ≡ false → length (without_tenant ys t) ≡ length ys
     none-left [] h = refl
     none-left (y ∷ ys) h = let r = none-left ys in grind (arith, eqb_tells, h, r)
-
-    later : (a b : Bool) → (a || b) ≡ true → a ≡ false → b ≡ true
-    later a b h e = grind (arith, h, e)
 
     go : ((x.version ≡ t) ⊎ (x.version ≢ t)) → (has_version xs t ≡ true → length (without_tenant xs t) + 1 ≡ length xs) → length (without_tenant (x ∷ xs) t) + 1 ≡ suc (length xs)
     go (inl same) r =

@@ -1,3 +1,4 @@
+pub mod Truths
 pub mod Walks
 pub mod Gathered
 pub mod ShelfLemmas
@@ -11,6 +12,7 @@ pub mod Naming
 pub mod Beginning
 pub mod CountLemmas
 pub mod FreeSlots
+pub mod FoundPicks
 pub mod JobLemmas
 pub mod BookLemmas
 pub mod Fits

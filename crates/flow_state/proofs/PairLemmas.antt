@@ -10,21 +10,14 @@ use Rattle.order_graph.proofs.Reaching.{decides}
 use Rattle.flow_state.specs.declared.seating.Tenant.{Tenant}
 use Rattle.flow_state.specs.Seats.{Seated, LiveCalls, live_calls, with_pairs, calls_of, version_at, versions_of, pairs_of, has_version, has_slot, AreTenants, AreLinked, AreSeats}
 use Rattle.flow_state.proofs.SeatLemmas.{IsSlotOf}
-
-or_cases_of : (a b : Bool) → (a || b) ≡ true → a ≡ false → b ≡ true
-or_cases_of true b h e = absurd (true≢false e)
-or_cases_of false b h e = h
-
-or_there : (a b : Bool) → b ≡ true → (a || b) ≡ true
-or_there true b h = refl
-or_there false b h = h
+use Rattle.flow_state.proofs.Truths.{or_there, later}
 
 -- a slot that has a tenant has its version
 pub slot-version : (seats : List Seated) (live : List Tenant) (k : ℕ) → AreTenants seats live → has_slot live k ≡ true → has_version live (version_at seats k) ≡ true
 slot-version seats [] k ok h = absurd (false≢true h)
 slot-version seats (x ∷ xs) k ok h = elim (cases_eq x.slot k) [
   | inl same ↦ ap (λ b. b || has_version xs (version_at seats k)) (eq-eqb x.version (version_at seats k) (sym ok.0.version ∙ ap (version_at seats) same))
-  | inr other ↦ or_there (x.version == version_at seats k) _ (slot-version seats xs k ok.3 (or_cases_of (x.slot == k) _ h (ne_eqb x.slot k other)))
+  | inr other ↦ or_there (x.version == version_at seats k) _ (slot-version seats xs k ok.3 (later (x.slot == k) _ h (ne_eqb x.slot k other)))
 ]
 
 -- slots with one version are one
@@ -35,12 +28,12 @@ one_slot seats (x ∷ xs) j k ok h g e = go (one_slot seats xs j k ok.3) (cases_
     go : (has_slot xs j ≡ true → has_slot xs k ≡ true → version_at seats j ≡ version_at seats k → j ≡ k) → ((x.slot ≡ j) ⊎ (x.slot ≢ j)) → ((x.slot ≡ k) ⊎ (x.slot ≢ k)) → j ≡ k
     go rest (inl a) (inl b) = sym a ∙ b
     go rest (inl a) (inr b) =
-        let later = slot-version seats xs k ok.3 (or_cases_of (x.slot == k) _ g (ne_eqb x.slot k b)) in
+        let later = slot-version seats xs k ok.3 (later (x.slot == k) _ g (ne_eqb x.slot k b)) in
         absurd (true≢false (sym later ∙ ap (has_version xs) (sym e ∙ ap (version_at seats) (sym a) ∙ ok.0.version) ∙ ok.1))
     go rest (inr a) (inl b) =
-        let later = slot-version seats xs j ok.3 (or_cases_of (x.slot == j) _ h (ne_eqb x.slot j a)) in
+        let later = slot-version seats xs j ok.3 (later (x.slot == j) _ h (ne_eqb x.slot j a)) in
         absurd (true≢false (sym later ∙ ap (has_version xs) (e ∙ ap (version_at seats) (sym b) ∙ ok.0.version) ∙ ok.1))
-    go rest (inr a) (inr b) = rest (or_cases_of (x.slot == j) _ h (ne_eqb x.slot j a)) (or_cases_of (x.slot == k) _ g (ne_eqb x.slot k b)) e
+    go rest (inr a) (inr b) = rest (later (x.slot == j) _ h (ne_eqb x.slot j a)) (later (x.slot == k) _ g (ne_eqb x.slot k b)) e
 
 -- Two slots are told apart by their versions.
 abbrev pub Tells : List Seated → List Tenant → Type 0

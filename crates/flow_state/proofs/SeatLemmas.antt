@@ -8,10 +8,11 @@ use Rattle.flow_model.specs.Machine.State.{LiveCall, no_call, call_of, call_or, 
 use Rattle.std.specs.Prelude.{is_some}
 use Rattle.flow_state.specs.declared.seating.Tenant.{Tenant}
 use Rattle.flow_state.specs.Seats.{Seated, LiveCalls, no_seat, with_seated, find_call, has_call, on_live, seat_at, call_at, version_at, calls_of, versions_of, pairs_of, live_calls, slot_in, has_version, has_slot, IsTenant, AreTenants, AreSeats}
+use Rattle.flow_state.proofs.Truths.{or_there}
 
 -- ---- finding
 
-elim_some : (b : Bool) (c : LiveCall) (rest : List LiveCall) (t : ℕ) → is_some (elim b [ true ↦ Some c | false ↦ call_of rest t ]) ≡ (b || is_some (call_of rest t))
+pub elim_some : (b : Bool) (c : LiveCall) (rest : List LiveCall) (t : ℕ) → is_some (elim b [ true ↦ Some c | false ↦ call_of rest t ]) ≡ (b || is_some (call_of rest t))
 elim_some true c rest t = refl
 elim_some false c rest t = refl
 
@@ -29,10 +30,6 @@ pub record IsSlotOf (seats : List Seated) (live : List Tenant) (t k : ℕ) : Typ
   pub there : has_slot live k ≡ true
   pub room : (seat_at seats k).room ≡ length (call_at seats k).looks
   pub call : call_or (call_of (calls_of seats live) t) ≡ call_at seats k
-
-or_there : (a b : Bool) → b ≡ true → (a || b) ≡ true
-or_there true b h = refl
-or_there false b h = h
 
 pub slot_is : (seats : List Seated) (live : List Tenant) (t : ℕ) → AreTenants seats live → has_version live t ≡ true → IsSlotOf seats live t (slot_in live t)
 slot_is seats [] t ok h = absurd (false≢true h)
@@ -104,7 +101,7 @@ pub record Stays (old new : Seated) : Type 0 where
   pub room : new.room ≡ old.room
 
 -- a fact of each seat stays where it stays of the one that changes
-at_seat : (P : ℕ → Seated → Type 0) (seats : List Seated) (k : ℕ) (new : Seated) → k < length seats → P k new → (j : ℕ) → P j (seat_at seats j) → P j (seat_at (set seats k new) j)
+pub at_seat : (P : ℕ → Seated → Type 0) (seats : List Seated) (k : ℕ) (new : Seated) → k < length seats → P k new → (j : ℕ) → P j (seat_at seats j) → P j (seat_at (set seats k new) j)
 at_seat P seats k new h here j p = elim (cases_eq j k) [
   | inl same ↦ subst (λ (i : ℕ). P i (seat_at (set seats k new) i)) (sym same) (subst (P k) (sym (get_or-set_same seats k new no_seat h)) here)
   | inr other ↦ subst (P j) (sym (get_or-set_other seats k j new no_seat other)) p
@@ -161,7 +158,7 @@ calls-away seats k new (x ∷ xs) away = elim (cases_eq x.slot k) [
       ∙ ap (λ (cs : List LiveCall). call_at seats x.slot ∷ cs) (calls-away seats k new xs (sym (ap (λ b. b || has_slot xs k) (ne_eqb x.slot k other)) ∙ away))
 ]
 
-change-is : (t : ℕ) (f : LiveCall → LiveCall) (c : LiveCall) (cs : List LiveCall) (b : Bool) → (c.version == t) ≡ b → change_call t f (c ∷ cs) ≡ elim b [ true ↦ f c ∷ cs | false ↦ c ∷ change_call t f cs ]
+pub change-is : (t : ℕ) (f : LiveCall → LiveCall) (c : LiveCall) (cs : List LiveCall) (b : Bool) → (c.version == t) ≡ b → change_call t f (c ∷ cs) ≡ elim b [ true ↦ f c ∷ cs | false ↦ c ∷ change_call t f cs ]
 change-is t f c cs b e = ap (λ (b : Bool). elim b [ true ↦ f c ∷ cs | false ↦ c ∷ change_call t f cs ]) e
 
 pub calls-set : (seats : List Seated) (live : List Tenant) (t k : ℕ) (new : Seated) (f : LiveCall → LiveCall) → AreTenants seats live → has_version live t ≡ true → slot_in live t ≡ k → k < length seats → new.call ≡ f (call_at seats k) → calls_of (set seats k new) live ≡ change_call t f (calls_of seats live)

@@ -11,7 +11,7 @@ ghost use Rattle.signal_graph.specs.Machine.{sets_of, looks_of, misnamed};
 ghost use Rattle.order_graph.specs.Order.{reaches, is_recorded};
 ghost use Rattle.flow_model.specs.Machine.Sets.{least};
 ghost use Rattle.flow_model.specs.Machine.State.{call_of, changes};
-ghost use Rattle.flow_model.specs.Machine.Words.{gathered_of, set_value, presses};
+ghost use Rattle.flow_model.specs.Machine.Words.{gathered_of, set_value, presses, found_picks, picks_of_found};
 ghost use Rattle.flow_model.specs.Machine.Changes.{closed};
 ghost use Rattle.flow_model.specs.Machine.Steps.{started, counted, with_look, free_slot, is_framing_before};
 ghost use Rattle.flow_model.specs.Machine.Schedules.{version_of};
@@ -30,6 +30,7 @@ use crate::seating::Seating;
 use crate::shelf::Shelves;
 use call_log::Log;
 use script_tree::memory::OutOfMemory;
+use script_tree::picks::Picks;
 use script_tree::value::Value;
 use signal_graph::call::Call;
 use signal_graph::graph::Graph;
@@ -410,6 +411,18 @@ impl Book {
         ensures { found_option (option_copied result) ≡ (work_at self.now node).found }
     {
         self.shelves.found(node)
+    }
+
+    /// What a node's selectors have picked, in their order; no picks where nothing is found. Takes no memory.
+    pub fn found_picks(&self, node: u32) -> Picks
+        requires { node < node_count self.now }
+        ensures kept { result ≡ picks_of_found (work_at self.now node).found }
+        ensures machine { result ≡ found_picks (bare self.now.book) node }
+    {
+        match self.found(node) {
+            Some(finding) => finding.picks(),
+            None => Picks::new(),
+        }
     }
 
     /// The body's value for a node.

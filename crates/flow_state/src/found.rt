@@ -1,9 +1,13 @@
 // What an evaluation finds.
 
-ghost use Rattle.std.specs.Prelude.{◌≡◌, ◌<◌, ◌≤◌, [], ◌∷◌, ◌++◌, length, slice_get, Some};
+ghost use Rattle.std.specs.Prelude.{◌≡◌, ◌<◌, ◌≤◌, [], ◌∷◌, ◌++◌, length, map, slice_get, Some};
+ghost use Rattle.signal_graph.specs.Values.{taken};
+ghost use Rattle.flow_model.specs.Machine.Words.{picks_of_found};
+ghost use Rattle.flow_state.specs.Found.{found_of, selection_of};
 
 use arrayvec::ArrayVec;
 use script_tree::limits::SELECTORS;
+use script_tree::picks::Picks;
 use script_tree::value::{Fault, Value};
 use std::marker::Model;
 
@@ -12,6 +16,18 @@ use std::marker::Model;
 pub enum Found {
     Candidate(u32),
     Fault(Fault),
+}
+
+impl Found {
+    /// The candidate that is selected, by its node. None exactly where a fault stands in its place.
+    pub fn candidate(&self) -> Option<u32>
+        ensures { result ≡ taken (selection_of self.now) }
+    {
+        match self {
+            Found::Candidate(candidate) => Some(*candidate),
+            Found::Fault(_) => None,
+        }
+    }
 }
 
 impl Default for Found {
@@ -78,6 +94,17 @@ impl FoundList {
     {
         &self.items[index as usize]
     }
+
+    /// What the selectors pick, in their order.
+    pub fn picks(&self) -> Picks
+        ensures { result ≡ map taken (map selection_of self.now) }
+    {
+        let mut picks = Picks::new();
+        for index in 0..self.len() {
+            picks.push(self.get(index).candidate());
+        }
+        picks
+    }
 }
 
 /// What an evaluation of a node's scripts finds: the value of a signal or fold, or what each selector of a choose
@@ -86,4 +113,16 @@ impl FoundList {
 pub enum Finding {
     Gives(Value),
     Selects(FoundList),
+}
+
+impl Finding {
+    /// What the node's selectors pick, in their order; a signal or fold has none. Takes no memory.
+    pub fn picks(&self) -> Picks
+        ensures { result ≡ picks_of_found (Some (found_of self.now)) }
+    {
+        match self {
+            Finding::Gives(_) => Picks::new(),
+            Finding::Selects(list) => list.picks(),
+        }
+    }
 }

@@ -9,21 +9,19 @@ use Rattle.flow_model.specs.Machine.State.{LiveCall, change_call}
 use Rattle.flow_model.specs.Machine.Changes.{opened}
 use Rattle.flow_state.specs.Booked.{Booked, live_in, node_count, on_call, opened_one, wanting}
 use Rattle.flow_state.proofs.BookLemmas.{has-change}
+use Rattle.flow_state.proofs.SeatLemmas.{change-is}
 use Rattle.flow_state.proofs.Walks.{rest_is}
 use Rattle.framing.specs.Framed.{wanting_all, AreBelow, EdgesBelow}
 
 -- ---- changes of one call, one after the other
-
-change-by : (t : ℕ) (f : LiveCall → LiveCall) (c : LiveCall) (cs : List LiveCall) (b : Bool) → (c.version == t) ≡ b → change_call t f (c ∷ cs) ≡ elim b [ true ↦ f c ∷ cs | false ↦ c ∷ change_call t f cs ]
-change-by t f c cs b e = ap (λ (b : Bool). elim b [ true ↦ f c ∷ cs | false ↦ c ∷ change_call t f cs ]) e
 
 pub change-twice : (t : ℕ) (f g : LiveCall → LiveCall) (cs : List LiveCall) → ((c : LiveCall) → (f c).version ≡ c.version) → change_call t g (change_call t f cs) ≡ change_call t (λ c. g (f c)) cs
 change-twice t f g [] same = refl
 change-twice t f g (c ∷ cs) same = go (c.version == t) refl (change-twice t f g cs same)
   where
     go : (b : Bool) → (c.version == t) ≡ b → change_call t g (change_call t f cs) ≡ change_call t (λ c. g (f c)) cs → change_call t g (change_call t f (c ∷ cs)) ≡ change_call t (λ c. g (f c)) (c ∷ cs)
-    go true e r = ap (change_call t g) (change-by t f c cs true e) ∙ change-by t g (f c) cs true (ap (λ v. v == t) (same c) ∙ e) ∙ sym (change-by t (λ c. g (f c)) c cs true e)
-    go false e r = ap (change_call t g) (change-by t f c cs false e) ∙ change-by t g c (change_call t f cs) false e ∙ ap (λ (ds : List LiveCall). c ∷ ds) r ∙ sym (change-by t (λ c. g (f c)) c cs false e)
+    go true e r = ap (change_call t g) (change-is t f c cs true e) ∙ change-is t g (f c) cs true (ap (λ v. v == t) (same c) ∙ e) ∙ sym (change-is t (λ c. g (f c)) c cs true e)
+    go false e r = ap (change_call t g) (change-is t f c cs false e) ∙ change-is t g c (change_call t f cs) false e ∙ ap (λ (ds : List LiveCall). c ∷ ds) r ∙ sym (change-is t (λ c. g (f c)) c cs false e)
 
 pub change-none : (t : ℕ) (cs : List LiveCall) → change_call t (λ c. c) cs ≡ cs
 change-none t [] = refl

@@ -16,7 +16,7 @@ use Rattle.flow_model.proofs.General.Truths.{true_or_false, same_number, equal_t
 use Rattle.flow_state.specs.Booked.{Booked}
 use Rattle.flow_state.specs.Fitting.{list_of}
 use Rattle.interleave_core.specs.Whole.{cells_of, state_of, IsWhole}
-use Rattle.interleave_core.specs.Opening.{no_list, list_at}
+use Rattle.step_rules.specs.Sights.{no_versions, list_at}
 use Rattle.interleave_core.specs.Ending.{HasLastValue, HaveLastValues, last_value}
 use Rattle.interleave_core.proofs.Fits.{list_fits, all_nodes}
 
@@ -70,7 +70,7 @@ done_some (e ∷ es) u h = go (e.version == u) h (done_some es u)
 pub have_last_values : (graph : Graph) (book : Booked) (lists : List Versions) → IsWhole graph book lists → HaveLastValues lists
 have_last_values graph book lists kept n below =
     let s : Core = state_of book.book lists in
-    let is : list_at lists n ≡ list_of graph s n = list_fits graph book lists n (list_at lists n) kept below (get_or_default lists n no_list (list_at lists n) below) in
+    let is : list_at lists n ≡ list_of graph s n = list_fits graph book lists n (list_at lists n) kept below (get_or_default lists n no_versions (list_at lists n) below) in
     let many = kept.lawful.lists in
     let all = all_nodes graph book lists kept in
     let done = kept.lawful.ended_is_prefix.done n (omega (arith, below, many, all)) in
@@ -78,7 +78,7 @@ have_last_values graph book lists kept n below =
 
 pub last_at : (lists : List Versions) (n : ℕ) (list : Versions) → HaveLastValues lists → n < length lists → list ≡ get_or lists n list
     → HasLastValue list
-last_at lists n list have below is = subst HasLastValue (sym (is ∙ get_or_default lists n list no_list below)) (have n below)
+last_at lists n list have below is = subst HasLastValue (sym (is ∙ get_or_default lists n list no_versions below)) (have n below)
 
 -- ---- the values of all lists
 

@@ -16,7 +16,8 @@ use Rattle.node_versions.specs.Entries.{Versions, OutEdge, opened, has_out, with
 use Rattle.flow_model.proofs.General.Truths.{true_or_false, same_number, other_number, equal_test, or_cases, or_left, or_right}
 use Rattle.flow_model.proofs.Opening.OpeningLists.{picks_at_start, start_picks-listed, candidate-earlier}
 use Rattle.flow_state.specs.Fitting.{choosers}
-use Rattle.interleave_core.specs.Opening.{start_list, bare_list, no_list, list_at, gained, GainsEdges, CanGain, CanGainAll, CanGainNew, is_at, is_new_pick}
+use Rattle.step_rules.specs.Sights.{no_versions, list_at}
+use Rattle.interleave_core.specs.Opening.{start_list, bare_list, gained, GainsEdges, CanGain, CanGainAll, CanGainNew, is_at, is_new_pick}
 use Rattle.interleave_core.proofs.Counted.{numbers_are, passing, passing_more, length-append, lists}
 
 -- ---- one list gains an edge
@@ -29,11 +30,11 @@ gains_one n c ls was new h is made = record {
 }
   where
     here : new ≡ gained n true (list_at ls c)
-    here = made ∙ ap (gained n true) (is ∙ get_or_default ls c was no_list h)
+    here = made ∙ ap (gained n true) (is ∙ get_or_default ls c was no_versions h)
 
     go : (m : ℕ) → m < length ls → ((c == m) ≡ true) ⊎ ((c == m) ≡ false) → list_at (set ls c new) m ≡ gained n (c == m) (list_at ls m)
-    go m below (inl e) = rw e (subst (λ (k : ℕ). get_or (set ls c new) k no_list ≡ gained n true (list_at ls k)) (same_number c m e) (get_or-set_same ls c new no_list h ∙ here))
-    go m below (inr e) = rw e (get_or-set_other ls c m new no_list (λ same. other_number c m e (sym same)))
+    go m below (inl e) = rw e (subst (λ (k : ℕ). get_or (set ls c new) k no_versions ≡ gained n true (list_at ls k)) (same_number c m e) (get_or-set_same ls c new no_versions h ∙ here))
+    go m below (inr e) = rw e (get_or-set_other ls c m new no_versions (λ same. other_number c m e (sym same)))
 
 pub gains_none : (n : ℕ) (test : ℕ → Bool) (ls : List Versions) → ((m : ℕ) → test m ≡ false) → GainsEdges n test ls ls
 gains_none n test ls f = record { size = refl; each = λ m h. let e = f m in rw e refl }
@@ -218,7 +219,7 @@ pub bare_opened : (graph : Graph) (callers : ℕ) (ls : List Versions) → ls �
     → IsOpened graph callers 0 ls
 bare_opened graph callers ls e = record {
   size = ap length e ∙ map_length (bare_list graph callers) graph;
-  each = λ m h. ap (λ xs. list_at xs m) e ∙ map_at (bare_list graph callers) graph m no_list h;
+  each = λ m h. ap (λ xs. list_at xs m) e ∙ map_at (bare_list graph callers) graph m no_versions h;
 }
 
 pub opened_more : (graph : Graph) (callers k : ℕ) (ls new : List Versions) → IsOpened graph callers k ls
@@ -241,12 +242,12 @@ opened_more graph callers k ls new so g = record {
 
 pub opened_all : (graph : Graph) (callers k : ℕ) (ls : List Versions) → IsOpened graph callers k ls → k ≡ length graph.nodes
     → ls ≡ map (start_list graph callers) (numbers graph)
-opened_all graph callers k ls so all = ext_get_or no_list ls _ (so.size ∙ sym (map_length (start_list graph callers) graph)) (λ m h.
+opened_all graph callers k ls so all = ext_get_or no_versions ls _ (so.size ∙ sym (map_length (start_list graph callers) graph)) (λ m h.
     let s = so.size in
     let below : m < length graph.nodes = omega (arith, h, s) in
     so.each m below
     ∙ ap (λ (ns : List ℕ). with_outs (bare_list graph callers m) (map (λ (n : ℕ). (n, 0)) (filter (picks_at_start graph m) ns))) (ap (range_with_len 0) all ∙ sym (numbers_are graph))
-    ∙ sym (map_at (start_list graph callers) graph m no_list below))
+    ∙ sym (map_at (start_list graph callers) graph m no_versions below))
 
 -- ---- there is room
 

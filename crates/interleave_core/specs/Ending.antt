@@ -3,7 +3,7 @@ use Rattle.std.specs.Prelude.{ℕ, ◌<◌, List, length}
 use Rattle.std.specs.Option.{IsSome}
 use Rattle.script_tree.specs.declared.value.Value.{Value}
 use Rattle.node_versions.specs.Entries.{Versions, IsUnique, last_done, state_of, value_of}
-use Rattle.interleave_core.specs.Opening.{list_at}
+use Rattle.step_rules.specs.Sights.{list_at}
 
 -- the value of the last Done
 abbrev pub last_value : Versions → Value

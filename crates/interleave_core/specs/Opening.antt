@@ -1,11 +1,12 @@
 -- What a core begins with: the list of each node, with the out-edges of the nodes that pick it at the start.
-use Rattle.std.specs.Prelude.{◌≡◌, ℕ, ◌+◌, ◌<◌, ◌==◌, Bool, true, false, ◌&&◌, not, List, [], ◌∷◌, length, take, Option, Some, slice_get, slice_index_or}
+use Rattle.std.specs.Prelude.{◌≡◌, ℕ, ◌<◌, ◌==◌, Bool, true, false, ◌&&◌, not, List, [], ◌∷◌, length, take, Option, Some, slice_get}
 use Rattle.signal_graph.specs.Graph.{Graph, is_in}
 use Rattle.signal_graph.specs.Values.{nodes_in, val, picks, start}
 use Rattle.node_versions.specs.Entries.{Versions, opened, has_out, with_out, with_outs}
 use Rattle.flow_model.specs.Machine.State.{opening, start_entry, start_outs}
 use Rattle.flow_model.specs.Machine.Words.{list_room}
 use Rattle.flow_state.specs.Fitting.{choosers}
+use Rattle.step_rules.specs.Sights.{list_at}
 use Rattle.interleave_core.specs.Whole.{Whole}
 
 -- a core before any call
@@ -24,14 +25,6 @@ start_list graph callers n = record {
 -- the same without out-edges
 abbrev pub bare_list : Graph → ℕ → ℕ → Versions
 bare_list graph callers n = opened (list_room callers) (choosers graph n) (val graph (start graph) n) (picks graph (start graph) n)
-
--- a list with nothing in it
-abbrev pub no_list : Versions
-no_list = record { entries = []; outs = []; room = 0; outs_room = 0 }
-
--- the list of a node
-abbrev pub list_at : List Versions → ℕ → Versions
-list_at lists m = slice_index_or lists m no_list
 
 -- the list with an out-edge to n, where the test is passed
 abbrev pub gained : ℕ → Bool → Versions → Versions

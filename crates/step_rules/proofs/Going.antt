@@ -10,10 +10,14 @@ use Rattle.signal_graph.specs.Values.{nodes_in}
 use Rattle.flow_model.proofs.General.Truths.{or_left, or_right, equal_test}
 use Rattle.step_rules.specs.Rests.{AreBelow, rests_on}
 
--- ---- picks
+-- ---- items
 
-picks-at : (picks : List (Option ℕ)) (i : ℕ) (pick : Option ℕ) → slice_get picks i ≡ Some pick → drop i picks ≡ pick ∷ drop (i + 1) picks
-picks-at picks i pick h = drop_more picks i None (slice_get_within picks i pick h) ∙ ap (λ (o : Option ℕ). o ∷ drop (i + 1) picks) (get_or_from_slice_get picks i pick None h)
+-- what is left from an index on begins with the item there
+pub item-at : {A : Type 0} (xs : List A) (i : ℕ) (x : A) → slice_get xs i ≡ Some x → drop i xs ≡ x ∷ drop (i + 1) xs
+item-at {A} xs i x h = drop_more xs i x (slice_get_within xs i x h)
+    ∙ ap (λ (y : A). y ∷ drop (i + 1) xs) (get_or_from_slice_get xs i x x h)
+
+-- ---- picks
 
 any-first : (test : ℕ → Bool) (pick : Option ℕ) (rest : List (Option ℕ)) → list_any test (nodes_in (pick ∷ rest)) ≡ (list_any test (nodes_in (pick ∷ [])) || list_any test (nodes_in rest))
 any-first test None rest = refl
@@ -32,10 +36,10 @@ all-first test (Some n) rest = either (test n)
     either false = refl
 
 any-picks : (test : ℕ → Bool) (picks : List (Option ℕ)) (i : ℕ) (pick : Option ℕ) → slice_get picks i ≡ Some pick → list_any test (nodes_in (drop i picks)) ≡ (list_any test (nodes_in (pick ∷ [])) || list_any test (nodes_in (drop (i + 1) picks)))
-any-picks test picks i pick h = ap (λ (ps : List (Option ℕ)). list_any test (nodes_in ps)) (picks-at picks i pick h) ∙ any-first test pick (drop (i + 1) picks)
+any-picks test picks i pick h = ap (λ (ps : List (Option ℕ)). list_any test (nodes_in ps)) (item-at picks i pick h) ∙ any-first test pick (drop (i + 1) picks)
 
 all-picks : (test : ℕ → Bool) (picks : List (Option ℕ)) (i : ℕ) (pick : Option ℕ) → slice_get picks i ≡ Some pick → list_all test (nodes_in (drop i picks)) ≡ (list_all test (nodes_in (pick ∷ [])) && list_all test (nodes_in (drop (i + 1) picks)))
-all-picks test picks i pick h = ap (λ (ps : List (Option ℕ)). list_all test (nodes_in ps)) (picks-at picks i pick h) ∙ all-first test pick (drop (i + 1) picks)
+all-picks test picks i pick h = ap (λ (ps : List (Option ℕ)). list_all test (nodes_in ps)) (item-at picks i pick h) ∙ all-first test pick (drop (i + 1) picks)
 
 pub any_picks_found : (test : ℕ → Bool) (picks : List (Option ℕ)) (i : ℕ) (pick : Option ℕ) (whole : Bool) → slice_get picks i ≡ Some pick → list_any test (nodes_in (drop i picks)) ≡ whole → list_any test (nodes_in (pick ∷ [])) ≡ true → true ≡ whole
 any_picks_found test picks i pick whole h so k = sym (ap (λ (b : Bool). b || list_any test (nodes_in (drop (i + 1) picks))) k) ∙ sym (any-picks test picks i pick h) ∙ so

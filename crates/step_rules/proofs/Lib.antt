@@ -8,4 +8,3 @@ mod Shrinking
 mod Truths
 mod Turns
 mod Wholes
-mod Works

@@ -1,18 +1,16 @@
 -- What the code finds of a list by indexes.
-use Rattle.std.proofs.Common.{◌≡◌, ℕ, ◌+◌, ◌<◌, ◌≤◌, Bool, true, false, not, ◌&&◌, ◌||◌, ◌==◌, cond, List, [], ◌∷◌, length, take, drop, nat_lt, refl, sym, ap, ap₂, ◌∙◌, arith, subst, zero, suc, Option, Some, None, true≢false}
+use Rattle.std.proofs.Common.{◌≡◌, ℕ, ◌+◌, ◌<◌, ◌≤◌, Bool, true, false, not, ◌||◌, ◌==◌, cond, List, [], ◌∷◌, length, take, drop, nat_lt, refl, sym, ap, ◌∙◌, arith, subst, zero, suc, Option, Some, None, true≢false}
 use Rattle.std.specs.List.{position_or_len, position, slice_get}
 use Rattle.std.proofs.lemmas.Bool.Decides.{eqb_tells, nat_tests}
 use Rattle.std.proofs.lemmas.Bool.{eqb-true}
 use Rattle.node_versions.specs.declared.entry.Entry.{Entry}
 use Rattle.node_versions.specs.declared.entry.State.{State}
-use Rattle.node_versions.specs.Entries.{is_mark, is_frame, has, at, behind, before, served, IsUnique, is_of, first_open, OutEdge, has_out, has_node, is_edge}
+use Rattle.node_versions.specs.Entries.{is_mark, is_frame, has, at, behind, before, IsUnique, is_of, first_open, OutEdge, has_out, has_node, is_edge}
 use Rattle.node_versions.proofs.Places.{place, has-place, take-before}
 use Rattle.node_versions.proofs.Indexes.{opens, entry_at_index}
 use Rattle.flow_model.specs.Machine.Next.{blocked, blocked_by, kept_if}
 use Rattle.step_rules.specs.Sights.{sight_of}
-
-one_more : (n : ℕ) → 1 + n ≡ suc n
-one_more n = omega arith
+use Rattle.step_rules.proofs.Going.{item-at}
 
 -- where the first Frame stands below an index, and where it doesn't
 pub open_below : (es : List Entry) (n : ℕ) → first_open (take n es) ≡ elim (nat_lt (position_or_len opens es) n) as (λ _. Option ℕ) [ true ↦ first_open es | false ↦ None ]
@@ -44,13 +42,6 @@ first-has (e ∷ es) v h = go (is_frame e.state) h (first-has es v)
 no_behind : (es : List Entry) (t u : ℕ) → has es u ≡ false → behind es t u ≡ false
 no_behind [] t u h = refl
 no_behind (e ∷ es) t u h = let r = no_behind es t u in grind (arith, h, r)
-
-behind-has : (es : List Entry) (v t : ℕ) → behind es v t ≡ true → has es t ≡ true
-behind-has es v t h = go (has es t) refl
-  where
-    go : (b : Bool) → has es t ≡ b → has es t ≡ true
-    go true k = k
-    go false k = absurd (true≢false (sym h ∙ no_behind es v t k))
 
 -- without an entry nothing stands before it
 pub blocked-none : (es : List Entry) (t : ℕ) → has es t ≡ false → blocked es t ≡ None
@@ -122,25 +113,6 @@ blocked-at es t i q at h =
     let r = has-place es t in
     ap (λ n. first_open (take n es)) at ∙ ap first_open (take-before es t) ∙ sym (blocked-before es t q (grind (arith, nat_tests, r, at, h)))
 
--- a call is served where its entry stands before the first Frame
-pub served-place : (es : List Entry) (t : ℕ) → served es t ≡ (has es t && nat_lt (place es t) (position_or_len opens es))
-served-place [] t = refl
-served-place (e ∷ es) t = go (is_frame e.state) (e.version == t) (served-place es t)
-  where
-    p : ℕ
-    p = place es t
-
-    f : ℕ
-    f = position_or_len opens es
-
-    go : (b c : Bool) → served es t ≡ (has es t && nat_lt p f)
-        → elim b as (λ _. Bool) [ true ↦ false | false ↦ c || served es t ]
-        ≡ ((c || has es t) && nat_lt (cond (not c) (1 + p) 0) (cond (not b) (1 + f) 0))
-    go true true r = grind (arith, nat_tests)
-    go true false r = grind (arith, nat_tests)
-    go false true r = grind (arith, nat_tests)
-    go false false r = r ∙ ap (λ x. has es t && x) (grind (arith, nat_tests))
-
 -- the entry of an index is a Mark where the call's is
 pub at-index : (es : List Entry) (t i : ℕ) (e : Entry) (test : State → Bool) → i ≡ place es t → slice_get es i ≡ Some e → test e.state ≡ at test es t
 at-index es t i e test is h = sym ((entry_at_index es t i is).state e test h)
@@ -180,47 +152,16 @@ below-none es n is = sym (open_below es n ∙ go (nat_lt (position_or_len opens 
     go true = is
     go false = refl
 
--- what is served
-no-frame : (es : List Entry) → first_open es ≡ None → position_or_len opens es ≡ length es
-no-frame [] h = refl
-no-frame (e ∷ es) h = go (is_frame e.state) h (no-frame es)
-  where
-    go : (b : Bool) → elim b as (λ _. Option ℕ) [ true ↦ Some e.version | false ↦ first_open es ] ≡ None → (first_open es ≡ None → position_or_len opens es ≡ length es) → cond (not b) (1 + position_or_len opens es) 0 ≡ suc (length es)
-    go true h r = cc
-    go false h r = ap (λ n. 1 + n) (r h) ∙ one_more (length es)
-
-pub served-found : (es : List Entry) (t i f : ℕ) → Some i ≡ position (is_of t) es → Some f ≡ position opens es → i < length es → nat_lt i f ≡ served es t
-served-found es t i f at first h =
-    let p = found-at (is_of t) es i (sym at) in let q = found-at opens es f (sym first) in let r = has-place es t in
-    let own : has es t ≡ true = grind (arith, nat_tests, r, p, h) in
-    ap₂ (λ a b. nat_lt a b) p q ∙ ap (λ b. b && nat_lt (place es t) (position_or_len opens es)) (sym own) ∙ sym (served-place es t)
-
-pub served-all : (es : List Entry) (t i : ℕ) → Some i ≡ position (is_of t) es → first_open es ≡ None → i < length es → true ≡ served es t
-served-all es t i at first h =
-    let p = found-at (is_of t) es i (sym at) in let q = no-frame es first in let r = has-place es t in let s = served-place es t in
-    grind (arith, nat_tests, p, q, r, s, h)
-
-pub served-absent : (es : List Entry) (t : ℕ) → false ≡ has es t → false ≡ served es t
-served-absent es t h = let s = served-place es t in grind (arith, h, s)
-
 -- ---- out-edges
-
-pub drop-at : (outs : List OutEdge) (i : ℕ) (edge : OutEdge) → slice_get outs i ≡ Some edge → drop i outs ≡ edge ∷ drop (i + 1) outs
-drop-at [] i edge h = cc
-drop-at (x ∷ xs) zero edge h = let s = h in grind (arith, s)
-drop-at (x ∷ xs) (suc i) edge h = drop-at xs i edge h ∙ ap (λ n. edge ∷ drop n (x ∷ xs)) (next i)
-  where
-    next : (i : ℕ) → suc (i + 1) ≡ suc i + 1
-    next i = omega arith
 
 -- what is found from an index on
 pub out-here : (outs : List OutEdge) (i n t : ℕ) (edge : OutEdge) → slice_get outs i ≡ Some edge
     → has_out (drop i outs) n t ≡ (is_edge n t edge || has_out (drop (i + 1) outs) n t)
-out-here outs i n t edge h = ap (λ (xs : List OutEdge). has_out xs n t) (drop-at outs i edge h)
+out-here outs i n t edge h = ap (λ (xs : List OutEdge). has_out xs n t) (item-at outs i edge h)
 
 pub node-here : (outs : List OutEdge) (i n : ℕ) (edge : OutEdge) → slice_get outs i ≡ Some edge
     → has_node (drop i outs) n ≡ ((edge.0 == n) || has_node (drop (i + 1) outs) n)
-node-here outs i n edge h = ap (λ (xs : List OutEdge). has_node xs n) (drop-at outs i edge h)
+node-here outs i n edge h = ap (λ (xs : List OutEdge). has_node xs n) (item-at outs i edge h)
 
 -- ---- what a list says of a call
 

@@ -1,9 +1,8 @@
 // Whether a step is allowed.
 
-ghost use Rattle.std.specs.Prelude.{◌≡◌, true, ℕ, length, ◌&&◌, nat_lt};
+ghost use Rattle.std.specs.Prelude.{◌≡◌, true, ◌&&◌};
 ghost use Rattle.flow_model.specs.Machine.State.{Core};
 ghost use Rattle.flow_model.specs.Machine.Steps.{allowed};
-ghost use Rattle.flow_model.specs.Machine.Keys.{version_of_step};
 ghost use Rattle.flow_model.specs.Parts.Books.{allowed_in};
 ghost use Rattle.step_rules.specs.Fits.{IsWhole, IsWholeOf, listed};
 ghost use Rattle.step_rules.specs.Known.{is_known, are_nodes, is_of_live, nodes_of_step};

@@ -1,9 +1,8 @@
 // Steps for which a call enters a list, or has an entry there.
 
-ghost use Rattle.std.specs.Prelude.{◌≡◌, ◌<◌, ◌+◌, ◌∷◌, [], Some, not, length, true};
-ghost use Rattle.node_versions.specs.Entries.{has, at, is_mark};
+ghost use Rattle.std.specs.Prelude.{◌≡◌, ◌<◌, Some, true};
+ghost use Rattle.node_versions.specs.Entries.{has, is_mark};
 ghost use Rattle.flow_model.specs.Machine.State.{opens};
-ghost use Rattle.flow_model.specs.Parts.Books.{bare};
 ghost use Rattle.flow_state.specs.Booked.{live_in, node_count};
 ghost use Rattle.step_rules.specs.Points.{entering_list, unless_blocked, framing_in, entered_in, reading_in, reading_candidate_in};
 

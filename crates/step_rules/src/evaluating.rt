@@ -9,7 +9,7 @@ ghost use Rattle.step_rules.specs.Fits.{IsWhole, listed};
 use crate::fronts::front_picks;
 use crate::lists::Lists;
 use crate::resting::is_touched;
-use crate::working::{are_gathered, are_picks_gathered, found_picks, is_found};
+use crate::working::{are_gathered, are_picks_gathered, is_found};
 use flow_state::Book;
 use signal_graph::graph::Graph;
 
@@ -69,7 +69,7 @@ pub(crate) fn may_evaluate_body<L: Lists>(
     if !is_found(book, node) {
         return false;
     }
-    if !are_picks_gathered(book, node, &found_picks(book, node)) {
+    if !are_picks_gathered(book, node, &book.found_picks(node)) {
         return false;
     }
     book.body(node).is_none()

@@ -14,9 +14,7 @@ ghost use Rattle.step_rules.specs.Rests.{AreBelow};
 use crate::fronts::{is_pressed, work_picks};
 use crate::lists::Lists;
 use crate::resting::is_touched;
-use crate::working::{
-    are_picks_gathered, found_picks, has_body_value, has_pick, is_found, is_source,
-};
+use crate::working::{are_picks_gathered, has_body_value, has_pick, is_found, is_source};
 use flow_state::Book;
 use script_tree::picks::Picks;
 use signal_graph::graph::Graph;
@@ -101,7 +99,7 @@ fn is_worked_out<L: Lists>(
     if !is_found(book, node) {
         return false;
     }
-    let found = found_picks(book, node);
+    let found = book.found_picks(node);
     if !are_picks_gathered(book, node, &found) {
         return false;
     }

@@ -3,7 +3,7 @@
 
 pub use allowing::allowed;
 pub use causes::why_not_ended;
-pub use lists::{AllLists, Lists, Sight, can_collect, served, sight_of};
+pub use lists::{AllLists, Lists, Sight, can_collect, sight_of};
 pub use next_step::next;
 pub use next_step_at::next_at;
 

@@ -100,7 +100,7 @@ impl Lists for AllLists<'_> {
     }
 
     fn served(&mut self, node: u32, version: u32) -> bool {
-        served(&self.lists[node as usize], version)
+        self.lists[node as usize].served(version)
     }
 
     fn picks_before(&mut self, node: u32, version: u32) -> Picks {
@@ -170,19 +170,6 @@ fn first_open(list: &NodeList) -> Option<u32>
     match list.first_open() {
         Some(index) => Some(list.get(index).version),
         None => None,
-    }
-}
-
-/// Whether the call has an entry that is no Frame, and no Frame stands before it. Takes no memory.
-pub fn served(list: &NodeList, version: u32) -> bool
-    ensures { result ≡ served list.now.entries version }
-{
-    let Some(own) = list.entry_of(version) else {
-        return false;
-    };
-    match list.first_open() {
-        Some(open) => own < open,
-        None => true,
     }
 }
 

@@ -3,7 +3,6 @@
 ghost use Rattle.std.specs.Prelude.{◌≡◌, true};
 ghost use Rattle.flow_model.specs.Machine.State.{Core};
 ghost use Rattle.flow_model.specs.Machine.Next.{next};
-ghost use Rattle.flow_model.specs.Parts.Books.{bare};
 ghost use Rattle.flow_state.specs.Booked.{live_in};
 ghost use Rattle.step_rules.specs.Fits.{IsWholeOf, IsWhole};
 ghost use Rattle.step_rules.specs.Points.{turn_in};

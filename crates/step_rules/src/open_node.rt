@@ -16,12 +16,12 @@ ghost use Rattle.step_rules.specs.Rests.{AreBelow};
 use crate::entering::{entered, framing, reading, reading_candidate};
 use crate::lists::Lists;
 use crate::picked::{found_candidates, nodes_in};
-use crate::searches::{any_changed, first_held, first_new, first_open, first_ungathered};
+use crate::searches::{first_held, first_new, first_open, first_ungathered};
+use crate::working::{has_body_value, is_found, is_source};
 use flow_model::{Cause, Step, Turn};
 use flow_state::Book;
 use retrofit::to_help;
 use signal_graph::graph::Graph;
-use signal_graph::node::Node;
 
 /// What comes next for a call at a node that is open for it: the first of the points there that applies. Where the node
 /// is `given`, the call has to have finished at all that the node rests on; at its least open node it has.
@@ -209,28 +209,5 @@ fn is_touched(book: &Book, graph: &Graph, version: u32, node: u32, picked: &[u32
     requires picked { AreBelow (node_count book.now) picked.now }
     ensures { result ≡ list_any (changes (bare book.now.book) version) (inputs_of (node_at graph.now node) ++ picked.now) }
 {
-    any_changed(book, version, graph.inputs(node)) || any_changed(book, version, picked)
-}
-
-fn is_source(graph: &Graph, node: u32) -> bool
-    requires { node < length graph.now.nodes }
-    ensures { result ≡ is_source (node_at graph.now node) }
-{
-    matches!(graph.node(node), Node::Source(_))
-}
-
-fn is_found(book: &Book, node: u32) -> bool
-    requires { node < node_count book.now }
-    ensures { result ≡ is_found (bare book.now.book) node }
-{
-    book.found(node).is_some()
-}
-
-// Whether the body of a node that has one is evaluated.
-fn has_body_value(book: &Book, graph: &Graph, node: u32) -> bool
-    requires node { node < node_count book.now }
-    requires known { node < length graph.now.nodes }
-    ensures { result ≡ has_body_value graph.now (bare book.now.book) node }
-{
-    graph.body(node).is_none() || book.body(node).is_some()
+    book.any_changed(version, graph.inputs(node)) || book.any_changed(version, picked)
 }

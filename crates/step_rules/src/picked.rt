@@ -1,14 +1,13 @@
 // Nodes that were picked or found, as short lists.
 
-ghost use Rattle.std.specs.Prelude.{◌≡◌, ◌<◌, map, Some};
-ghost use Rattle.signal_graph.specs.Values.{nodes_in, taken};
-ghost use Rattle.flow_model.specs.Machine.Words.{found_candidates, picks_of_found};
+ghost use Rattle.std.specs.Prelude.{◌≡◌, ◌<◌, Some};
+ghost use Rattle.signal_graph.specs.Values.{nodes_in};
+ghost use Rattle.flow_model.specs.Machine.Words.{found_candidates};
 ghost use Rattle.flow_model.specs.Parts.Books.{bare};
-ghost use Rattle.flow_state.specs.Booked.{node_count, work_at};
-ghost use Rattle.flow_state.specs.Found.{found_of, selection_of};
+ghost use Rattle.flow_state.specs.Booked.{node_count};
 
 use arrayvec::ArrayVec;
-use flow_state::{Book, Finding, Found, FoundList};
+use flow_state::Book;
 use script_tree::limits::SELECTORS;
 use script_tree::picks::Picks;
 
@@ -30,29 +29,5 @@ pub(crate) fn found_candidates(book: &Book, node: u32) -> ArrayVec<u32, SELECTOR
     requires { node < node_count book.now }
     ensures { result.items ≡ found_candidates (bare book.now.book) node }
 {
-    match book.found(node) {
-        Some(finding) => candidates_of(finding),
-        None => ArrayVec::new(),
-    }
-}
-
-fn candidates_of(finding: &Finding) -> ArrayVec<u32, SELECTORS>
-    ensures { result.items ≡ nodes_in (picks_of_found (Some (found_of finding.now))) }
-{
-    match finding {
-        Finding::Gives(_) => ArrayVec::new(),
-        Finding::Selects(list) => candidates_in(list),
-    }
-}
-
-fn candidates_in(list: &FoundList) -> ArrayVec<u32, SELECTORS>
-    ensures { result.items ≡ nodes_in (map taken (map selection_of list.now)) }
-{
-    let mut nodes = ArrayVec::new();
-    for index in 0..list.len() {
-        if let Found::Candidate(node) = list.get(index) {
-            nodes.push(*node);
-        }
-    }
-    nodes
+    nodes_in(&book.found_picks(node))
 }

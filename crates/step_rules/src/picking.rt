@@ -8,7 +8,7 @@ ghost use Rattle.step_rules.specs.Fits.{IsWhole, listed};
 
 use crate::fronts::{due_picks, has_place};
 use crate::lists::Lists;
-use crate::working::{are_picks_gathered, found_picks, has_pick, is_candidate, is_found};
+use crate::working::{are_picks_gathered, has_pick, is_candidate, is_found};
 use flow_state::Book;
 use signal_graph::graph::Graph;
 
@@ -70,7 +70,7 @@ pub(crate) fn may_drop<L: Lists>(
     if !is_found(book, node) {
         return false;
     }
-    if !are_picks_gathered(book, node, &found_picks(book, node)) {
+    if !are_picks_gathered(book, node, &book.found_picks(node)) {
         return false;
     }
     if !has_pick(&picks, candidate) {

@@ -1,11 +1,11 @@
 // What a node rests on before a call.
 
 ghost use Rattle.std.specs.Prelude.{◌≡◌, ◌<◌, true, ◌∷◌, [], length};
-ghost use Rattle.signal_graph.specs.Graph.{node_at, inputs_of};
 ghost use Rattle.signal_graph.specs.Values.{nodes_in};
 ghost use Rattle.flow_state.specs.Booked.{live_in, node_count};
 ghost use Rattle.step_rules.specs.Rests.{AreBelow, any_open, any_changed, rests_on, is_touched};
 
+use crate::picked::nodes_in;
 use flow_state::Book;
 use script_tree::picks::Picks;
 use signal_graph::graph::Graph;
@@ -40,10 +40,10 @@ pub(crate) fn is_touched(book: &Book, graph: &Graph, version: u32, node: u32, pi
     if let Node::Source(_) = graph.node(node) {
         return false;
     }
-    if any_changed(book, version, graph.inputs(node)) {
+    if book.any_changed(version, graph.inputs(node)) {
         return true;
     }
-    any_pick_changed(book, version, picks)
+    book.any_changed(version, nodes_in(picks).as_slice())
 }
 
 fn any_open(book: &Book, version: u32, nodes: &[u32]) -> bool
@@ -79,43 +79,6 @@ fn is_pick_open(book: &Book, version: u32, pick: Option<u32>) -> bool
 {
     match pick {
         Some(node) => book.opens(version, node),
-        None => false,
-    }
-}
-
-fn any_changed(book: &Book, version: u32, nodes: &[u32]) -> bool
-    requires live { live_in book.now version ≡ true }
-    requires inside { AreBelow (node_count book.now) nodes.now }
-    ensures { result ≡ any_changed book.now version nodes.now }
-{
-    for node in nodes {
-        if book.changes(version, *node) {
-            return true;
-        }
-    }
-    false
-}
-
-fn any_pick_changed(book: &Book, version: u32, picks: &Picks) -> bool
-    requires live { live_in book.now version ≡ true }
-    requires inside { AreBelow (node_count book.now) (nodes_in picks.now) }
-    ensures { result ≡ any_changed book.now version (nodes_in picks.now) }
-{
-    for index in 0..picks.len() {
-        if is_pick_changed(book, version, picks.get(index)) {
-            return true;
-        }
-    }
-    false
-}
-
-fn is_pick_changed(book: &Book, version: u32, pick: Option<u32>) -> bool
-    requires live { live_in book.now version ≡ true }
-    requires inside { AreBelow (node_count book.now) (nodes_in (pick ∷ [])) }
-    ensures { result ≡ any_changed book.now version (nodes_in (pick ∷ [])) }
-{
-    match pick {
-        Some(node) => book.changes(version, node),
         None => false,
     }
 }

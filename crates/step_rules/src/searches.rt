@@ -1,9 +1,7 @@
 // The first of some nodes that passes a test.
 
-ghost use Rattle.std.specs.Prelude.{◌≡◌, ◌<◌, ◌++◌, true, not, find, is_some};
-ghost use Rattle.std.specs.List.{list_any};
-ghost use Rattle.signal_graph.specs.Graph.{is_in};
-ghost use Rattle.flow_model.specs.Machine.State.{opens, changes};
+ghost use Rattle.std.specs.Prelude.{◌≡◌, ◌<◌, true, not, find, is_some};
+ghost use Rattle.flow_model.specs.Machine.State.{opens};
 ghost use Rattle.flow_model.specs.Machine.Words.{is_gathered};
 ghost use Rattle.flow_model.specs.Parts.Books.{bare};
 ghost use Rattle.flow_state.specs.Booked.{live_in, node_count};
@@ -11,6 +9,7 @@ ghost use Rattle.step_rules.specs.Points.{is_new_in, is_held_in};
 ghost use Rattle.step_rules.specs.Rests.{AreBelow};
 
 use crate::lists::Lists;
+use crate::working::is_among;
 use flow_state::Book;
 
 /// The first of some nodes that is open for the call.
@@ -25,15 +24,6 @@ pub(crate) fn first_open(book: &Book, version: u32, nodes: &[u32]) -> Option<u32
         }
     }
     None
-}
-
-/// Whether the call has changed one of some nodes.
-pub(crate) fn any_changed(book: &Book, version: u32, nodes: &[u32]) -> bool
-    requires live { live_in book.now version ≡ true }
-    requires inside { AreBelow (node_count book.now) nodes.now }
-    ensures { result ≡ list_any (changes (bare book.now.book) version) nodes.now }
-{
-    book.any_changed(version, nodes)
 }
 
 /// The first of some nodes whose value is not gathered for a node.
@@ -87,7 +77,7 @@ fn is_new<L: Lists>(lists: &mut L, version: u32, node: u32, picked: &[u32], cand
     ensures lists { L.listing_of lists.new ≡ L.listing_of lists.old }
     ensures nodes { L.nodes lists.new ≡ L.nodes lists.old }
 {
-    if contains(picked, candidate) {
+    if is_among(picked, candidate) {
         return false;
     }
     !lists.has_out(candidate, node, version)
@@ -119,20 +109,8 @@ fn is_held<L: Lists>(lists: &mut L, node: u32, found: &[u32], candidate: u32) ->
     ensures lists { L.listing_of lists.new ≡ L.listing_of lists.old }
     ensures nodes { L.nodes lists.new ≡ L.nodes lists.old }
 {
-    if contains(found, candidate) {
+    if is_among(found, candidate) {
         return false;
     }
     lists.has_node(candidate, node)
-}
-
-// Whether a node is among some nodes.
-fn contains(nodes: &[u32], node: u32) -> bool
-    ensures { result ≡ is_in node nodes.now }
-{
-    for other in nodes {
-        if *other == node {
-            return true;
-        }
-    }
-    false
 }

@@ -2,7 +2,6 @@
 
 ghost use Rattle.std.specs.Prelude.{◌≡◌, true};
 ghost use Rattle.signal_graph.specs.Graph.{Graph};
-ghost use Rattle.flow_model.specs.Parts.Books.{bare};
 ghost use Rattle.flow_state.specs.Booked.{live_in};
 ghost use Rattle.step_rules.specs.Fits.{IsWhole};
 ghost use Rattle.step_rules.specs.Points.{first_points, first_point, starting_in};

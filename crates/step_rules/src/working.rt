@@ -1,16 +1,14 @@
 // What is gathered, found and evaluated at a node.
 
-ghost use Rattle.std.specs.Prelude.{◌≡◌, ◌<◌, ◌∷◌, [], ◌||◌, length, map};
-ghost use Rattle.std.specs.List.{list_any};
+ghost use Rattle.std.specs.Prelude.{◌≡◌, ◌<◌, ◌∷◌, [], ◌||◌, length};
 ghost use Rattle.signal_graph.specs.Graph.{is_in, inputs_of, node_at, is_source};
-ghost use Rattle.signal_graph.specs.Values.{nodes_in, taken};
-ghost use Rattle.flow_model.specs.Machine.Words.{is_gathered, is_found, found_picks, is_candidate, picks_of_found};
+ghost use Rattle.signal_graph.specs.Values.{nodes_in};
+ghost use Rattle.flow_model.specs.Machine.Words.{is_gathered, is_found, is_candidate};
 ghost use Rattle.flow_model.specs.Machine.Steps.{all_gathered, has_body_value};
 ghost use Rattle.flow_model.specs.Parts.Books.{bare};
 ghost use Rattle.flow_state.specs.Booked.{node_count};
-ghost use Rattle.flow_state.specs.Found.{found_of, selection_of};
 
-use flow_state::{Book, Finding, Found, FoundList};
+use flow_state::Book;
 use script_tree::picks::Picks;
 use signal_graph::graph::Graph;
 use signal_graph::node::Node;
@@ -78,36 +76,6 @@ pub(crate) fn is_found(book: &Book, node: u32) -> bool
     book.found(node).is_some()
 }
 
-/// What the node's selectors have picked, where they are evaluated.
-pub(crate) fn found_picks(book: &Book, node: u32) -> Picks
-    requires { node < node_count book.now }
-    ensures { result ≡ found_picks (bare book.now.book) node }
-{
-    match book.found(node) {
-        Some(Finding::Selects(list)) => picks_of(list),
-        _ => Picks::new(),
-    }
-}
-
-fn picks_of(list: &FoundList) -> Picks
-    ensures { result ≡ map taken (map selection_of list.now) }
-{
-    let mut picks = Picks::new();
-    for index in 0..list.len() {
-        picks.push(candidate_of(list.get(index)));
-    }
-    picks
-}
-
-fn candidate_of(found: &Found) -> Option<u32>
-    ensures { result ≡ taken (selection_of found.now) }
-{
-    match found {
-        Found::Candidate(candidate) => Some(*candidate),
-        Found::Fault(_) => None,
-    }
-}
-
 /// Whether a node is picked.
 pub(crate) fn has_pick(picks: &Picks, node: u32) -> bool
     ensures { result ≡ is_in node (nodes_in picks.now) }
@@ -134,7 +102,7 @@ pub(crate) fn is_candidate(book: &Book, node: u32, candidate: u32) -> bool
     requires { node < node_count book.now }
     ensures { result ≡ is_candidate (bare book.now.book) node candidate }
 {
-    has_pick(&found_picks(book, node), candidate)
+    has_pick(&book.found_picks(node), candidate)
 }
 
 /// Whether the node's scripts name an input, or its selectors have picked it.

@@ -2,7 +2,6 @@ pub mod Ends
 pub mod Looks
 pub mod Skips
 pub mod Gathers
-pub mod Picks
 pub mod Puts
 pub mod Resolves
 pub mod Marks

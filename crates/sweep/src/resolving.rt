@@ -1,9 +1,8 @@
 // A node's new value stands.
 
-ghost use Rattle.std.specs.Prelude.{◌≡◌, ◌<◌, true, map, length, Some, None};
-ghost use Rattle.signal_graph.specs.Values.{taken};
+ghost use Rattle.std.specs.Prelude.{◌≡◌, ◌<◌, true, map, length, None};
 ghost use Rattle.flow_model.specs.declared.step.Step.TheVariants as step;
-ghost use Rattle.flow_model.specs.Machine.Words.{first_pick_over, value_over, value_or, picks_of_found};
+ghost use Rattle.flow_model.specs.Machine.Words.{first_pick_over, value_over, value_or};
 ghost use Rattle.flow_state.specs.Booked.{live_in, node_count, work_at};
 ghost use Rattle.flow_state.specs.Found.{found_of, selection_of};
 ghost use Rattle.flow_state.specs.Fitting.{IsListStep, MakesList};
@@ -11,7 +10,6 @@ ghost use Rattle.sweep.specs.NewValues.{gathered_value, found_value, new_value};
 
 use flow_state::{Book, Finding, Found, FoundList};
 use node_versions::NodeList;
-use script_tree::picks::Picks;
 use script_tree::value::{Fault, Value};
 use signal_graph::compare::is_same;
 use signal_graph::graph::Graph;
@@ -26,7 +24,7 @@ pub fn resolve(book: &mut Book, list: &mut NodeList, graph: &Graph, version: u32
 {
     let value = new_value(book, graph, version, node);
     let changed = !is_same(value, list.value_before(version));
-    let picks = found_picks(book, node);
+    let picks = book.found_picks(node);
     list.finish(version, value, changed, picks);
     book.close(version, node, changed);
     book.clear(node);
@@ -88,44 +86,5 @@ fn value_or(value: Option<Value>) -> Value
     match value {
         Some(value) => value,
         None => Value::Fault(Fault::NoChoice),
-    }
-}
-
-// The picks that are found.
-fn found_picks(book: &Book, node: u32) -> Picks
-    requires { node < node_count book.now }
-    ensures { result ≡ picks_of_found (work_at book.now node).found }
-{
-    match book.found(node) {
-        Some(finding) => picks_in(finding),
-        None => Picks::new(),
-    }
-}
-
-fn picks_in(finding: &Finding) -> Picks
-    ensures { result ≡ picks_of_found (Some (found_of finding.now)) }
-{
-    match finding {
-        Finding::Gives(_) => Picks::new(),
-        Finding::Selects(list) => picks_of(list),
-    }
-}
-
-fn picks_of(list: &FoundList) -> Picks
-    ensures { result ≡ map taken (map selection_of list.now) }
-{
-    let mut picks = Picks::new();
-    for index in 0..list.len() {
-        picks.push(candidate_of(list.get(index)));
-    }
-    picks
-}
-
-fn candidate_of(found: &Found) -> Option<u32>
-    ensures { result ≡ taken (selection_of found.now) }
-{
-    match found {
-        Found::Candidate(candidate) => Some(*candidate),
-        Found::Fault(_) => None,
     }
 }

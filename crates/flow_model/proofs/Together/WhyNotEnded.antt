@@ -23,7 +23,7 @@ use Rattle.flow_model.proofs.Ended.AfterEnd.{empty-none, framed-done}
 
 none-cause : (before wanted opened next : Option ℕ)
     → is_none (first_cause (
-        option_map Before before ∷ option_map Unfinished wanted ∷ option_map Unfinished opened ∷ option_map Unfinished next ∷ []))
+    option_map Before before ∷ option_map Unfinished wanted ∷ option_map Unfinished opened ∷ option_map Unfinished next ∷ []))
     ≡ (((is_none wanted && is_none opened) && is_none next) && is_none before)
 none-cause None None None None = refl
 none-cause None None None (Some d) = refl
@@ -52,9 +52,9 @@ none-least test (c ∷ cs) = go (test c) (none-least test cs)
   where
     go : (b : Bool) → is_none (least_version test cs) ≡ not (list_any test cs)
         → is_none (elim b as (λ _. Option ℕ) [
-            | true ↦ Some (lesser c.version (least_version test cs))
-            | false ↦ least_version test cs
-          ]) ≡ not (b || list_any test cs)
+          | true ↦ Some (lesser c.version (least_version test cs))
+          | false ↦ least_version test cs
+        ]) ≡ not (b || list_any test cs)
     go true r = refl
     go false r = r
 
@@ -65,7 +65,7 @@ causes-are s t =
     let before = λ (c : LiveCall). is_recorded s.pairs c.version t in
     none-cause (least_version before s.calls) (least (call s t).wanted) (least (call s t).open_nodes) (next_look s t)
     ∙ (λ i. ((none-first (call s t).wanted i && none-first (call s t).open_nodes i) && is_none (next_look s t))
-        && none-least before s.calls i)
+    && none-least before s.calls i)
 
 -- ---- where it can end
 

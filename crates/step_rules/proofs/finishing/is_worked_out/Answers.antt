@@ -13,7 +13,7 @@ use Rattle.step_rules.proofs.Truths.{both_hold, second_decides}
 use Rattle.step_rules.proofs.finishing.is_worked_out.Goals as goal
 
 pub are_discovered-requires : goal.are_discovered-requires
-are_discovered-requires g c = subst (λ (picks : List (Option ℕ)). AreBelow (g.L.Lists.nodes c.args.lists.now) (nodes_in picks)) (sym c.found_picks-found.ensures)
+are_discovered-requires g c = subst (λ (picks : List (Option ℕ)). AreBelow (g.L.Lists.nodes c.args.lists.now) (nodes_in picks)) (sym c.found_picks-found.ensures.machine)
     (found_below c.args.graph.now c.args.book.now (g.L.Lists.listing_of c.args.lists.now) (g.L.Lists.nodes c.args.lists.now) c.args.node c.requires.whole)
 
 pub are_released-requires : goal.are_released-requires
@@ -29,11 +29,11 @@ returns-clause-worked_out g c =
     let lists = listed (g.L.Lists.listing_of c.args.lists.now) in
     let found : is_found (bare b) n ≡ true = sym c.is_found.ensures ∙ c.if-not-is_found.false in
     let gathered : all_gathered (bare b) n (found_candidates (bare b) n) ≡ true =
-    ap (λ (picks : List (Option ℕ)). all_gathered (bare b) n (nodes_in picks)) (sym c.found_picks-found.ensures) ∙ sym c.are_picks_gathered.ensures ∙ c.if-not-are_picks_gathered.false in
+    ap (λ (picks : List (Option ℕ)). all_gathered (bare b) n (nodes_in picks)) (sym c.found_picks-found.ensures.machine) ∙ sym c.are_picks_gathered.ensures ∙ c.if-not-are_picks_gathered.false in
     let discovered : list_all (is_discovered_in b lists t n) (found_candidates (bare b) n) ≡ true =
-    ap₂ (λ (picks other : List (Option ℕ)). list_all (is_discovered_by (g.L.Lists.listing_of c.args.lists.now) t n picks) (nodes_in other)) (sym c.requires.picks) (sym c.found_picks-found.ensures) ∙ sym c.if-not-are_discovered.ensures.discovered in
+    ap₂ (λ (picks other : List (Option ℕ)). list_all (is_discovered_by (g.L.Lists.listing_of c.args.lists.now) t n picks) (nodes_in other)) (sym c.requires.picks) (sym c.found_picks-found.ensures.machine) ∙ sym c.if-not-are_discovered.ensures.discovered in
     let released : list_all (is_released_in b lists n) (prior_in (lists n) t) ≡ true =
-    ap₂ (λ (picks other : List (Option ℕ)). list_all (is_released_by (g.L.Lists.listing_of c.args.lists.now) n other) (nodes_in picks)) (sym c.requires.picks) (sym c.found_picks-found.ensures)
+    ap₂ (λ (picks other : List (Option ℕ)). list_all (is_released_by (g.L.Lists.listing_of c.args.lists.now) n other) (nodes_in picks)) (sym c.requires.picks) (sym c.found_picks-found.ensures.machine)
     ∙ ap (λ (ls : ℕ → Versions). list_all (is_released_by ls n c.found_picks-found.result) (nodes_in c.args.picks.now)) (sym c.are_discovered.ensures.lists)
     ∙ sym c.if-not-are_released.ensures.released in
     second_decides (is_found (bare b) n && all_gathered (bare b) n (found_candidates (bare b) n) && list_all (is_discovered_in b lists t n) (found_candidates (bare b) n) && list_all (is_released_in b lists n) (prior_in (lists n) t)) (has_body_value c.args.graph.now (bare b) n) c.has_body_value.result

@@ -61,7 +61,7 @@ returns-clause-allowed g c =
     let edge = has_node (lists m).outs n in
     let place = has_room_for_in b (lists m) t in
     let some : has_node (lists m).outs n ≡ true = ap (λ (ls : ℕ → Versions). has_node (ls m).outs n) (sym c.due_picks.ensures.lists) ∙ sym c.has_node.ensures.result ∙ c.if-not-has_node.false in
-    let all : all_gathered (bare b) n (found_candidates (bare b) n) ≡ true = ap (λ (picks : List (Option ℕ)). all_gathered (bare b) n (nodes_in picks)) (sym c.found_picks.ensures) ∙ sym c.are_picks_gathered.ensures ∙ c.if-not-are_picks_gathered.false in
+    let all : all_gathered (bare b) n (found_candidates (bare b) n) ≡ true = ap (λ (picks : List (Option ℕ)). all_gathered (bare b) n (nodes_in picks)) (sym c.found_picks.ensures.machine) ∙ sym c.are_picks_gathered.ensures ∙ c.if-not-are_picks_gathered.false in
     second_decides (due && found && gathered && before && gone && edge) place c.has_place.result
     (both_hold (due && found && gathered && before && gone) edge
     (both_hold (due && found && gathered && before) gone

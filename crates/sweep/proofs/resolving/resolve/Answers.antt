@@ -13,4 +13,4 @@ pub finish-requires : goal.finish-requires
 finish-requires c = front-frame c.args.graph.now c.requires.state c.args.book.now c.args.node c.args.list.now c.args.version (resolve-front c.args.graph.now c.args.book.now c.args.node c.args.list.now c.args.version c.requires)
 
 pub returns : goal.returns
-returns c = resolve-makes c.args.graph.now c.args.book.now c.close.new.self c.clear.new.self c.args.node c.args.list.now c.finish.new.self c.args.version c.new_value-value.result c.value_before.result c.is_same-changed.result c.found_picks-picks.result c.new_value-value.ensures c.value_before.ensures c.is_same-changed.ensures c.found_picks-picks.ensures c.finish.ensures c.close.ensures c.clear.ensures
+returns c = resolve-makes c.args.graph.now c.args.book.now c.close.new.self c.clear.new.self c.args.node c.args.list.now c.finish.new.self c.args.version c.new_value-value.result c.value_before.result c.is_same-changed.result c.found_picks-picks.result c.new_value-value.ensures c.value_before.ensures c.is_same-changed.ensures c.found_picks-picks.ensures.kept c.finish.ensures c.close.ensures c.clear.ensures

@@ -1,7 +1,0 @@
-use Rattle.std.proofs.Common.{◌≡◌, drop}
-use Rattle.signal_graph.specs.Values.{nodes_in}
-use Rattle.step_rules.specs.Rests.{any_changed}
-use Rattle.step_rules.proofs.resting.any_pick_changed.Given as goal
-
-abbrev pub invariant-loop-index : goal.invariant-loop-index
-invariant-loop-index l = any_changed l.book l.version (nodes_in (drop l.index l.picks)) ≡ any_changed l.book l.version (nodes_in l.picks)
