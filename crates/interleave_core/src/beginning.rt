@@ -79,8 +79,8 @@ impl Core<'_> {
     }
 
     /// Takes all memory that a call will need which is within the limits and names in this graph what it has to; the room of any
-    /// other call is for no names.
-    /// The room has to be spent by the call's beginning, or given back. Where there is no memory the core is as it was.
+    /// other call is for no names. The room has to be spent by the call's beginning, or given back. Where there is no memory the
+    /// core is as it was.
     pub fn make_room(&mut self, alloc: Global, call: &Call) -> Result<Room, OutOfMemory>
         requires { length (looks_of call.now) ≤ LOOKS }
         ensures ok { OnOk result (self.new ≡ one_room_more self.old) }
