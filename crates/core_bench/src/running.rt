@@ -1,9 +1,14 @@
 // The calls of threads, in turns.
 
+ghost use Rattle.std.specs.Prelude.{◌≡◌, ◌≤◌, length, None, true};
+ghost use Rattle.script_tree.specs.declared.limits.TheConstants.{SETS, LOOKS};
+ghost use Rattle.signal_graph.specs.Machine.{sets_of, looks_of};
+ghost use Rattle.flow_model.specs.Machine.Schedules.{version_of};
+
 use crate::counting::Counts;
 use flow_model::{Step, Turn};
-use interleave_core::Core;
-use script_tree::limits::{THREADS, VERSIONS};
+use interleave_core::{Core, Refusal};
+use script_tree::limits::{LOOKS, SETS, THREADS, VERSIONS};
 use signal_graph::call::{Call, Scripts};
 use signal_graph::graph::Graph;
 use std::alloc::Global;
@@ -106,21 +111,36 @@ impl<'g> Running<'g> {
     }
 
     // A thread without a live call begins its next one. A call that may not begin is passed over.
-    fn begin_next(&mut self, alloc: Global, thread: u32) -> Option<bool> {
-        let Some(calls) = self.left.get_mut(thread.wrapping_sub(1) as usize) else {
+    fn begin_next(&mut self, alloc: Global, thread: u32) -> Option<bool>
+        requires { version_of thread self.old.core.state.calls ≡ None }
+    {
+        if thread == 0 || thread > self.core.callers() {
+            return Some(false);
+        }
+        let Some(calls) = self.left.get_mut(thread as usize - 1) else {
             return Some(false);
         };
         let Some(call) = calls.pop() else {
             return Some(false);
         };
-        if !self.core.can_begin(thread, &call) {
+        if !is_within(&call) {
             return Some(true);
         }
-        let Ok(room) = self.core.make_room(alloc, &call) else {
-            return None;
+        let room = match self.core.admit(alloc, &call) {
+            Ok(room) => room,
+            Err(Refusal::Memory) => return None,
+            Err(_) => return Some(true),
         };
         self.core.begin(thread, call, room);
         self.counts.begin();
         Some(true)
     }
+}
+
+// Whether a call has no more sets and looks than it may.
+fn is_within(call: &Call) -> bool
+    ensures sets { result ≡ true → length (sets_of call.now) ≤ SETS }
+    ensures looks { result ≡ true → length (looks_of call.now) ≤ LOOKS }
+{
+    call.sets().len() <= SETS && call.looks().len() <= LOOKS
 }

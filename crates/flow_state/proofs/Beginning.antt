@@ -4,8 +4,7 @@ use Rattle.std.specs.List.{AllByRecursion}
 use Rattle.std.proofs.lemmas.Bool.{eq-eqb, ne_eqb, eqb-true, cases_eq, true≢false, false≢true}
 use Rattle.std.proofs.lemmas.List.{get_or-set_same, get_or-set_other, map-append, length-map}
 use Rattle.signal_graph.specs.declared.call.Call.{Call}
-use Rattle.signal_graph.specs.Graph.{Graph, is_in, number_of}
-use Rattle.signal_graph.specs.Machine.{looks_of}
+use Rattle.signal_graph.specs.Graph.{is_in}
 use Rattle.order_graph.specs.declared.pair.Pair.{Pair}
 use Rattle.order_graph.specs.Order.{Order}
 use Rattle.call_log.specs.Record.{Record}
@@ -16,6 +15,7 @@ use Rattle.flow_model.specs.Kept.Lawful.{times, AreDistinct}
 use Rattle.flow_model.proofs.General.Pigeons.{times-it, times-other, total-all, total-missing}
 use Rattle.flow_state.specs.declared.seating.Tenant.{Tenant}
 use Rattle.flow_state.specs.Booked.{begun_call}
+use Rattle.flow_state.specs.Rooms.{Roomy}
 use Rattle.flow_state.specs.Seats.{Seated, LiveCalls, no_seat, has_call, one_call_more, seat_at, call_at, version_at, calls_of, versions_of, pairs_of, live_calls, has_version, has_slot, AreTenants, AreAscending, AreLinked, AreSeats}
 use Rattle.flow_state.specs.Shelves.{Shelved}
 use Rattle.flow_state.specs.Kept.{IsKept}
@@ -226,13 +226,13 @@ begun_seen callers nodes capacity seats live more order n new call seen kept vie
     ∙ ap (L (calls_of seats live ++ call ∷ [])) (pairs-away seats live n.slot new order.pairs ns kept.linked)
     ∙ ap (λ (l : LiveCalls). one_call_more l call) view
 
-pub taken_by : (graph : Graph) (caller version k nodes : ℕ) (call : Call) (was new : Seated) → 0 < version → was.call.slot ≡ k → was.size ≡ nodes → new ≡ record { call = begun_call graph caller version was.call.slot call; size = was.size; room = length (looks_of call) } → IsTaken nodes version k new
-taken_by graph caller version k nodes call was new some slot size is = record {
+pub taken_by : (taken : Roomy) (caller version k nodes : ℕ) (call : Call) (was new : Seated) → 0 < version → was.call.slot ≡ k → was.size ≡ nodes → new ≡ record { call = begun_call taken caller version was.call.slot call; size = was.size; room = length taken.looks } → IsTaken nodes version k new
+taken_by taken caller version k nodes call was new some slot size is = record {
   some = some;
   is_version = ap (λ (s : Seated). s.call.version) is;
   slot = ap (λ (s : Seated). s.call.slot) is ∙ slot;
   size = ap (λ (s : Seated). s.size) is ∙ size;
-  room = ap (λ (s : Seated). s.room) is ∙ sym (length-map (looks_of call) (number_of graph)) ∙ ap (λ (s : Seated). length s.call.looks) (sym is);
+  room = ap (λ (s : Seated). s.room) is ∙ ap (λ (s : Seated). length s.call.looks) (sym is);
 }
 
 -- ---- the book with one more call

@@ -1,40 +1,15 @@
 -- Names of a call, and the nodes that they name.
-use Rattle.std.proofs.Common.{◌≡◌, ℕ, zero, suc, ◌+◌, ◌<◌, ◌≤◌, inl, inr, Bool, true, false, ◌&&◌, cond, List, [], ◌∷◌, ◌++◌, Some, None, length, map, get_or, drop, refl, sym, ap, ◌∙◌, arith}
+use Rattle.std.proofs.Common.{◌≡◌, ℕ, zero, suc, ◌+◌, ◌<◌, Bool, true, false, ◌&&◌, List, [], ◌∷◌, ◌++◌, Some, None, length, map, get_or, drop, refl, sym, ap, ◌∙◌, arith}
 use Rattle.std.specs.Prelude.{nat_lt}
-use Rattle.std.specs.Str.{bytes_eq}
-use Rattle.std.proofs.lemmas.Bool.{cases_lt, lt-ltb, true≢false}
 use Rattle.std.proofs.lemmas.Bool.Decides.{nat_tests}
 use Rattle.script_tree.specs.declared.value.Value.{Value}
 use Rattle.signal_graph.specs.declared.call.Call.{Call}
-use Rattle.signal_graph.specs.Graph.{Graph, IsGraph, place_in, number_of}
+use Rattle.signal_graph.specs.Graph.{Graph, number_of}
 use Rattle.signal_graph.specs.Machine.{sets_of, names_node, names_source, first_wrong, misnamed}
 use Rattle.flow_model.specs.Machine.Sets.{put, put_all}
-use Rattle.flow_model.specs.Machine.Steps.{nodes_set}
-use Rattle.flow_state.specs.Booked.{sets_by_node, AreInside}
+use Rattle.flow_model.specs.Machine.Steps.{nodes_set, sets_in}
+use Rattle.flow_state.specs.Booked.{AreInside}
 use Rattle.flow_state.proofs.Walks.{rest_is}
-
-place-most : (names : List (List ℕ)) (name : List ℕ) → place_in names name ≤ length names
-place-most [] name = omega arith
-place-most (other ∷ names) name = go (bytes_eq other name) (place-most names name)
-  where
-    go : (b : Bool) → place_in names name ≤ length names → cond b 0 (place_in names name + 1) ≤ suc (length names)
-    go true r = omega arith
-    go false r = omega (arith, r)
-
-some_none : {X : Type 0} (b : Bool) (x : X) → None ≡ cond b (Some x) None → b ≡ false
-some_none true x e = cc
-some_none false x e = refl
-
--- a name that names nothing has the number of nodes as its number
-pub no_number : (graph : Graph) (name : List ℕ) (len : ℕ) → IsGraph graph → len ≡ length graph.nodes → None ≡ cond (names_node graph name) (Some (number_of graph name)) None → len ≡ number_of graph name
-no_number graph name len kept is none =
-    let b = some_none (names_node graph name) (number_of graph name) none in
-    let most = place-most graph.names name in
-    let named = kept.named in
-    elim (cases_lt (number_of graph name) (length graph.nodes)) [
-      | inl below ↦ absurd (true≢false (sym (lt-ltb _ _ below) ∙ b))
-      | inr past ↦ omega (arith, is, most, named, past)
-    ]
 
 -- ---- well-named sets
 
@@ -48,6 +23,9 @@ source-node graph name h = below (number_of graph name) (length graph.nodes) (fi
     below : (a b : ℕ) → nat_lt a b ≡ true → a < b
     below a b h = grind (arith, nat_tests)
 
+abbrev sets_by_node : Graph → List (List ℕ × Value) → List (ℕ × Value)
+sets_by_node graph sets = map (λ (set : List ℕ × Value). (number_of graph set.0, set.1)) sets
+
 right-inside : (graph : Graph) (sets : List (List ℕ × Value)) (rest : List Bool) (n : ℕ) → first_wrong n (map (λ (s : List ℕ × Value). names_source graph s.0) sets ++ rest) ≡ None → AreInside (length graph.nodes) (sets_by_node graph sets)
 right-inside graph [] rest n h = tt
 right-inside graph (s ∷ ss) rest n h = go (names_source graph s.0) refl (right-inside graph ss rest (n + 1)) h
@@ -59,7 +37,7 @@ right-inside graph (s ∷ ss) rest n h = go (names_source graph s.0) refl (right
         not_some : (n : ℕ) → Some n ≡ None → ⊥
         not_some n e = cc
 
-pub named_inside : (graph : Graph) (call : Call) → misnamed graph call ≡ None → AreInside (length graph.nodes) (sets_by_node graph (sets_of call))
+pub named_inside : (graph : Graph) (call : Call) → misnamed graph call ≡ None → AreInside (length graph.nodes) (sets_in graph call)
 named_inside graph call h = right-inside graph (sets_of call) _ 1 h
 
 -- ---- putting them in

@@ -7,7 +7,7 @@ use Rattle.signal_graph.specs.declared.call.Call.{Call}
 use Rattle.signal_graph.specs.declared.call.Call.TheVariants.{Fire, Read}
 use Rattle.signal_graph.specs.declared.call.Reply.{Reply}
 use Rattle.signal_graph.specs.declared.call.Reply.TheVariants.{Fire as Fired, Read as Seen}
-use Rattle.signal_graph.specs.Graph.{Graph, numbers, number_of, node_at, inputs_of, is_in}
+use Rattle.signal_graph.specs.Graph.{Graph, numbers, node_at, inputs_of, is_in}
 use Rattle.order_graph.specs.Order.{reaches, linked, retired}
 use Rattle.flow_model.specs.Machine.Sets.{put, put_all, take_out}
 use Rattle.flow_model.specs.Machine.Lists.{is_empty}
@@ -16,7 +16,8 @@ use Rattle.std.specs.Prelude.{is_some}
 use Rattle.flow_model.specs.Machine.Words.{gathered_of}
 use Rattle.flow_model.specs.Parts.Books.{Book, Work, book_of, no_work}
 use Rattle.flow_model.specs.Machine.Lists.{change_at}
-use Rattle.flow_model.specs.Machine.Steps.{without_call, logged, sets_in, looks_in, nodes_set, free_slot}
+use Rattle.flow_model.specs.Machine.Steps.{without_call, logged, nodes_set, free_slot}
+use Rattle.flow_state.specs.Rooms.{Roomy}
 
 -- what contracts see in a `Book`: `rooms` are out, and each node has room for so many gathered values
 pub record Booked : Type 0 where
@@ -117,25 +118,21 @@ one_room_more book = record book { rooms = suc book.rooms }
 abbrev pub one_room_less : Booked → Booked
 one_room_less book = record book { rooms = book.rooms - 1 }
 
--- sets by node
-abbrev pub sets_by_node : Graph → List (List ℕ × Value) → List (ℕ × Value)
-sets_by_node graph sets = map (λ (set : List ℕ × Value). (number_of graph set.0, set.1)) sets
-
 -- all nodes that are set are below a size
 abbrev pub AreInside : ℕ → List (ℕ × Value) → Type 0
 AreInside size sets = AllByRecursion (λ (set : ℕ × Value). set.0 < size) sets
 
--- the record of a call that begins
-abbrev pub begun_call : Graph → ℕ → ℕ → ℕ → Call → LiveCall
-begun_call graph caller version slot call = record {
+-- the record of a call that begins in a room
+abbrev pub begun_call : Roomy → ℕ → ℕ → ℕ → Call → LiveCall
+begun_call room caller version slot call = record {
   caller = caller;
   version = version;
   slot = slot;
-  executing = is_empty (nodes_set (sets_in graph call));
+  executing = is_empty (nodes_set room.sets);
   call = call;
-  sets = sets_in graph call;
-  looks = looks_in graph call;
-  wanted = put_all (nodes_set (sets_in graph call)) [];
+  sets = room.sets;
+  looks = room.looks;
+  wanted = put_all (nodes_set room.sets) [];
   open_nodes = [];
   changed = [];
   evaluated = 0;
@@ -143,12 +140,12 @@ begun_call graph caller version slot call = record {
 }
 
 -- the call that begins next in a book
-abbrev pub next_call : Graph → Booked → ℕ → Call → LiveCall
-next_call graph book caller call = begun_call graph caller (suc book.book.begun) (free_slot book.book.callers 0 book.book.calls) call
+abbrev pub next_call : Roomy → Booked → ℕ → Call → LiveCall
+next_call room book caller call = begun_call room caller (suc book.book.begun) (free_slot book.book.callers 0 book.book.calls) call
 
 -- a call begins, in a room
-abbrev pub begin_call : Graph → Booked → ℕ → Call → Booked
-begin_call graph book caller call = record book {
-  book = record book.book { begun = suc book.book.begun; calls = book.book.calls ++ next_call graph book caller call ∷ [] };
+abbrev pub begin_call : Roomy → Booked → ℕ → Call → Booked
+begin_call room book caller call = record book {
+  book = record book.book { begun = suc book.book.begun; calls = book.book.calls ++ next_call room book caller call ∷ [] };
   rooms = book.rooms - 1;
 }

@@ -1,43 +1,25 @@
 // What a call asks for, by node.
 
-ghost use Rattle.std.specs.Prelude.{◌≡◌, ◌≤◌, length, map, vec_capacity};
-ghost use Rattle.signal_graph.specs.Graph.{number_of};
-ghost use Rattle.flow_state.specs.Booked.{sets_by_node};
+ghost use Rattle.std.specs.Prelude.{◌≡◌, length, IfOk};
+ghost use Rattle.flow_state.specs.Rooms.{numbered};
 
+use script_tree::memory::OutOfMemory;
 use script_tree::name::Name;
 use script_tree::value::Value;
-use signal_graph::graph::Graph;
+use std::alloc::Global;
 
-// The number of the node with a name, or how many nodes there are.
-fn number_of(graph: &Graph, name: &Name) -> u32
-    ensures { result ≡ number_of graph.now name.now }
+// The value of each set with the number that its name has. Takes memory for them.
+pub(crate) fn sets_by_node(
+    alloc: Global,
+    numbers: &[u32],
+    sets: &[(Name, Value)],
+) -> Result<Vec<(u32, Value)>, OutOfMemory>
+    requires { length numbers.now ≡ length sets.now }
+    ensures { IfOk result (λ found. found.items ≡ numbered numbers.now sets.now) }
 {
-    match graph.find(name) {
-        Some(node) => node,
-        None => graph.len(),
+    let mut found = Vec::with_capacity(alloc, sets.len())?;
+    for (index, set) in sets.iter().enumerate() {
+        found.push_reserved((numbers[index], set.1));
     }
-}
-
-// What the sets are by node, in the room that is there.
-pub(crate) fn fill_sets(graph: &Graph, sets: &[(Name, Value)], filled: &mut Vec<(u32, Value)>)
-    requires { length sets.now ≤ vec_capacity filled.old }
-    ensures items { filled.new.items ≡ sets_by_node graph.now sets.now }
-    ensures capacity { vec_capacity filled.new ≡ vec_capacity filled.old }
-{
-    filled.clear();
-    for (name, value) in sets {
-        filled.push_reserved((number_of(graph, name), *value));
-    }
-}
-
-// What the looks are by node, in the room that is there.
-pub(crate) fn fill_looks(graph: &Graph, looks: &[Name], filled: &mut Vec<u32>)
-    requires { length looks.now ≤ vec_capacity filled.old }
-    ensures items { filled.new.items ≡ map (number_of graph.now) looks.now }
-    ensures capacity { vec_capacity filled.new ≡ vec_capacity filled.old }
-{
-    filled.clear();
-    for name in looks {
-        filled.push_reserved(number_of(graph, name));
-    }
+    Ok(found)
 }

@@ -2,12 +2,11 @@
 
 ghost use Rattle.std.specs.Prelude.{◌≡◌, ◌≢◌, ℕ, [], ◌<◌, ◌≤◌, ◌+◌, ◌^◌, true, false, length, map, slice_index, None, IfOk, OnOk, OnErr, slice_get, Some};
 ghost use Rattle.std.specs.List.{list_any, range_with_len};
-ghost use Rattle.script_tree.specs.declared.limits.TheConstants.{THREADS, VERSIONS, SETS, LOOKS};
+ghost use Rattle.script_tree.specs.declared.limits.TheConstants.{THREADS, VERSIONS, LOOKS};
 ghost use Rattle.std.specs.Option.{option_copied};
 ghost use Rattle.script_tree.specs.declared.value.Value.TheVariants as values;
 ghost use Rattle.script_tree.specs.declared.value.Fault.TheVariants.{NoChoice};
 ghost use Rattle.signal_graph.specs.Graph.{is_in};
-ghost use Rattle.signal_graph.specs.Machine.{sets_of, looks_of, misnamed};
 ghost use Rattle.order_graph.specs.Order.{reaches, is_recorded};
 ghost use Rattle.flow_model.specs.Machine.Sets.{least};
 ghost use Rattle.flow_model.specs.Machine.State.{call_of, changes};
@@ -17,11 +16,13 @@ ghost use Rattle.flow_model.specs.Machine.Steps.{started, counted, with_look, fr
 ghost use Rattle.flow_model.specs.Machine.Schedules.{version_of};
 ghost use Rattle.flow_model.specs.Machine.Next.{least_version};
 ghost use Rattle.node_set.specs.Members.{first_from};
-ghost use Rattle.flow_state.specs.Booked.{AreApart, opened_book, room_at, one_room_more, one_room_less, begin_call, end_call, call_in, live_in, next_look_in, node_count, work_at, stops_in, on_call, on_work, link_calls, opened_one, wanting, pressed_in, call_nth};
+ghost use Rattle.flow_state.specs.Booked.{AreApart, AreInside, opened_book, room_at, one_room_more, one_room_less, begin_call, end_call, call_in, live_in, next_look_in, node_count, work_at, stops_in, on_call, on_work, link_calls, opened_one, wanting, pressed_in, call_nth};
 ghost use Rattle.flow_model.specs.Parts.Books.{bare, no_work, with_gathered, with_found, with_body, forgotten};
+ghost use Rattle.flow_state.specs.Rooms.{numbered};
 ghost use Rattle.flow_state.specs.Found.{found_of, found_option};
 ghost use Rattle.flow_state.specs.Jobs.{found_items, answer_in, IsJob};
 
+use crate::asked::sets_by_node;
 use crate::found::Finding;
 use crate::job::Job;
 use crate::outcome::Answer;
@@ -30,6 +31,7 @@ use crate::seating::Seating;
 use crate::shelf::Shelves;
 use call_log::Log;
 use script_tree::memory::OutOfMemory;
+use script_tree::name::Name;
 use script_tree::picks::Picks;
 use script_tree::value::Value;
 use signal_graph::call::Call;
@@ -91,18 +93,27 @@ impl Book {
         })
     }
 
-    /// Takes all memory that a call will need. The room has to be spent by the call's beginning, or given back.
-    pub fn make_room(&mut self, alloc: Global, call: &Call) -> Result<Room, OutOfMemory>
-        requires { length (looks_of call.now) ≤ LOOKS }
+    /// Takes all memory that a call will need which sets these values, `numbers` being the nodes of their names, and looks at these
+    /// nodes. The room has to be spent by the call's beginning, or given back.
+    pub fn make_room(
+        &mut self,
+        alloc: Global,
+        numbers: &[u32],
+        sets: &[(Name, Value)],
+        looks: &[u32],
+    ) -> Result<Room, OutOfMemory>
+        requires { length numbers.now ≡ length sets.now }
         ensures ok { OnOk result (self.new ≡ one_room_more self.old) }
         ensures err { OnErr result (self.new ≡ self.old) }
-        ensures room { IfOk result (λ room. room ≡ record { looks = length (looks_of call.now); nodes = node_count self.old }) }
+        ensures room { IfOk result (λ room.
+            room ≡ record { sets = numbered numbers.now sets.now; looks = looks.now; nodes = node_count self.old }) }
     {
         let Some(rooms) = self.rooms.checked_add(1) else {
             return Err(OutOfMemory);
         };
-        let looks = call.looks().len() as u32;
-        let looked = Vec::with_capacity(alloc, looks as usize)?;
+        let sets = sets_by_node(alloc, numbers, sets)?;
+        let looks = Vec::from_slice(alloc, looks)?;
+        let looked = Vec::with_capacity(alloc, looks.len())?;
         if self.spare == 0 {
             self.log.reserve_one()?;
         } else {
@@ -110,8 +121,9 @@ impl Book {
         }
         self.rooms = rooms;
         Ok(Room {
-            looked,
+            sets,
             looks,
+            looked,
             nodes: self.calls.nodes(),
         })
     }
@@ -122,8 +134,9 @@ impl Book {
         ensures { self.new ≡ one_room_less self.old }
     {
         let Room {
-            looked: _,
+            sets: _,
             looks: _,
+            looked: _,
             nodes: _,
         } = room;
         let rooms = self.rooms - 1;
@@ -131,28 +144,20 @@ impl Book {
         self.spare = self.spare.saturating_add(1);
     }
 
-    /// A call begins in a room that was made for its looks, with the next version and in the least free slot. Answers
-    /// its version. The graph is the book's, and the call names in it what it has to.
-    pub fn begin(&mut self, graph: &Graph, caller: u32, call: Call, room: Room) -> u32
+    /// A call begins in a room, with the next version and in the least free slot. It sets and looks at what the room says.
+    /// Answers its version.
+    pub fn begin(&mut self, caller: u32, call: Call, room: Room) -> u32
         requires left { self.old.book.begun < self.old.book.limit }
         requires slot { free_slot self.old.book.callers 0 self.old.book.calls < self.old.book.callers }
-        requires named { misnamed graph.now call ≡ None }
-        requires sets { length (sets_of call) ≤ SETS }
-        requires looks { length (looks_of call) ≤ LOOKS }
-        requires nodes { node_count self.old ≡ length graph.now.nodes }
-        requires room { room.looks ≡ length (looks_of call) }
+        requires sets { AreInside (node_count self.old) room.sets }
+        requires looks { length room.looks ≤ LOOKS }
         requires rooms { 0 < self.old.rooms }
-        ensures book { self.new ≡ begin_call graph.now self.old caller call }
+        ensures book { self.new ≡ begin_call room self.old caller call }
         ensures version { result ≡ self.old.book.begun + 1 }
     {
-        let Room {
-            looked,
-            looks: _,
-            nodes: _,
-        } = room;
         let version = self.begun + 1;
         let rooms = self.rooms - 1;
-        self.calls.begin(graph, version, caller, call, looked);
+        self.calls.begin(version, caller, call, room);
         self.begun = version;
         self.rooms = rooms;
         version

@@ -2,7 +2,7 @@
 
 ghost use Rattle.std.specs.Prelude.{◌≡◌, ◌<◌, ◌≤◌, ◌+◌, ◌^◌, ◌&&◌, ℕ, not, true, false, [], length, slice_get, vec_capacity, None, IfOk};
 ghost use Rattle.std.specs.List.{list_any};
-ghost use Rattle.script_tree.specs.declared.limits.TheConstants.{SETS, LOOKS, NODES};
+ghost use Rattle.script_tree.specs.declared.limits.TheConstants.{LOOKS, NODES};
 ghost use Rattle.script_tree.specs.declared.value.Value.TheVariants as values;
 ghost use Rattle.script_tree.specs.declared.value.Fault.TheVariants.{NoChoice};
 ghost use Rattle.signal_graph.specs.Graph.{is_in};
@@ -13,20 +13,17 @@ ghost use Rattle.flow_model.specs.Machine.Words.{set_value};
 ghost use Rattle.flow_model.specs.Machine.Changes.{closed};
 ghost use Rattle.flow_model.specs.Machine.Steps.{started, counted, with_look, logged};
 ghost use Rattle.node_set.specs.Members.{first_from};
-ghost use Rattle.flow_state.specs.Booked.{opened_one, wanting, reply_with, begun_call};
-ghost use Rattle.signal_graph.specs.Machine.{sets_of, looks_of, misnamed};
+ghost use Rattle.flow_state.specs.Booked.{AreInside, opened_one, wanting, reply_with, begun_call};
 ghost use Rattle.flow_state.specs.Seats.{Seated, with_seated, one_if, count_at, Follow};
 
-use crate::asked::{fill_looks, fill_sets};
 use crate::counts::{want_all, want_none};
+use crate::room::Room;
 use node_set::NodeSet;
 use order_graph::MAX_CALLERS;
 use script_tree::items::Items;
-use script_tree::limits::{LOOKS, SETS};
 use script_tree::memory::OutOfMemory;
 use script_tree::value::{Fault, Value};
 use signal_graph::call::{Call, Reply, ValueList};
-use signal_graph::graph::Graph;
 use signal_graph::log::Logged;
 use std::alloc::Global;
 use std::marker::Model;
@@ -76,8 +73,7 @@ impl Model for Seat {
       room = s.room;
     } };
 
-    ghost invariant = { λ s. IsSeat s.wanted s.open_nodes s.changed (vec_capacity s.sets) (vec_capacity s.looks)
-        s.looked.items (vec_capacity s.looked) s.room };
+    ghost invariant = { λ s. IsSeat s.wanted s.open_nodes s.changed s.looked.items (vec_capacity s.looked) s.room };
 }
 
 impl Seat {
@@ -95,8 +91,8 @@ impl Seat {
             wanted: NodeSet::new(alloc, nodes)?,
             open_nodes: NodeSet::new(alloc, nodes)?,
             changed: NodeSet::new(alloc, nodes)?,
-            sets: Vec::with_capacity(alloc, SETS)?,
-            looks: Vec::with_capacity(alloc, LOOKS)?,
+            sets: Vec::new(alloc),
+            looks: Vec::new(alloc),
             looked: Vec::new(alloc),
             call: Call::Read {
                 looks: Items::new(alloc),
@@ -186,48 +182,48 @@ impl Seat {
         last_set(self.sets.as_slice(), node)
     }
 
-    /// A call begins. It names what it has to in this graph, and `looked` has room for all its looks. The counts of nodes
-    /// change with what the seat wants.
+    /// A call begins in a room. The counts of nodes change with what the seat wants.
     pub(crate) fn begin(
         &mut self,
-        graph: &Graph,
         version: u32,
         caller: u32,
         call: Call,
-        looked: Vec<Value>,
+        room: Room,
         counts: &mut [u32],
     )
-        requires named { misnamed graph.now call ≡ None }
-        requires sets { length (sets_of call) ≤ SETS }
-        requires looks { length (looks_of call) ≤ LOOKS }
-        requires size { self.old.size ≡ length graph.now.nodes }
-        requires empty { looked.items ≡ [] }
-        requires room { length (looks_of call) ≤ vec_capacity looked }
+        requires sets { AreInside self.old.size room.sets }
+        requires looks { length room.looks ≤ LOOKS }
         requires count_each { length counts.old ≡ self.old.size }
         requires counted { (n : ℕ) → one_if (is_in n self.old.call.wanted) ≤ count_at counts.old n }
         requires few { (n : ℕ) → count_at counts.old n ≤ MAX_CALLERS }
         ensures seat { self.new ≡ record {
-          call = begun_call graph.now caller version self.old.call.slot call;
+          call = begun_call room caller version self.old.call.slot call;
           size = self.old.size;
-          room = length (looks_of call);
+          room = length room.looks;
         } }
         ensures count_each { length counts.new ≡ length counts.old }
         ensures counts { Follow counts.old self.old.call.wanted counts.new self.new.call.wanted }
     {
-        let room = call.looks().len() as u32;
-        fill_sets(graph, call.sets(), &mut self.sets);
-        fill_looks(graph, call.looks(), &mut self.looks);
+        let Room {
+            sets,
+            looks,
+            looked,
+            nodes: _,
+        } = room;
+        let look_room = looks.len() as u32;
         want_none(&mut self.wanted, counts);
         self.open_nodes.clear();
         self.changed.clear();
-        want_all(self.sets.as_slice(), &mut self.wanted, counts);
+        want_all(sets.as_slice(), &mut self.wanted, counts);
         self.version = version;
         self.caller = caller;
-        self.executing = self.sets.is_empty();
+        self.executing = sets.is_empty();
         self.evaluated = 0;
+        self.sets = sets;
+        self.looks = looks;
         self.looked = looked;
         self.call = call;
-        self.room = room;
+        self.room = look_room;
     }
 
     /// The call ends, and the seat is free. Answers the call with its reply.

@@ -2,18 +2,18 @@
 
 ghost use Rattle.std.specs.Prelude.{◌≡◌, ◌≢◌, ◌==◌, ◌<◌, ◌≤◌, ◌+◌, ◌^◌, ℕ, true, false, [], length, map, vec_capacity, slice_index_or, None, Some, IfOk, IfSome};
 ghost use Rattle.std.specs.List.{range_with_len};
-ghost use Rattle.script_tree.specs.declared.limits.TheConstants.{NODES, SETS, LOOKS};
+ghost use Rattle.script_tree.specs.declared.limits.TheConstants.{NODES, LOOKS};
 ghost use Rattle.signal_graph.specs.Graph.{is_in};
 ghost use Rattle.order_graph.specs.Order.{reaches, linked, is_recorded};
 ghost use Rattle.flow_model.specs.Machine.State.{no_call, call_of};
 ghost use Rattle.flow_model.specs.Machine.Changes.{closed};
 ghost use Rattle.flow_model.specs.Machine.Steps.{started, counted, with_look, logged, free_slot, uses_slot};
 ghost use Rattle.flow_model.specs.Machine.Next.{least_version};
-ghost use Rattle.flow_state.specs.Booked.{opened_one, wanting, begun_call};
-ghost use Rattle.signal_graph.specs.Machine.{sets_of, looks_of, misnamed};
+ghost use Rattle.flow_state.specs.Booked.{AreInside, opened_one, wanting, begun_call};
 ghost use Rattle.flow_state.specs.Seats.{find_call, has_call, on_live, stops_live, presses_live, pressed_live, before_live, framing_before_live, LeadsToLive, with_pairs, one_call_more, slot_in, has_version, AreAscending, free_seat, no_calls, left_calls, without_tenant};
 
 use crate::counts::{is_unwanted, lower, raise};
+use crate::room::Room;
 use crate::seat::Seat;
 use node_set::NodeSet;
 use order_graph::{MAX_CALLERS, OrderGraph};
@@ -21,7 +21,6 @@ use script_tree::limits::NODES;
 use script_tree::memory::OutOfMemory;
 use script_tree::value::Value;
 use signal_graph::call::Call;
-use signal_graph::graph::Graph;
 use signal_graph::log::Logged;
 use std::alloc::Global;
 use std::marker::Model;
@@ -184,31 +183,19 @@ impl Seating {
         }
     }
 
-    /// A call begins, with a version above those of all live calls, in the least free slot. It names what it has to in this
-    /// graph, and `looked` has room for all its looks.
-    pub(crate) fn begin(
-        &mut self,
-        graph: &Graph,
-        version: u32,
-        caller: u32,
-        call: Call,
-        looked: Vec<Value>,
-    )
+    /// A call begins in a room, with a version above those of all live calls, in the least free slot.
+    pub(crate) fn begin(&mut self, version: u32, caller: u32, call: Call, room: Room)
         requires some { 0 < version }
         requires newest { (t : ℕ) → has_call self.old t ≡ true → t < version }
         requires slot { free_slot self.old.callers 0 self.old.calls < self.old.callers }
-        requires named { misnamed graph.now call ≡ None }
-        requires sets { length (sets_of call) ≤ SETS }
-        requires looks { length (looks_of call) ≤ LOOKS }
-        requires size { self.old.nodes ≡ length graph.now.nodes }
-        requires empty { looked.items ≡ [] }
-        requires room { length (looks_of call) ≤ vec_capacity looked }
-        ensures { self.new ≡ one_call_more self.old (begun_call graph.now caller version (free_slot self.old.callers 0 self.old.calls) call) }
+        requires sets { AreInside self.old.nodes room.sets }
+        requires looks { length room.looks ≤ LOOKS }
+        ensures { self.new ≡ one_call_more self.old (begun_call room caller version (free_slot self.old.callers 0 self.old.calls) call) }
     {
         let slot = self.free_slot();
         self.live.push_reserved(Tenant { version, slot });
         let counts = self.counts.as_mut_slice();
-        self.seats[slot as usize].begin(graph, version, caller, call, looked, counts);
+        self.seats[slot as usize].begin(version, caller, call, room, counts);
         self.hints[version as usize % HINTS] = slot as u16;
         self.free.remove(slot);
     }

@@ -1,15 +1,22 @@
 -- A beginning finds a slot, and what it makes.
-use Rattle.std.proofs.Common.{◌≡◌, ℕ, ◌+◌, ◌<◌, ◌≤◌, true, sym, ap, ◌∙◌, subst, arith}
+use Rattle.std.proofs.Common.{◌≡◌, ℕ, ◌+◌, ◌<◌, ◌≤◌, true, List, length, Option, Some, None, is_none, refl, sym, ap, ◌∙◌, subst, arith}
 use Rattle.std.specs.Prelude.{nat_le}
+use Rattle.std.proofs.lemmas.Bool.{false≢true}
+use Rattle.std.proofs.lemmas.List.{length-map}
 use Rattle.std.proofs.lemmas.Bool.Decides.{nat_tests}
 use Rattle.signal_graph.specs.declared.call.Call.{Call}
-use Rattle.signal_graph.specs.Graph.{Graph}
+use Rattle.script_tree.specs.declared.limits.TheConstants.{LOOKS}
+use Rattle.script_tree.specs.declared.value.Value.{Value}
+use Rattle.signal_graph.specs.Graph.{Graph, number_of}
+use Rattle.signal_graph.specs.Machine.{looks_of, misnamed}
 use Rattle.flow_model.specs.Machine.State.{Core}
-use Rattle.flow_model.specs.Machine.Steps.{can_begin, free_slot, has_call}
+use Rattle.flow_model.specs.Machine.Steps.{can_begin, free_slot, has_call, sets_in, looks_in}
 use Rattle.flow_model.proofs.OneStep.BegunCalls.{few-calls, slot-free}
 use Rattle.flow_model.proofs.OneStep.WhoMayStep.{and_left, and_right, not_is}
-use Rattle.flow_state.specs.Booked.{Booked, begin_call}
-use Rattle.flow_model.specs.Parts.Books.{Book}
+use Rattle.flow_state.specs.Booked.{Booked, AreInside, begin_call, node_count}
+use Rattle.flow_state.specs.Rooms.{Roomy, IsRoomFor}
+use Rattle.flow_state.proofs.Naming.{named_inside}
+use Rattle.flow_model.specs.Parts.Books.{Book, work_in}
 use Rattle.flow_state.specs.Fitting.{IsBookOf}
 use Rattle.framing.specs.Begins.{MakesBeginning}
 
@@ -27,8 +34,34 @@ slot_inside graph s book caller call fits h =
     let inside : free_slot s.callers 0 s.calls < s.callers = let i = slot.inside in omega (arith, i) in
     subst (λ (f : Book). free_slot f.callers 0 f.calls < f.callers) (sym fits.parts) inside
 
-pub begin_makes : (graph : Graph) (book new : Booked) (caller version : ℕ) (call : Call) → new ≡ begin_call graph book caller call → version ≡ book.book.begun + 1 → MakesBeginning graph book caller call new version
-begin_makes graph book new caller version call is v s fits h = (
-  is ∙ ap (λ (f : Book). begin_call graph (record book { book = f }) caller call) fits.parts,
+pub sets_inside : (graph : Graph) (s : Core) (book : Booked) (caller : ℕ) (call : Call) (room : Roomy) → IsBookOf graph s book
+    → can_begin graph s caller call ≡ true → IsRoomFor graph call room → AreInside (node_count book) room.sets
+sets_inside graph s book caller call room fits h made =
+    let named = none-is (misnamed graph call) (and_right _ _ (and_left _ _ h)) in
+    let works = sym (ap (λ (f : Book). length f.works) fits.parts ∙ length-map s.cells work_in ∙ fits.lawful.lists) in
+    subst (λ (n : ℕ). AreInside n room.sets) works (subst (AreInside (length graph.nodes)) (sym made.sets) (named_inside graph call named))
+  where
+    none-is : (o : Option ℕ) → is_none o ≡ true → o ≡ None
+    none-is None h = refl
+    none-is (Some place) h = absurd (false≢true h)
+
+pub looks_few : (graph : Graph) (s : Core) (caller : ℕ) (call : Call) (room : Roomy) → can_begin graph s caller call ≡ true
+    → IsRoomFor graph call room → length room.looks ≤ LOOKS
+looks_few graph s caller call room h made =
+    let few = at_most (length (looks_of call)) LOOKS (and_right _ _ (and_left _ _ (and_left _ _ h))) in
+    let many = ap length made.looks ∙ length-map (looks_of call) (number_of graph) in
+    omega (arith, few, many)
+
+room_is : (graph : Graph) (call : Call) (room : Roomy) → IsRoomFor graph call room
+    → room ≡ record { sets = sets_in graph call; looks = looks_in graph call; nodes = length graph.nodes }
+room_is graph call room made = ap (λ (ss : List (ℕ × Value)). record room { sets = ss }) made.sets
+    ∙ ap (λ (ns : List ℕ). record { sets = sets_in graph call; looks = ns; nodes = room.nodes }) made.looks
+    ∙ ap (λ (n : ℕ). record { sets = sets_in graph call; looks = looks_in graph call; nodes = n }) made.nodes
+
+pub begin_makes : (book new : Booked) (caller version : ℕ) (call : Call) (room : Roomy) → new ≡ begin_call room book caller call
+    → version ≡ book.book.begun + 1 → MakesBeginning book caller call room new version
+begin_makes book new caller version call room is v graph s fits h made = (
+  is ∙ ap (λ (r : Roomy). begin_call r book caller call) (room_is graph call room made)
+  ∙ ap (λ (f : Book). begin_call (record { sets = sets_in graph call; looks = looks_in graph call; nodes = length graph.nodes }) (record book { book = f }) caller call) fits.parts,
   let b = ap (λ (f : Book). f.begun) fits.parts in omega (arith, v, b),
 )

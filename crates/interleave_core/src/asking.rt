@@ -11,6 +11,13 @@ use script_tree::limits::{LOOKS, SETS};
 use signal_graph::call::Call;
 
 impl Core<'_> {
+    /// How many callers there are; they count from 1.
+    pub fn callers(&self) -> u32
+        ensures { result ≡ self.now.state.callers }
+    {
+        self.book.callers()
+    }
+
     /// The version of a caller's live call. None where it has none.
     pub fn live_call(&self, caller: u32) -> Option<u32>
         ensures { result ≡ version_of caller self.now.state.calls }

@@ -14,6 +14,7 @@ use crate::refusal::Refusal;
 use flow_model::laws::{lawful_stays, opening_is_lawful};
 use flow_state::{Book, Room};
 use framing::begin;
+use script_tree::limits::SETS;
 use script_tree::memory::OutOfMemory;
 use signal_graph::call::Call;
 use signal_graph::graph::Graph;
@@ -60,28 +61,41 @@ impl Core<'_> {
         ensures begins { OnOk result (AllCanBegin self.old.graph self.old.state call.now) }
         ensures why { IfErr result (λ refusal. why_of refusal ≡ refused_in self.old.graph self.old.state call.now) }
     {
-        if let Some(place) = call.misnamed(self.graph) {
-            return Err(Refusal::UnknownName(place));
-        }
+        let named = match call.named_in(self.graph) {
+            Ok(named) => named,
+            Err(place) => return Err(Refusal::UnknownName(place)),
+        };
         let limit = self.book.limit();
         if self.book.begun() >= limit {
             return Err(Refusal::VersionsUsedUp(limit));
         }
-        let Ok(room) = self.book.make_room(alloc, call) else {
+        let Ok(room) = self
+            .book
+            .make_room(alloc, named.sets(), call.sets(), named.looks())
+        else {
             return Err(Refusal::Memory);
         };
         Ok(room)
     }
 
-    /// Takes all memory that a call will need, which names in this graph what it has to. The room has to be spent by the call's
-    /// beginning, or given back. Where there is no memory the core is as it was.
+    /// Takes all memory that a call will need which is within the limits and names in this graph what it has to; the room of any
+    /// other call is for no names. The room has to be spent by the call's beginning, or given back. Where there is no memory the
+    /// core is as it was.
     pub fn make_room(&mut self, alloc: Global, call: &Call) -> Result<Room, OutOfMemory>
         requires { length (looks_of call.now) ≤ LOOKS }
         ensures ok { OnOk result (self.new ≡ one_room_more self.old) }
         ensures err { OnErr result (self.new ≡ self.old) }
-        ensures room { misnamed self.old.graph call.now ≡ None → IfOk result (IsRoomFor self.old.graph call.now) }
+        ensures room { length (sets_of call.now) ≤ SETS → misnamed self.old.graph call.now ≡ None
+            → IfOk result (IsRoomFor self.old.graph call.now) }
     {
-        self.book.make_room(alloc, call)
+        if call.sets().len() <= SETS {
+            if let Ok(named) = call.named_in(self.graph) {
+                return self
+                    .book
+                    .make_room(alloc, named.sets(), call.sets(), named.looks());
+            }
+        }
+        self.book.make_room(alloc, &[], &[], &[])
     }
 
     /// Takes a room back that was not used. Takes no memory.
@@ -102,6 +116,6 @@ impl Core<'_> {
         ensures version { result ≡ suc self.old.state.begun }
     {
         lawful_stays();
-        begin(&mut self.book, self.graph, caller, call, room)
+        begin(&mut self.book, caller, call, room)
     }
 }

@@ -1,13 +1,11 @@
-use Rattle.std.proofs.Common.{ℕ, length, sym, ap, ◌∙◌, subst}
+use Rattle.std.proofs.Common.{ℕ, sym, ap, ◌∙◌, subst}
 use Rattle.node_set.specs.Members.{Members}
-use Rattle.flow_state.specs.Booked.{sets_by_node, AreInside}
+use Rattle.flow_state.specs.Booked.{AreInside}
+use Rattle.flow_state.specs.Rooms.{Roomy}
 use Rattle.flow_state.specs.Seats.{Seated}
-use Rattle.flow_state.proofs.Naming.{named_inside}
 use Rattle.flow_state.proofs.seat.Seat.begin.Goals as goal
 
 pub want_all-requires-clause-inside : goal.want_all-requires-clause-inside
 want_all-requires-clause-inside c =
-    let graph = c.args.graph.now in
-    let size = ap (λ (m : Members). m.size) c.want_none.ensures.wanted ∙ ap (λ (s : Seated). s.size) c.self.view_is ∙ c.requires.size in
-    let sets = c.as_slice.ensures.value ∙ c.fill_sets.ensures.items ∙ ap (sets_by_node graph) c.sets.ensures in
-    subst (λ (n : ℕ). AreInside n c.as_slice.result.now) (sym size) (subst (AreInside (length graph.nodes)) (sym sets) (named_inside graph c.args.call c.requires.named))
+    let size = ap (λ (m : Members). m.size) c.want_none.ensures.wanted ∙ ap (λ (s : Seated). s.size) c.self.view_is in
+    subst (λ (n : ℕ). AreInside n c.as_slice.result.now) (sym size) (subst (AreInside c.args.self.now.size) (ap (λ (r : Roomy). r.sets) (sym c.room.view_is) ∙ sym c.as_slice.ensures.value) c.requires.sets)

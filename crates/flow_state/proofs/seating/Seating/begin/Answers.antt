@@ -64,7 +64,7 @@ invariant_of-self c =
     (subst (λ (cs : List ℕ). Follow cs c.index_mut.result.now.call.wanted c.begin.new.counts c.begin.new.self.call.wanted) c.as_mut_slice-counts.ensures.value c.begin.ensures.counts) in
     record {
       kept = begun_kept s.callers s.nodes (vec_capacity s.live) _ s.seats.items s.live.items c.push_reserved.new.self.items s.order n c.begin.new.self c.self.invariant.kept below
-          (taken_by c.args.graph.now c.args.caller c.args.version k s.nodes c.args.call c.index_mut.result.now c.begin.new.self c.requires.some slot size c.begin.ensures.seat) newest unused c.push_reserved.ensures.items c.push_reserved.ensures.capacity;
+          (taken_by c.args.room c.args.caller c.args.version k s.nodes c.args.call c.index_mut.result.now c.begin.new.self c.requires.some slot size c.begin.ensures.seat) newest unused c.push_reserved.ensures.items c.push_reserved.ensures.capacity;
       hint_count = length-set _ _ _ ∙ c.self.invariant.hint_count;
       free_kept = free_taken s.callers s.live.items c.push_reserved.new.self.items n s.free c.remove.new.self c.self.invariant.free_kept c.push_reserved.ensures.items c.remove.ensures.nodes;
       count_each = back.0;
@@ -82,5 +82,5 @@ returns c =
     let read = read_version s.seats.items k c.index_mut.result.now (omega (arith, below, count)) c.index_mut.ensures.value in
     let slot = ap (λ (x : Seated). x.call.slot) read ∙ c.self.invariant.kept.slots k below in
     let size = ap (λ (x : Seated). x.size) read ∙ c.self.invariant.kept.sizes k below in
-    let call = ap (λ (x : Seated). x.call) c.begin.ensures.seat ∙ ap (λ j. begun_call c.args.graph.now c.args.caller c.args.version j c.args.call) (slot ∙ c.free_slot-slot.ensures.slot) in
+    let call = ap (λ (x : Seated). x.call) c.begin.ensures.seat ∙ ap (λ j. begun_call c.args.room c.args.caller c.args.version j c.args.call) (slot ∙ c.free_slot-slot.ensures.slot) in
     begun_seen s.callers s.nodes (vec_capacity s.live) s.seats.items s.live.items c.push_reserved.new.self.items s.order n c.begin.new.self _ c.args.self.now c.self.invariant.kept c.self.view_is below unused c.push_reserved.ensures.items call
