@@ -1,0 +1,5 @@
+pub mod Dividing
+pub mod Numbers
+pub mod Words
+pub mod NoEnd
+pub mod Versions
