@@ -3,3 +3,7 @@ pub mod Numbers
 pub mod Words
 pub mod NoEnd
 pub mod Versions
+pub mod Turns
+pub mod Stages
+pub mod Unnamed
+pub mod Seats

@@ -1,9 +1,8 @@
 -- What comes next for a call is never the end of one.
 use Rattle.std.proofs.Common.{◌≡◌, ℕ, ◌+◌, Bool, true, false, not, nat_lt, refl, List, [], ◌∷◌, length, subst, Option, Some, None}
-use Rattle.std.specs.Prelude.{find}
-use Rattle.std.specs.List.{AllByRecursion, list_any}
-use Rattle.signal_graph.specs.Graph.{Graph, node_at, is_source, inputs_of}
-use Rattle.node_versions.specs.Entries.{is_mark, has, at, first_open}
+use Rattle.std.specs.List.{AllByRecursion}
+use Rattle.signal_graph.specs.Graph.{Graph}
+use Rattle.node_versions.specs.Entries.{is_mark, has, at}
 use Rattle.flow_model.specs.declared.step.Step.{Step}
 use Rattle.flow_model.specs.declared.step.Step.TheVariants as steps
 use Rattle.flow_model.specs.declared.step.Cause.TheVariants.{FramingBefore, OpenBefore, InputOpen}

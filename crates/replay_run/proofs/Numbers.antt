@@ -1,12 +1,11 @@
 -- The number that few digits spell.
-use Rattle.std.proofs.Common.{◌≡◌, ℕ, suc, ◌+◌, ◌-◌, ◌*◌, ◌^◌, ◌<◌, ◌≤◌, Bool, true, false, ◌&&◌, List, [], ◌∷◌, length, take, drop, get_or, refl, sym, ap, ◌∙◌, subst, arith}
+use Rattle.std.proofs.Common.{◌≡◌, ℕ, ◌+◌, ◌-◌, ◌*◌, ◌^◌, ◌<◌, ◌≤◌, true, List, [], ◌∷◌, length, take, get_or, sym, subst, arith}
 use Rattle.std.specs.List.{list_all}
 use Rattle.std.specs.Char.{is_ascii_digit}
-use Rattle.std.proofs.lemmas.Grind.{common_steps}
 use Rattle.std.proofs.Math.Nat.{mul-le-mul_right, mul_assoc, pow-succ', pow-le-pow_right}
 use Rattle.expr_script.specs.Words.{value}
 use Rattle.expr_script.proofs.Leaves.{and_left, and_right}
-use Rattle.deck_lines.proofs.Numbers.{value_take_more, value_take, value_all}
+use Rattle.deck_lines.proofs.Numbers.{value_take_more, value_take}
 
 digit_small : (d : ℕ) → is_ascii_digit d ≡ true → d - 48 ≤ 9
 digit_small d h = grind (arith, h)

@@ -1,5 +1,5 @@
 -- Whose live call has which version, after a step and after a beginning.
-use Rattle.std.proofs.Common.{◌≡◌, ℕ, suc, ◌+◌, Bool, true, false, ◌||◌, not, ◌==◌, ◌⊎◌, inl, inr, refl, sym, ap, arith, List, [], ◌∷◌, ◌++◌, map, length, length-append, true≢false, ◌∙◌, subst, Option, Some, None}
+use Rattle.std.proofs.Common.{◌≡◌, ℕ, suc, Bool, true, false, ◌==◌, ◌⊎◌, inl, inr, refl, sym, ap, arith, List, [], ◌∷◌, ◌++◌, length, length-append, true≢false, ◌∙◌, Option, Some, None}
 use Rattle.std.specs.Prelude.{is_some}
 use Rattle.std.proofs.lemmas.Bool.Decides.{eqb_tells}
 use Rattle.signal_graph.specs.declared.call.Call.{Call}
@@ -9,7 +9,7 @@ use Rattle.flow_model.specs.declared.step.Step.{Step}
 use Rattle.flow_model.specs.declared.step.Step.TheVariants as steps
 use Rattle.flow_model.specs.Machine.State.{Core, LiveCall, call, call_of, call_or, live}
 use Rattle.flow_model.specs.Machine.Steps.{allowed, apply, begin, new_call, without_call, has_call, logged}
-use Rattle.flow_model.specs.Machine.Next.{least_version, lesser}
+use Rattle.flow_model.specs.Machine.Next.{lesser}
 use Rattle.flow_model.specs.Machine.Schedules.{version_of}
 use Rattle.flow_model.specs.Kept.Lawful.{IsLawful}
 use Rattle.flow_model.proofs.General.Truths.{same_number, equal_test, not_true, is_not_true, true_or_false}

@@ -1,10 +1,10 @@
 -- The first word of a text.
-use Rattle.std.proofs.Common.{◌≡◌, ℕ, suc, ◌+◌, ◌<◌, ◌≤◌, Bool, true, false, not, ◌==◌, List, [], ◌∷◌, length, map, take, drop, refl, ap, ◌∙◌, arith}
+use Rattle.std.proofs.Common.{◌≡◌, ℕ, suc, ◌+◌, ◌<◌, ◌≤◌, Bool, true, false, not, List, [], ◌∷◌, length, map, take, drop, refl, ap, ◌∙◌, arith}
 use Rattle.std.specs.Prelude.{filter}
 use Rattle.std.specs.List.{slice_split, onto_first, position_or_len, before_first, after_first}
 use Rattle.std.proofs.lemmas.List.Splits.{slice_split_first}
 use Rattle.flow_model.specs.Machine.Lists.{is_empty}
-use Rattle.replay_run.specs.Schedule.{is_cut, number_of, with_word, words, schedule_of}
+use Rattle.replay_run.specs.Schedule.{is_cut, number_of, with_word, schedule_of}
 
 abbrev is_word : List ℕ → Bool
 is_word part = not (is_empty part)

@@ -1,10 +1,10 @@
 // From a schedule's bytes to the numbers of threads.
 
-ghost use Rattle.std.specs.Prelude.{◌≡◌, ◌<◌, ◌≤◌, true, length, IfOk};
+ghost use Rattle.std.specs.Prelude.{◌≡◌, ◌<◌, ◌≤◌, ◌^◌, true, length, IfOk};
 ghost use Rattle.std.specs.List.{list_all, position_or_len};
 ghost use Rattle.std.specs.Char.{is_ascii_digit};
 ghost use Rattle.expr_script.specs.Words.{is_digits, value};
-ghost use Rattle.replay_run.specs.Schedule.{is_cut, number_of, with_word, schedule_of};
+ghost use Rattle.replay_run.specs.Schedule.{is_cut, number_of, with_word, schedule_of, names_thread, first_unnamed};
 
 use script_tree::items::Items;
 use script_tree::memory::OutOfMemory;
@@ -31,6 +31,26 @@ pub fn read_schedule(alloc: Global, bytes: &[u8]) -> Result<ScheduleList, OutOfM
         rest = behind;
     }
     Ok(schedule)
+}
+
+/// The place of the first number that names no thread, counted from 1, where there are so many threads. None where each number names
+/// one. Takes no memory.
+pub fn first_unnamed(threads: u32, schedule: &[u32]) -> Option<u32>
+    requires { length schedule.now < 2 ^ 32 }
+    ensures { result ≡ first_unnamed threads schedule.now }
+{
+    for index in 0..schedule.len() {
+        if !names_thread(threads, schedule[index]) {
+            return Some(index as u32 + 1);
+        }
+    }
+    None
+}
+
+fn names_thread(threads: u32, number: u32) -> bool
+    ensures { result ≡ names_thread threads number }
+{
+    1 <= number && number <= threads
 }
 
 // What stands before the first byte at which words are cut, and what stands behind that byte.

@@ -1,4 +1,3 @@
-use Rattle.std.proofs.Common.{sym, ◌∙◌}
 use Rattle.replay_run.proofs.Dividing.{cut_line, cut_none}
 use Rattle.replay_run.proofs.input.line_len.Goals as goal
 

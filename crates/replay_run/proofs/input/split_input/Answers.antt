@@ -1,6 +1,6 @@
-use Rattle.std.proofs.Common.{◌≡◌, ◌-◌, length, take, drop, sym, ◌∙◌}
+use Rattle.std.proofs.Common.{sym, ◌∙◌}
 use Rattle.std.proofs.lemmas.List.{take_rest}
-use Rattle.replay_run.proofs.Dividing.{next_gone_over, divider_found, all_gone_over}
+use Rattle.replay_run.proofs.Dividing.{next_gone_over, divider_found}
 use Rattle.replay_run.proofs.input.split_input.Goals as goal
 
 pub returns-then-is_divider-clause-deck : goal.returns-then-is_divider-clause-deck
