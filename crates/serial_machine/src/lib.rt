@@ -9,4 +9,4 @@ mod pass;
 mod run;
 
 pub use machine::Machine;
-pub use run::{serial, serial_owned};
+pub use run::{copied_scripts, serial, serial_owned};

@@ -181,8 +181,8 @@ fn copied_calls(alloc: Global, calls: &CallList) -> Result<CallList, OutOfMemory
     Ok(copied)
 }
 
-// A copy of scripts.
-fn copied_scripts(alloc: Global, scripts: &Scripts) -> Result<Scripts, OutOfMemory>
+/// A copy of scripts. Takes memory.
+pub fn copied_scripts(alloc: Global, scripts: &Scripts) -> Result<Scripts, OutOfMemory>
     ensures { IfOk result (λ copied. copied ≡ scripts.now) }
 {
     let mut copied = Items::new(alloc);

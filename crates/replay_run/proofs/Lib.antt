@@ -1,0 +1,9 @@
+pub mod Dividing
+pub mod Numbers
+pub mod Words
+pub mod NoEnd
+pub mod Versions
+pub mod Turns
+pub mod Stages
+pub mod Unnamed
+pub mod Seats

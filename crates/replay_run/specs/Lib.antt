@@ -1,0 +1,4 @@
+pub mod Input
+pub mod Schedule
+pub mod Replaying
+pub mod Faults
