@@ -64,8 +64,11 @@ among_may free (option ∷ given) among = (among.0, more given (among_may (witho
 
 pub among_once : (free : Kinds) (given : List Given) → AreAmong free given → NoneTwice (map kind_of given)
 among_once free [] among = tt
-among_once free (option ∷ given) among = (apart given (among_may (without free (kind_of option)) given among.1), among_once
-    (without free (kind_of option)) given among.1)
+among_once free (option ∷ given) among = (
+  apart given (among_may (without free (kind_of option)) given among.1),
+  among_once
+      (without free (kind_of option)) given among.1,
+)
   where
     apart : (rest : List Given) → May (without free (kind_of option)) (map kind_of rest)
         → AllByRecursion (λ other. kind_of option ≢ other) (map kind_of rest)

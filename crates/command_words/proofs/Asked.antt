@@ -1,7 +1,9 @@
 -- From options to the answer.
-use Rattle.std.proofs.Common.{◌≡◌, ℕ, zero, suc, Bool, true, false, List, [], ◌∷◌, refl, sym, ap, subst, ◌∙◌, inl, inr, arith, true≢false}
-use Rattle.std.specs.Prelude.{◌<◌, ◌&&◌, length, All, nat_lt, Err, slice_index_or}
+use Rattle.std.proofs.Common.{◌≡◌, ℕ, zero, suc, ◌≤◌, Bool, true, false, List, [], ◌∷◌, refl, sym, ap, subst, ◌∙◌, inl, inr, codes, arith, true≢false}
+use Rattle.std.specs.Prelude.{◌<◌, ◌&&◌, length, All, nat_lt, Err, slice_index_or, if◌then◌else◌}
 use Rattle.std.specs.List.{list_all}
+use Rattle.std.specs.Str.{bytes_eq}
+use Rattle.script_tree.specs.declared.limits.TheConstants.{VERSIONS}
 use Rattle.std.specs.Str.{IsUtf8, IsAscii}
 use Rattle.std.specs.Str.Parse.{AllDigits}
 use Rattle.std.specs.Char.{digit_value}
@@ -15,7 +17,7 @@ use Rattle.command_words.specs.declared.kinds.Kinds.{Kinds}
 use Rattle.command_words.specs.declared.verb.Verb.{Verb}
 use Rattle.command_words.specs.declared.verb.Verb.TheVariants as verb
 use Rattle.command_words.specs.Words.{Given, Json, Versions, IsBlock, AreBlocks, AreOptions, AreNoOptions, AsksFor, ReadsWords, word_of}
-use Rattle.command_words.specs.Words.{kinds_of, asked, versions_in, json_in}
+use Rattle.command_words.specs.Words.{kinds_of, asked, versions_in, json_in, HasFewVersions}
 use Rattle.command_words.specs.Blocks.{Gives}
 use Rattle.command_words.proofs.Limits.{both}
 use Rattle.command_words.proofs.Blocks.{Text, first, tail, one_given}
@@ -60,6 +62,7 @@ blocks_ascii (option ∷ given) words blocks =
 
 verb_ascii : (verb : Verb) → is_ascii (word_of verb) ≡ true
 verb_ascii verb.Run = refl
+verb_ascii verb.Replay = refl
 verb_ascii verb.Serial = refl
 verb_ascii verb.Print = refl
 
@@ -98,18 +101,18 @@ no_verb word rest none command a = none a.verb (ap first a.words_are)
 -- ---- a command's word
 
 -- the command of a word
-abbrev of_length : ℕ → Verb
-of_length (suc (suc (suc zero))) = verb.Run
-of_length (suc (suc (suc (suc (suc zero))))) = verb.Print
-of_length n = verb.Serial
+abbrev verb_of : Text → Verb
+verb_of word = if bytes_eq word (codes "run") then verb.Run
+    else (if bytes_eq word (codes "replay") then verb.Replay else (if bytes_eq word (codes "serial") then verb.Serial else verb.Print))
 
-verb_read : (verb : Verb) → of_length (length (word_of verb)) ≡ verb
+verb_read : (verb : Verb) → verb_of (word_of verb) ≡ verb
 verb_read verb.Run = refl
+verb_read verb.Replay = refl
 verb_read verb.Serial = refl
 verb_read verb.Print = refl
 
 pub one_verb : (a b : Verb) → word_of a ≡ word_of b → a ≡ b
-one_verb a b e = sym (verb_read a) ∙ ap (λ w. of_length (length w)) e ∙ verb_read b
+one_verb a b e = sym (verb_read a) ∙ ap verb_of e ∙ verb_read b
 
 pub asks : (verb : Verb) (word : Text) (options : List Text) (versions : ℕ) (json : Bool) → word ≡ word_of verb
     → Gives (kinds_of verb) options versions json → AsksFor (word ∷ options) (asked verb versions json)
@@ -138,4 +141,21 @@ one_command words a b x y =
     let same = one_verb x.verb y.verb (ap first words_same) in
     let given = one_given x.given y.given x.options x.are.blocks (subst (AreBlocks y.given) (sym (ap tail words_same)) y.are.blocks) in
     x.command_is ∙ ap (λ v. asked v (versions_in x.given) (json_in x.given)) same
-        ∙ ap (λ g. asked y.verb (versions_in g) (json_in g)) given ∙ sym y.command_is
+    ∙ ap (λ g. asked y.verb (versions_in g) (json_in g)) given ∙ sym y.command_is
+
+-- ---- limits
+
+given_few : (given : List Given) (words : List Text) → AreBlocks given words → versions_in given ≤ VERSIONS
+given_few [] words blocks = omega arith
+given_few (Json ∷ given) words blocks = given_few given blocks.1 blocks.4
+given_few (Versions text ∷ given) words blocks = blocks.3.0.within
+
+verb_few : (verb : Verb) (versions : ℕ) (json : Bool) → versions ≤ VERSIONS → HasFewVersions (asked verb versions json)
+verb_few verb.Run versions json few = few
+verb_few verb.Replay versions json few = few
+verb_few verb.Serial versions json few = few
+verb_few verb.Print versions json few = tt
+
+pub few_versions : (words : List Text) (command : Command) → AsksFor words command → HasFewVersions command
+few_versions words command a =
+    subst HasFewVersions (sym a.command_is) (verb_few a.verb (versions_in a.given) (json_in a.given) (given_few a.given a.options a.are.blocks))

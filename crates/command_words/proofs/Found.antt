@@ -29,12 +29,18 @@ within_limit : (first : Text) → is_limit_within first ≡ true → IsBlock (Ve
 within_limit first h =
     let parts = both (bytes_eq (take 11 first) (codes "--versions=")) (is_limit (drop 11 first)) h in
     let joined = sym (take-append-drop 11 first)
-        ∙ ap (λ front. front ++ drop 11 first) (same (take 11 first) (codes "--versions=") parts.0) in
+    ∙ ap (λ front. front ++ drop 11 first) (same (take 11 first) (codes "--versions=") parts.0) in
     (limit_spelled (drop 11 first) parts.1, inr (ap (λ w. w ∷ []) joined))
 
 pub within_begins : (first : Text) (rest : List Text) → is_limit_within first ≡ true → Begins (first ∷ rest) kind.Versions 1
-within_begins first rest h = record { option = Versions
-    (drop 11 first); of_kind = refl; block = within_limit first h; some = omega arith; within = omega arith }
+within_begins first rest h = record {
+  option = Versions
+      (drop 11 first);
+  of_kind = refl;
+  block = within_limit first h;
+  some = omega arith;
+  within = omega arith;
+}
 
 pub behind_begins : (first text : Text) (rest : List Text) → first ≡ codes "--versions" → is_limit text ≡ true
     → Begins (first ∷ text ∷ rest) kind.Versions 2
@@ -114,7 +120,7 @@ not_had kinds words kind count b not = record { none = from }
     from [] are = not_empty b.option (take count words) (drop count words) words are.blocks (split words count) b.block
     from (option ∷ given) are =
         let one = one_option option b.option are.blocks.0 (take count words) are.blocks.1
-            (drop count words) words are.blocks.2 are.blocks.3 (split words count) b.block in
+        (drop count words) words are.blocks.2 are.blocks.3 (split words count) b.block in
         true≢false (sym are.may.0 ∙ ap (has kinds) (ap kind_of one ∙ b.of_kind) ∙ not)
 
 pub one_more : (kinds : Kinds) (words : List Text) (kind : Kind) (count : ℕ) → Begins words kind count → has kinds kind ≡ true
@@ -140,9 +146,9 @@ none_more kinds words kind count b none = record { none = from }
     from [] are = not_empty b.option (take count words) (drop count words) words are.blocks (split words count) b.block
     from (option ∷ given) are =
         let one = one_option option b.option are.blocks.0 (take count words) are.blocks.1
-            (drop count words) words are.blocks.2 are.blocks.3 (split words count) b.block in
+        (drop count words) words are.blocks.2 are.blocks.3 (split words count) b.block in
         let rest = one_rest option b.option are.blocks.0 (take count words) are.blocks.1 (drop count words) words are.blocks.2 are.blocks.3
-            (split words count) b.block in
+        (split words count) b.block in
         let among = (among_kept kinds (option ∷ given) are.may are.once).1 in
         let fewer = subst (λ k. AreAmong (without kinds k) given) (ap kind_of one ∙ b.of_kind) among in
         none.none given (record {
@@ -162,7 +168,7 @@ some_texts words some none = absurd (omega (arith, some, length-map words (λ (s
 pub texts_behind : (words : List (Bor Text)) (count : ℕ) → texts (take (length words - count) (drop count words)) ≡ drop count (texts words)
 texts_behind words count =
     ap texts (take_all (length words - count) (drop count words) (omega (arith, length-drop count words)))
-        ∙ sym (drop-map (λ (s : Bor Text). s.now) count words)
+    ∙ sym (drop-map (λ (s : Bor Text). s.now) count words)
 
 pub texts_split : (words : List (Bor Text)) (d : Bor Text) → 1 ≤ length words
     → (slice_index_or words 0 d).now ∷ texts (take (length words - 1) (drop 1 words)) ≡ texts words

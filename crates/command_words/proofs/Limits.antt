@@ -44,8 +44,11 @@ pub beyond_parsed : (ds : List ℕ) → list_all is_ascii_digit ds ≡ true → 
 beyond_parsed ds h some p = sym (grind (arith, nat_tests, above))
   where
     small_fits : digits_value 10 ds ≤ 4000000 → ⊥
-    small_fits small = p (subst (IsNumeral 10) (sym (no_plus ds h)) (some, all_digits ds h), subst (λ xs. digits_value 10 xs < 2 ^ 32)
-        (sym (no_plus ds h)) (omega (arith, small)))
+    small_fits small = p (
+      subst (IsNumeral 10) (sym (no_plus ds h)) (some, all_digits ds h),
+      subst (λ xs. digits_value 10 xs < 2 ^ 32)
+          (sym (no_plus ds h)) (omega (arith, small)),
+    )
 
     above : 4000000 < digits_value 10 ds
     above = omega (arith, small_fits)
@@ -57,7 +60,7 @@ pub ruleset limit_laws = (within_parsed, beyond_parsed)
 pub limit_spelled : (text : List ℕ) → is_limit text ≡ true → IsLimit text
 limit_spelled text h =
     let p = both (nat_lt 0 (length text) && nat_le (length text) 7)
-        (list_all is_ascii_digit text && nat_le (digits_value 10 text) VERSIONS) h in
+    (list_all is_ascii_digit text && nat_le (digits_value 10 text) VERSIONS) h in
     let lengths = both (nat_lt 0 (length text)) (nat_le (length text) 7) p.0 in
     let rest = both (list_all is_ascii_digit text) (nat_le (digits_value 10 text) VERSIONS) p.1 in
     record {
@@ -90,7 +93,10 @@ pub limit_parses : (text : List ℕ) → IsLimit text
     → ((IsNumeral 10 (without_leading_plus text) × (digits_value 10 (without_leading_plus text) < 2 ^ 32)) → ⊥) → ⊥
 limit_parses text limit none =
     let plain = no_plus text (digits_all text limit.digits.1) in
-    none (subst (IsNumeral 10) (sym plain) limit.digits, subst (λ xs. digits_value 10 xs < 2 ^ 32) (sym plain)
-        (omega (arith, limit.within)))
+    none (
+      subst (IsNumeral 10) (sym plain) limit.digits,
+      subst (λ xs. digits_value 10 xs < 2 ^ 32) (sym plain)
+          (omega (arith, limit.within)),
+    )
 
 pub ruleset number_laws = (limit_parsed, limit_parses)

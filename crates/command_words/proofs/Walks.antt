@@ -47,7 +47,7 @@ used_row : (id : Text) (how : Reading) (values : List Text) (rows : List Row) �
     → with_values id how CommandLine values (without_row id rows) ≡ rows ++ new_row id how CommandLine values ∷ []
 used_row id how values rows none =
     ap (with_values id how CommandLine values) (missing_row id (λ _. []) [] rows none ∙ append-nil rows)
-        ∙ added id how CommandLine values rows none
+    ∙ added id how CommandLine values rows none
 
 -- ---- the parser, built
 
@@ -171,7 +171,7 @@ misses_more : (free : Kinds) (option : Given) (rows : List Row) → Misses free 
     → Misses (without free (kind_of option)) (rows ++ row option ∷ [])
 misses_more free option rows misses k h =
     list_any-append (λ r. bytes_eq r.id (id_of k)) rows (row option ∷ [])
-        ∙ rw (misses k (without_less free (kind_of option) k h), others_missed free option k h) refl
+    ∙ rw (misses k (without_less free (kind_of option) k h), others_missed free option k h) refl
 
 -- words behind words
 leads_on : (front rest : List Text) (h : Held) (rows after : List Row) (a : Leads front h rows) → Leads rest a.held after
@@ -288,11 +288,11 @@ pub reads : (free : Kinds) (given : List Given) (words : List Text) → AreBlock
 reads free given words blocks among =
     let led = blocks_lead free given words nothing_held blocks among refl (λ k h. refl) in
     let ends : walk rules [] nothing_held words ≡ walk_from led.held = ap (fold (walked rules []) (walk_from nothing_held))
-        (sym (append-nil words)) ∙ led.to [] in
+    (sym (append-nil words)) ∙ led.to [] in
     let passes : walk_passes shape [] (walk_from nothing_held) words ≡ true = ap (walk_passes shape [] (walk_from nothing_held))
-        (sym (append-nil words)) ∙ led.passes [] ∙ none_passes (walk_from led.held) in
+    (sym (append-nil words)) ∙ led.passes [] ∙ none_passes (walk_from led.held) in
     let rows : matches_of app words ≡ fold with_default (map row given) rules = ap (λ w. finished rules w.held) ends
-        ∙ ap (λ rs. fold with_default rs rules) led.holds in
+    ∙ ap (λ rs. fold with_default rs rules) led.holds in
     record {
       taken = app_takes words (level words led.held (ap (λ (w : Walk). w.held) ends) passes led.settles);
       limit = ap (first_of (codes "versions")) rows ∙ (end given).0;

@@ -77,16 +77,19 @@ json_in (Versions text ∷ given) = json_in given
 
 abbrev pub word_of : Verb → List ℕ
 word_of verb.Run = codes "run"
+word_of verb.Replay = codes "replay"
 word_of verb.Serial = codes "serial"
 word_of verb.Print = codes "print"
 
 abbrev pub kinds_of : Verb → Kinds
 kinds_of verb.Run = record { json = true; versions = true }
+kinds_of verb.Replay = record { json = true; versions = true }
 kinds_of verb.Serial = record { json = true; versions = true }
 kinds_of verb.Print = record { json = false; versions = false }
 
 abbrev pub asked : Verb → ℕ → Bool → Command
 asked verb.Run versions json = command.Run versions json
+asked verb.Replay versions json = command.Replay versions json
 asked verb.Serial versions json = command.Serial versions json
 asked verb.Print versions json = command.Print
 
@@ -98,6 +101,13 @@ pub record AsksFor (words : List (List ℕ)) (command : Command) : Type 0 where
   pub words_are : words ≡ word_of verb ∷ options
   pub are : AreOptions (kinds_of verb) given options
   pub command_is : command ≡ asked verb (versions_in given) (json_in given)
+
+-- the limit of versions of a command, where it has one, is at most the greatest one
+abbrev pub HasFewVersions : Command → Type 0
+HasFewVersions (command.Run versions json) = versions ≤ VERSIONS
+HasFewVersions (command.Replay versions json) = versions ≤ VERSIONS
+HasFewVersions (command.Serial versions json) = versions ≤ VERSIONS
+HasFewVersions command.Print = ⊤
 
 -- how words are read: as the command that they ask for, refused exactly where they ask for none, or not for want of memory
 abbrev pub ReadsWords : List (List ℕ) → Result Command WordsFault → Type 0

@@ -7,6 +7,7 @@ use crate::kinds::Kinds;
 #[derive(Clone, Copy, Debug)]
 pub enum Verb {
     Run,
+    Replay,
     Serial,
     Print,
 }
@@ -23,6 +24,7 @@ impl Verb {
     {
         match word {
             "run" => Some(Verb::Run),
+            "replay" => Some(Verb::Replay),
             "serial" => Some(Verb::Serial),
             "print" => Some(Verb::Print),
             _ => None,
@@ -34,7 +36,7 @@ impl Verb {
         ensures { result ≡ kinds_of self }
     {
         match self {
-            Verb::Run | Verb::Serial => Kinds {
+            Verb::Run | Verb::Replay | Verb::Serial => Kinds {
                 json: true,
                 versions: true,
             },
@@ -51,6 +53,7 @@ impl Verb {
     {
         match self {
             Verb::Run => Command::Run { versions, json },
+            Verb::Replay => Command::Replay { versions, json },
             Verb::Serial => Command::Serial { versions, json },
             Verb::Print => Command::Print,
         }

@@ -14,19 +14,19 @@ returns-in_default-clause-none t c = λ _.
 pub returns-then-not-has-clause-none : goal.returns-then-not-has-clause-none
 returns-then-not-has-clause-none t c = λ _.
     not_had c.args.kinds (texts c.args.words.now) c.in-Some.block.kind c.in-Some.block.words c.in-Some.ensures.some (sym c.has.ensures
-        ∙ c.if-not-has.true)
+    ∙ c.if-not-has.true)
 
 pub returns-clause-some : goal.returns-clause-some
 returns-clause-some t c = λ yes.
     let some = subst (λ ws. AreSome c.without.result ws) (texts_behind c.args.words.now c.in-Some.block.words)
-        (c.are_options.ensures.some yes) in
+    (c.are_options.ensures.some yes) in
     one_more c.args.kinds (texts c.args.words.now) c.in-Some.block.kind c.in-Some.block.words c.in-Some.ensures.some (sym c.has.ensures
-        ∙ c.if-not-has.false)
+    ∙ c.if-not-has.false)
     (subst (λ ks. AreSome ks (drop c.in-Some.block.words (texts c.args.words.now))) c.without.ensures some)
 
 pub returns-clause-none : goal.returns-clause-none
 returns-clause-none t c = λ not.
     let none = subst (λ ws. AreNoOptions c.without.result ws) (texts_behind c.args.words.now c.in-Some.block.words)
-        (c.are_options.ensures.none not) in
+    (c.are_options.ensures.none not) in
     none_more c.args.kinds (texts c.args.words.now) c.in-Some.block.kind c.in-Some.block.words c.in-Some.ensures.some
     (subst (λ ks. AreNoOptions ks (drop c.in-Some.block.words (texts c.args.words.now))) c.without.ensures none)

@@ -8,14 +8,14 @@ pub returns-in-Err-clause-err : goal.returns-in-Err-clause-err
 returns-in-Err-clause-err c =
     let words : List Text = map (λ s. s.now) c.args.options.now in
     c.fault.ensures (c.in-Err.ensures.passes (ap (λ a. takes a words) c.in_ok-option_parser.ensures
-        ∙ options_taken c.args.kinds words c.requires))
+    ∙ options_taken c.args.kinds words c.requires))
 
 pub versions_of-requires : goal.versions_of-requires
 versions_of-requires c =
     let words : List Text = map (λ s. s.now) c.args.options.now in
     let has = subst (λ a. HasMatchesOf a words c.in-Ok.matches) c.in_ok-option_parser.ensures c.in-Ok.ensures.matches in
     text_is_limit c.requires.given words c.get_str.result c.requires.are.blocks (c.get_str.ensures
-        ∙ limit_found c.args.kinds words c.in-Ok.matches c.requires has)
+    ∙ limit_found c.args.kinds words c.in-Ok.matches c.requires has)
 
 pub returns-clause-ok : goal.returns-clause-ok
 returns-clause-ok c =
