@@ -1,23 +1,28 @@
 -- From options to the answer.
-use Rattle.std.proofs.Common.{◌≡◌, ℕ, zero, suc, Bool, true, false, List, [], ◌∷◌, ◌++◌, refl, sym, ap, subst, ◌∙◌, inl, inr, codes, arith, true≢false}
-use Rattle.std.specs.Prelude.{◌<◌, ◌&&◌, length, All, nat_lt, Result, Err}
+use Rattle.std.proofs.Common.{◌≡◌, ℕ, zero, suc, ◌≤◌, Bool, true, false, List, [], ◌∷◌, refl, sym, ap, subst, ◌∙◌, inl, inr, codes, arith, true≢false}
+use Rattle.std.specs.Prelude.{◌<◌, ◌&&◌, length, All, nat_lt, Err, slice_index_or, if◌then◌else◌}
 use Rattle.std.specs.List.{list_all}
+use Rattle.std.specs.Str.{bytes_eq}
+use Rattle.script_tree.specs.declared.limits.TheConstants.{VERSIONS}
 use Rattle.std.specs.Str.{IsUtf8, IsAscii}
 use Rattle.std.specs.Str.Parse.{AllDigits}
 use Rattle.std.specs.Char.{digit_value}
 use Rattle.std.proofs.lemmas.Str.{IsUtf8-from_ascii}
 use Rattle.std.proofs.lemmas.Bool.Decides.{nat_tests}
-use Rattle.clap.specs.Words.{Text}
+use Rattle.std.proofs.lemmas.List.Folds.{list_all-append}
 use Rattle.command_words.specs.declared.command.Command.{Command}
-use Rattle.command_words.specs.declared.command.Command.TheVariants.{Run, Serial, Print}
 use Rattle.command_words.specs.declared.command.WordsFault.{WordsFault}
 use Rattle.command_words.specs.declared.command.WordsFault.TheVariants.{Refused, Memory}
-use Rattle.command_words.specs.Words.{GivesLimit, AreOptions, AreNoOptions, Called, AsksFor, ReadsWords, json_words}
-use Rattle.command_words.specs.Tests.{are_options}
+use Rattle.command_words.specs.declared.kinds.Kinds.{Kinds}
+use Rattle.command_words.specs.declared.verb.Verb.{Verb}
+use Rattle.command_words.specs.declared.verb.Verb.TheVariants as verb
+use Rattle.command_words.specs.Words.{Given, Json, Versions, IsBlock, AreBlocks, AreOptions, AreNoOptions, AsksFor, ReadsWords, word_of}
+use Rattle.command_words.specs.Words.{kinds_of, asked, versions_in, json_in, HasFewVersions}
+use Rattle.command_words.specs.Blocks.{Gives}
 use Rattle.command_words.proofs.Limits.{both}
-use Rattle.command_words.proofs.Tested.{options_pass}
+use Rattle.command_words.proofs.Blocks.{Text, first, tail, one_given}
 
--- options are ASCII, so they are text
+-- ---- a command line is ASCII, so it is text
 
 abbrev is_ascii : List ℕ → Bool
 is_ascii [] = true
@@ -40,130 +45,117 @@ all_text [] h k d within = absurd (omega (arith, within))
 all_text (w ∷ ws) h zero d within = IsUtf8-from_ascii w (ascii_at w (both (is_ascii w) (list_all is_ascii ws) h).0)
 all_text (w ∷ ws) h (suc k) d within = all_text ws (both (is_ascii w) (list_all is_ascii ws) h).1 k d (omega (arith, within))
 
-abbrev BothAscii : Bool → List Text → Type 0
-BothAscii json ws = (list_all is_ascii (json_words json ++ ws) ≡ true) × (list_all is_ascii (ws ++ json_words json) ≡ true)
-
-words_ascii : (json : Bool) (limit_words : List Text) (limit : ℕ) → GivesLimit limit_words limit → BothAscii json limit_words
-words_ascii true limit_words limit (inl g) = subst (BothAscii true) (sym g.0) (refl, refl)
-words_ascii false limit_words limit (inl g) = subst (BothAscii false) (sym g.0) (refl, refl)
-words_ascii true limit_words limit (inr n) =
-    let h = digits_ascii n.text n.spells.digits.1 in
-    elim n.written [
-      | inl behind ↦ subst (BothAscii true) (sym behind) (rw h refl, rw h refl)
-      | inr within ↦ subst (BothAscii true) (sym within) (rw h refl, rw h refl)
-    ]
-words_ascii false limit_words limit (inr n) =
-    let h = digits_ascii n.text n.spells.digits.1 in
-    elim n.written [
-      | inl behind ↦ subst (BothAscii false) (sym behind) (rw h refl, rw h refl)
-      | inr within ↦ subst (BothAscii false) (sym within) (rw h refl, rw h refl)
+block_ascii : (option : Given) (block : List Text) → IsBlock option block → list_all is_ascii block ≡ true
+block_ascii Json block is = subst (λ ws. list_all is_ascii ws ≡ true) (sym is) refl
+block_ascii (Versions text) block is =
+    let h = digits_ascii text is.0.digits.1 in
+    elim is.1 [
+      | inl behind ↦ subst (λ ws. list_all is_ascii ws ≡ true) (sym behind) (rw h refl)
+      | inr within ↦ subst (λ ws. list_all is_ascii ws ≡ true) (sym within) (rw h refl)
     ]
 
-options_text : (words : List Text) (limit : ℕ) (json : Bool) → AreOptions words limit json → All IsUtf8 words
-options_text words limit json are =
-    let p = words_ascii json are.limit_words limit are.gives in
-    elim are.order [
-      | inl e ↦ subst (All IsUtf8) (sym e) (all_text _ p.0)
-      | inr e ↦ subst (All IsUtf8) (sym e) (all_text _ p.1)
-    ]
+blocks_ascii : (given : List Given) (words : List Text) → AreBlocks given words → list_all is_ascii words ≡ true
+blocks_ascii [] words blocks = subst (λ ws. list_all is_ascii ws ≡ true) (sym blocks) refl
+blocks_ascii (option ∷ given) words blocks =
+    subst (λ ws. list_all is_ascii ws ≡ true) (sym blocks.2)
+    (list_all-append is_ascii blocks.0 blocks.1 ∙ rw (block_ascii option blocks.0 blocks.3, blocks_ascii given blocks.1 blocks.4) refl)
 
-pub no_text : (words : List Text) (fault : WordsFault) → (fault ≡ Refused → All IsUtf8 words → ⊥) → fault ≡ Refused → AreNoOptions words
-no_text words fault none same = record { none = λ limit json are. none same (options_text words limit json are) }
+verb_ascii : (verb : Verb) → is_ascii (word_of verb) ≡ true
+verb_ascii verb.Run = refl
+verb_ascii verb.Replay = refl
+verb_ascii verb.Serial = refl
+verb_ascii verb.Print = refl
 
-pub not_tested : (words : List Text) → are_options words ≡ false → AreNoOptions words
-not_tested words h = record { none = λ limit json are. true≢false (sym (options_pass words limit json are) ∙ h) }
+pub line_text : (words : List Text) (command : Command) → AsksFor words command → All IsUtf8 words
+line_text words command a = subst (All IsUtf8) (sym a.words_are)
+    (all_text (word_of a.verb ∷ a.options) (rw (verb_ascii a.verb, blocks_ascii a.given a.options a.are.blocks) refl))
 
-pub no_options : (texts words : List Text) (fault : WordsFault) → texts ≡ words → (fault ≡ Refused → AreNoOptions texts) → fault ≡ Refused → AreNoOptions words
-no_options texts words fault same none = subst (λ ws. fault ≡ Refused → AreNoOptions ws) same none
+-- not all are, where one isn't
+pub one_not : (words : List Text) (k : ℕ) (d : Text) → k < length words → (IsUtf8 (slice_index_or words k d) → ⊥) → All IsUtf8 words → ⊥
+one_not words k d within not_one all = not_one (all k d within)
 
 abbrev is_refused : WordsFault → Bool
 is_refused Refused = true
 is_refused Memory = false
 
-pub memory_only : (words : List Text) (fault : WordsFault) → fault ≡ Memory → fault ≡ Refused → AreNoOptions words
-memory_only words fault is same = absurd (refused_is_not_memory (sym same ∙ is))
-  where
-    refused_is_not_memory : Refused ≡ Memory → ⊥
-    refused_is_not_memory e = true≢false (ap is_refused e)
+refused_is_not_memory : Refused ≡ Memory → ⊥
+refused_is_not_memory e = true≢false (ap is_refused e)
 
-pub ruleset tested_laws = (not_tested, memory_only)
+pub memory_only : (kinds : Kinds) (words : List Text) (fault : WordsFault) → fault ≡ Memory → fault ≡ Refused → AreNoOptions kinds words
+memory_only kinds words fault is same = absurd (refused_is_not_memory (sym same ∙ is))
 
-pub ruleset options_laws = (no_text, no_options)
+-- words that are no text ask for nothing
+pub no_text : (words : List Text) (fault : WordsFault) → (fault ≡ Refused → All IsUtf8 words → ⊥) → ReadsWords words (Err fault)
+no_text words Refused none = λ command asks. none refl (line_text words command asks)
+no_text words Memory none = tt
 
--- the first word
+-- ---- the first word
 
 pub none_asked : (command : Command) → AsksFor [] command → ⊥
-none_asked (Run limit json) c = absurd (omega (arith, ap length c.words_are))
-none_asked (Serial limit json) c = absurd (omega (arith, ap length c.words_are))
-none_asked Print e = absurd (omega (arith, ap length e))
+none_asked command a = absurd (omega (arith, ap length a.words_are))
 
-abbrev first_of_words : List Text → Text
-first_of_words [] = []
-first_of_words (word ∷ words) = word
+pub no_verb : (first : Text) (rest : List Text) → ((verb : Verb) → first ≡ word_of verb → ⊥) → (command : Command)
+    → AsksFor (first ∷ rest) command → ⊥
+no_verb word rest none command a = none a.verb (ap first a.words_are)
 
-abbrev rest_of_words : List Text → List Text
-rest_of_words [] = []
-rest_of_words (word ∷ words) = words
+-- ---- a command's word
 
-pub first_same : (a b : Text) (xs ys : List Text) → a ∷ xs ≡ b ∷ ys → a ≡ b
-first_same a b xs ys e = ap first_of_words e
+-- the command of a word
+abbrev verb_of : Text → Verb
+verb_of word = if bytes_eq word (codes "run") then verb.Run
+    else (if bytes_eq word (codes "replay") then verb.Replay else (if bytes_eq word (codes "serial") then verb.Serial else verb.Print))
 
-pub rest_same : (a b : Text) (xs ys : List Text) → a ∷ xs ≡ b ∷ ys → xs ≡ ys
-rest_same a b xs ys e = ap rest_of_words e
+verb_read : (verb : Verb) → verb_of (word_of verb) ≡ verb
+verb_read verb.Run = refl
+verb_read verb.Replay = refl
+verb_read verb.Serial = refl
+verb_read verb.Print = refl
 
--- a run
+pub one_verb : (a b : Verb) → word_of a ≡ word_of b → a ≡ b
+one_verb a b e = sym (verb_read a) ∙ ap verb_of e ∙ verb_read b
 
-pub run_called : (options : List Text) (limit : ℕ) (json : Bool) → AreOptions options limit json → Called (codes "run") (codes "run" ∷ options) limit json
-run_called options limit json are = record { options = options; are = are; words_are = refl }
+pub asks : (verb : Verb) (word : Text) (options : List Text) (versions : ℕ) (json : Bool) → word ≡ word_of verb
+    → Gives (kinds_of verb) options versions json → AsksFor (word ∷ options) (asked verb versions json)
+asks verb word options versions json is gives = record {
+  verb = verb;
+  options = options;
+  given = gives.given;
+  words_are = ap (λ w. w ∷ options) is;
+  are = gives.are;
+  command_is = ap (λ n. asked verb n json) gives.versions_are ∙ ap (asked verb (versions_in gives.given)) gives.json_is;
+}
 
-pub run_fault : (options : List Text) (fault : WordsFault) → (fault ≡ Refused → AreNoOptions options) → ReadsWords (codes "run" ∷ options) (Err fault)
-run_fault options Memory none = tt
-run_fault options Refused none = asked
-  where
-    asked : (command : Command) → AsksFor (codes "run" ∷ options) command → ⊥
-    asked (Run limit json) c = (none refl).none limit json (subst (λ ws. AreOptions ws limit json) (sym (rest_same _ _ _ _ c.words_are)) c.are)
-    asked (Serial limit json) c = absurd (omega (arith, ap length (first_same _ _ _ _ c.words_are)))
-    asked Print e = absurd (omega (arith, ap length (first_same _ _ _ _ e)))
+pub asks_none : (verb : Verb) (word : Text) (options : List Text) (fault : WordsFault) → word ≡ word_of verb
+    → (fault ≡ Refused → AreNoOptions (kinds_of verb) options) → ReadsWords (word ∷ options) (Err fault)
+asks_none verb word options Memory is none = tt
+asks_none verb word options Refused is none = λ command a.
+    let same = one_verb a.verb verb (sym (ap first a.words_are) ∙ is) in
+    let are = subst (λ v. AreOptions (kinds_of v) a.given a.options) same a.are in
+    (none refl).none a.given (subst (AreOptions (kinds_of verb) a.given) (sym (ap tail a.words_are)) are)
 
-pub ruleset run_laws = (run_called, run_fault)
+-- ---- words ask for one command alone
 
--- the same by the one-thread machine
+pub one_command : (words : List Text) (a b : Command) → AsksFor words a → AsksFor words b → a ≡ b
+one_command words a b x y =
+    let words_same = sym x.words_are ∙ y.words_are in
+    let same = one_verb x.verb y.verb (ap first words_same) in
+    let given = one_given x.given y.given x.options x.are.blocks (subst (AreBlocks y.given) (sym (ap tail words_same)) y.are.blocks) in
+    x.command_is ∙ ap (λ v. asked v (versions_in x.given) (json_in x.given)) same
+    ∙ ap (λ g. asked y.verb (versions_in g) (json_in g)) given ∙ sym y.command_is
 
-pub serial_called : (options : List Text) (limit : ℕ) (json : Bool) → AreOptions options limit json → Called (codes "serial") (codes "serial" ∷ options) limit json
-serial_called options limit json are = record { options = options; are = are; words_are = refl }
+-- ---- limits
 
-pub serial_fault : (options : List Text) (fault : WordsFault) → (fault ≡ Refused → AreNoOptions options) → ReadsWords (codes "serial" ∷ options) (Err fault)
-serial_fault options Memory none = tt
-serial_fault options Refused none = asked
-  where
-    asked : (command : Command) → AsksFor (codes "serial" ∷ options) command → ⊥
-    asked (Run limit json) c = absurd (omega (arith, ap length (first_same _ _ _ _ c.words_are)))
-    asked (Serial limit json) c = (none refl).none limit json (subst (λ ws. AreOptions ws limit json) (sym (rest_same _ _ _ _ c.words_are)) c.are)
-    asked Print e = absurd (omega (arith, ap length (first_same _ _ _ _ e)))
+given_few : (given : List Given) (words : List Text) → AreBlocks given words → versions_in given ≤ VERSIONS
+given_few [] words blocks = omega arith
+given_few (Json ∷ given) words blocks = given_few given blocks.1 blocks.4
+given_few (Versions text ∷ given) words blocks = blocks.3.0.within
 
-pub ruleset serial_laws = (serial_called, serial_fault)
+verb_few : (verb : Verb) (versions : ℕ) (json : Bool) → versions ≤ VERSIONS → HasFewVersions (asked verb versions json)
+verb_few verb.Run versions json few = few
+verb_few verb.Replay versions json few = few
+verb_few verb.Serial versions json few = few
+verb_few verb.Print versions json few = tt
 
--- the canonical form
-
-pub print_alone : (options : List Text) → length options ≡ 0 → codes "print" ∷ options ≡ codes "print" ∷ []
-print_alone [] h = refl
-print_alone (o ∷ options) h = absurd (omega (arith, h))
-
-pub print_not_alone : (options : List Text) → (length options ≡ 0 → ⊥) → (command : Command) → AsksFor (codes "print" ∷ options) command → ⊥
-print_not_alone options some (Run limit json) c = absurd (omega (arith, ap length (first_same _ _ _ _ c.words_are)))
-print_not_alone options some (Serial limit json) c = absurd (omega (arith, ap length (first_same _ _ _ _ c.words_are)))
-print_not_alone options some Print e = some (ap length (rest_same _ _ _ _ e))
-
-pub ruleset print_laws = (print_alone, print_not_alone)
-
--- no other word
-
-pub other_word : (first : Text) (rest : List Text) → (first ≡ codes "run" → ⊥) → (first ≡ codes "serial" → ⊥) → (first ≡ codes "print" → ⊥) → (command : Command) → AsksFor (first ∷ rest) command → ⊥
-other_word first rest a b c (Run limit json) h = a (first_same _ _ _ _ h.words_are)
-other_word first rest a b c (Serial limit json) h = b (first_same _ _ _ _ h.words_are)
-other_word first rest a b c Print e = c (first_same _ _ _ _ e)
-
-pub as_first : (word first : Text) (rest : List Text) (r : Result Command WordsFault) → first ≡ word → ReadsWords (word ∷ rest) r → ReadsWords (first ∷ rest) r
-as_first word first rest r e h = subst (λ w. ReadsWords (w ∷ rest) r) (sym e) h
-
-pub ruleset command_laws = (other_word, as_first)
+pub few_versions : (words : List Text) (command : Command) → AsksFor words command → HasFewVersions command
+few_versions words command a =
+    subst HasFewVersions (sym a.command_is) (verb_few a.verb (versions_in a.given) (json_in a.given) (given_few a.given a.options a.are.blocks))

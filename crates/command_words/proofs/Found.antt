@@ -1,63 +1,176 @@
--- What is read of what the parser of options found.
-use Rattle.std.proofs.Common.{◌≡◌, ℕ, Bool, true, false, List, Option, Some, None, refl, sym, ap, subst, ◌∙◌, codes}
-use Rattle.std.specs.Prelude.{◌<◌, length, slice_index_or, option_map, All, IfSome, IfNone}
-use Rattle.script_tree.specs.declared.limits.TheConstants.{VERSIONS}
-use Rattle.std.specs.Str.{IsUtf8}
+-- From the first block to whether words are options.
+use Rattle.std.proofs.Common.{◌≡◌, ℕ, ◌-◌, ◌≤◌, ◌<◌, true, false, List, [], ◌∷◌, ◌++◌, map, length, take, drop, refl, sym, ap, subst, ◌∙◌}
+use Rattle.std.proofs.Common.{length-drop, inl, inr, codes, arith, true≢false}
+use Rattle.std.specs.Prelude.{slice_index_or}
+use Rattle.std.specs.Str.{bytes_eq}
 use Rattle.std.specs.Borrow.{Bor}
-use Rattle.clap.specs.Words.{Text, HasMatchesOf, first_of, one_of, is_simple, takes, found_of}
-use Rattle.clap.specs.Matches.{first_value, one_text}
-use Rattle.clap.proofs.WalkLemmas.{first_value-rows, one_text-rows}
-use Rattle.clap.proofs.OnLiterals.{clap_on_literals}
-use Rattle.clap.specs.declared.parser.ArgMatches.{ArgMatches}
-use Rattle.command_words.specs.Words.{AreOptions, SpellsLimit}
-use Rattle.command_words.specs.Tests.{are_options, is_limit}
-use Rattle.command_words.specs.Parser.{app}
-use Rattle.command_words.proofs.Shapes.{LimitOf, flag_text}
-use Rattle.command_words.proofs.Tested.{accepted}
+use Rattle.std.proofs.lemmas.List.{take-append-drop, drop-map, take_all, length-map}
+use Rattle.std.proofs.lemmas.Slice.Eq.{bytes_eq-Decides}
+use Rattle.command_words.specs.declared.kinds.Kind.{Kind}
+use Rattle.command_words.specs.declared.kinds.Kind.TheVariants as kind
+use Rattle.command_words.specs.declared.kinds.Kinds.{Kinds}
+use Rattle.command_words.specs.Words.{Given, Json, Versions, kind_of, has, IsBlock, AreBlocks, AreOptions, AreNoOptions}
+use Rattle.command_words.specs.Kinds.{without}
+use Rattle.command_words.specs.Blocks.{Begins, BeginsWithNone, AreSome}
+use Rattle.command_words.specs.Tests.{is_limit, is_limit_within}
+use Rattle.command_words.proofs.Limits.{both, limit_spelled, limit_tested}
+use Rattle.command_words.proofs.Among.{AreAmong, among_kept, among_may, among_once}
+use Rattle.command_words.proofs.Blocks.{Text, one_option, one_rest, not_empty}
 
-app_simple : is_simple app ≡ true
-unfolding clap_on_literals
-app_simple = refl
+-- ---- the first block
 
-pub options_taken : (words : List Text) → are_options words ≡ true → takes app words ≡ true
-options_taken words h = (accepted words h).reads.taken
+same : (xs ys : Text) → bytes_eq xs ys ≡ true → xs ≡ ys
+same xs ys h = (bytes_eq-Decides xs ys).0 h
 
--- the limit's text and the flag, as the matches give them
-pub record Finds (words : List Text) (m : ArgMatches) : Type 0 where
-  pub text : Option Text
-  pub json : Bool
-  pub limit_is : first_value (found_of m) (codes "versions") ≡ text
-  pub flag_is : one_text (found_of m) (codes "json") ≡ Some (flag_text json)
-  pub tested : (t : Text) → text ≡ Some t → is_limit t ≡ true
-  pub means : (limit : ℕ) → LimitOf text limit → AreOptions words limit json
+pub json_begins : (first : Text) (rest : List Text) → first ≡ codes "--json" → Begins (first ∷ rest) kind.Json 1
+json_begins first rest e = record { option = Json; of_kind = refl; block = ap (λ w. w ∷ []) e; some = omega arith; within = omega arith }
 
-pub finds : (words : List Text) (m : ArgMatches) → are_options words ≡ true → HasMatchesOf app words m → Finds words m
-finds words m h has =
-    let a = accepted words h in
-    let rows = (has app_simple).0 in
+within_limit : (first : Text) → is_limit_within first ≡ true → IsBlock (Versions (drop 11 first)) (first ∷ [])
+within_limit first h =
+    let parts = both (bytes_eq (take 11 first) (codes "--versions=")) (is_limit (drop 11 first)) h in
+    let joined = sym (take-append-drop 11 first)
+    ∙ ap (λ front. front ++ drop 11 first) (same (take 11 first) (codes "--versions=") parts.0) in
+    (limit_spelled (drop 11 first) parts.1, inr (ap (λ w. w ∷ []) joined))
+
+pub within_begins : (first : Text) (rest : List Text) → is_limit_within first ≡ true → Begins (first ∷ rest) kind.Versions 1
+within_begins first rest h = record {
+  option = Versions
+      (drop 11 first);
+  of_kind = refl;
+  block = within_limit first h;
+  some = omega arith;
+  within = omega arith;
+}
+
+pub behind_begins : (first text : Text) (rest : List Text) → first ≡ codes "--versions" → is_limit text ≡ true
+    → Begins (first ∷ text ∷ rest) kind.Versions 2
+behind_begins first text rest e h = record {
+  option = Versions text;
+  of_kind = refl;
+  block = (limit_spelled text h, inl (ap (λ w. w ∷ text ∷ []) e));
+  some = omega arith;
+  within = omega arith;
+}
+
+abbrev first_word : List Text → Text
+first_word [] = []
+first_word (w ∷ ws) = w
+
+abbrev second_word : List Text → Text
+second_word [] = []
+second_word (w ∷ ws) = first_word ws
+
+pub none_begins : (first : Text) (rest : List Text) → (first ≡ codes "--json" → ⊥) → is_limit_within first ≡ false
+    → (first ≡ codes "--versions" → ⊥) → BeginsWithNone (first ∷ rest)
+none_begins first rest not_json not_within not_behind = record { none = from }
+  where
+    from : (option : Given) (block more : List Text) → first ∷ rest ≡ block ++ more → IsBlock option block → ⊥
+    from Json block more e is = not_json (ap first_word (e ∙ ap (λ b. b ++ more) is))
+    from (Versions text) block more e is = elim is.1 [
+      | inl behind ↦ not_behind (ap first_word (e ∙ ap (λ b. b ++ more) behind))
+      | inr within ↦ let joined = ap first_word (e ∙ ap (λ b. b ++ more) within) in
+          true≢false (sym (limit_tested text is.0) ∙ sym (ap is_limit_within joined) ∙ not_within)
+    ]
+
+-- behind `--versions` stands no limit
+no_limit : (first : Text) (rest : List Text) → first ≡ codes "--versions" → (is_limit (first_word rest) ≡ true → ⊥)
+    → BeginsWithNone (first ∷ rest)
+no_limit first rest is not_limit = record { none = from }
+  where
+    from : (option : Given) (block more : List Text) → first ∷ rest ≡ block ++ more → IsBlock option block → ⊥
+    from Json block more e b = absurd (omega (arith, ap length (sym is ∙ ap first_word (e ∙ ap (λ b. b ++ more) b))))
+    from (Versions text) block more e b = elim b.1 [
+      | inl behind ↦ not_limit (ap is_limit (ap second_word (e ∙ ap (λ b. b ++ more) behind)) ∙ limit_tested text b.0)
+      | inr within ↦ absurd (omega (arith, ap length (sym is ∙ ap first_word (e ∙ ap (λ b. b ++ more) within))))
+    ]
+
+pub nothing_behind : (first : Text) → first ≡ codes "--versions" → BeginsWithNone (first ∷ [])
+nothing_behind first is = no_limit first [] is (λ h. true≢false (sym h))
+
+pub no_limit_behind : (first text : Text) (rest : List Text) → first ≡ codes "--versions" → is_limit text ≡ false
+    → BeginsWithNone (first ∷ text ∷ rest)
+no_limit_behind first text rest is h = no_limit first (text ∷ rest) is (λ e. true≢false (sym e ∙ h))
+
+pub ruleset block_laws = (json_begins, within_begins, none_begins)
+
+pub ruleset behind_laws = (behind_begins, nothing_behind, no_limit_behind)
+
+-- ---- all blocks
+
+pub none_are : (kinds : Kinds) (words : List Text) → length words ≡ 0 → AreSome kinds words
+none_are kinds (w ∷ ws) none = absurd (omega (arith, none))
+none_are kinds [] none = record { given = []; are = record { blocks = refl; may = tt; once = tt } }
+
+pub no_block : (kinds : Kinds) (words : List Text) → (words ≡ [] → ⊥) → BeginsWithNone words → AreNoOptions kinds words
+no_block kinds words some none = record { none = from }
+  where
+    from : (given : List Given) → AreOptions kinds given words → ⊥
+    from [] are = some are.blocks
+    from (option ∷ given) are = none.none option are.blocks.0 are.blocks.1 are.blocks.2 are.blocks.3
+
+split : (words : List Text) (count : ℕ) → words ≡ take count words ++ drop count words
+split words count = sym (take-append-drop count words)
+
+-- where words begin with a block of a kind, other options of theirs do too
+pub not_had : (kinds : Kinds) (words : List Text) (kind : Kind) (count : ℕ) → Begins words kind count → has kinds kind ≡ false
+    → AreNoOptions kinds words
+not_had kinds words kind count b not = record { none = from }
+  where
+    from : (given : List Given) → AreOptions kinds given words → ⊥
+    from [] are = not_empty b.option (take count words) (drop count words) words are.blocks (split words count) b.block
+    from (option ∷ given) are =
+        let one = one_option option b.option are.blocks.0 (take count words) are.blocks.1
+        (drop count words) words are.blocks.2 are.blocks.3 (split words count) b.block in
+        true≢false (sym are.may.0 ∙ ap (has kinds) (ap kind_of one ∙ b.of_kind) ∙ not)
+
+pub one_more : (kinds : Kinds) (words : List Text) (kind : Kind) (count : ℕ) → Begins words kind count → has kinds kind ≡ true
+    → AreSome (without kinds kind) (drop count words) → AreSome kinds words
+one_more kinds words kind count b had some =
+    let may : has kinds (kind_of b.option) ≡ true = ap (has kinds) b.of_kind ∙ had in
+    let among = among_kept (without kinds kind) some.given some.are.may some.are.once in
+    let all : AreAmong kinds (b.option ∷ some.given) = (may, subst (λ k. AreAmong (without kinds k) some.given) (sym b.of_kind) among) in
     record {
-      text = a.text;
-      json = a.json;
-      limit_is = first_value-rows (found_of m) (codes "versions") ∙ ap (first_of (codes "versions")) rows ∙ a.reads.limit;
-      flag_is = one_text-rows (found_of m) (codes "json") ∙ ap (one_of (codes "json")) rows ∙ a.reads.flag;
-      tested = a.limit;
-      means = a.means;
+      given = b.option ∷ some.given;
+      are = record {
+        blocks = (take count words, drop count words, split words count, b.block, some.are.blocks);
+        may = among_may kinds (b.option ∷ some.given) all;
+        once = among_once kinds (b.option ∷ some.given) all;
+      };
     }
 
--- not all are, where one isn't
-pub one_not : (words : List Text) (k : ℕ) (d : Text) → k < length words → (IsUtf8 (slice_index_or words k d) → ⊥) → All IsUtf8 words → ⊥
-one_not words k d within not_one all = not_one (all k d within)
+pub none_more : (kinds : Kinds) (words : List Text) (kind : Kind) (count : ℕ) → Begins words kind count
+    → AreNoOptions (without kinds kind) (drop count words) → AreNoOptions kinds words
+none_more kinds words kind count b none = record { none = from }
+  where
+    from : (given : List Given) → AreOptions kinds given words → ⊥
+    from [] are = not_empty b.option (take count words) (drop count words) words are.blocks (split words count) b.block
+    from (option ∷ given) are =
+        let one = one_option option b.option are.blocks.0 (take count words) are.blocks.1
+        (drop count words) words are.blocks.2 are.blocks.3 (split words count) b.block in
+        let rest = one_rest option b.option are.blocks.0 (take count words) are.blocks.1 (drop count words) words are.blocks.2 are.blocks.3
+        (split words count) b.block in
+        let among = (among_kept kinds (option ∷ given) are.may are.once).1 in
+        let fewer = subst (λ k. AreAmong (without kinds k) given) (ap kind_of one ∙ b.of_kind) among in
+        none.none given (record {
+          blocks = subst (AreBlocks given) rest are.blocks.4;
+          may = among_may (without kinds kind) given fewer;
+          once = among_once (without kinds kind) given fewer;
+        })
 
--- the text that the getter gives is a tested limit, where it gives one
-pub tested_text : (o : Option (Bor Text)) (text : Option Text) → option_map (λ s. s.now) o ≡ text → ((t : Text) → text ≡ Some t → is_limit t ≡ true) → IfSome o (λ t. is_limit t.now ≡ true)
-tested_text None text e tested = tt
-tested_text (Some t) text e tested = tested t.now (sym e)
+-- texts behind references
 
--- and its number is the limit
-pub limit_of_text : (o : Option (Bor Text)) (text : Option Text) (limit : ℕ) → option_map (λ s. s.now) o ≡ text → IfSome o (λ t. SpellsLimit t.now limit) → IfNone o (limit ≡ VERSIONS) → LimitOf text limit
-limit_of_text None text limit e some none = subst (λ t. LimitOf t limit) e none
-limit_of_text (Some t) text limit e some none = subst (λ t. LimitOf t limit) e some
+abbrev pub texts : List (Bor Text) → List Text
+texts words = map (λ s. s.now) words
 
-pub flag_read : (json flag : Bool) (found : Option Text) → found ≡ Some (flag_text json) → (found ≡ Some (codes "true") → flag ≡ true) → (found ≡ Some (codes "false") → flag ≡ false) → json ≡ flag
-flag_read true flag found e when_true when_false = sym (when_true e)
-flag_read false flag found e when_true when_false = sym (when_false e)
+pub some_texts : (words : List (Bor Text)) → 0 < length words → texts words ≡ [] → ⊥
+some_texts words some none = absurd (omega (arith, some, length-map words (λ (s : Bor Text). s.now), ap length none))
+
+pub texts_behind : (words : List (Bor Text)) (count : ℕ) → texts (take (length words - count) (drop count words)) ≡ drop count (texts words)
+texts_behind words count =
+    ap texts (take_all (length words - count) (drop count words) (omega (arith, length-drop count words)))
+    ∙ sym (drop-map (λ (s : Bor Text). s.now) count words)
+
+pub texts_split : (words : List (Bor Text)) (d : Bor Text) → 1 ≤ length words
+    → (slice_index_or words 0 d).now ∷ texts (take (length words - 1) (drop 1 words)) ≡ texts words
+texts_split [] d some = absurd (omega (arith, some))
+texts_split (w ∷ words) d some = ap (λ ws. w.now ∷ ws) (texts_behind (w ∷ words) 1)

@@ -1,7 +1,8 @@
 pub mod Limits
+pub mod Among
+pub mod Blocks
 mod DigitCases
-pub mod Shapes
-pub mod Tested
+pub mod Walks
 pub mod Found
 pub mod Asked
-pub mod OneCommand
+pub mod Parsed

@@ -1,12 +1,13 @@
--- Digits, and lists that are too long.
-use Rattle.std.proofs.Common.{◌≡◌, ℕ, ◌≤◌, ◌<◌, Bool, true, false, List, [], ◌∷◌, map, length, refl, sym, ap, subst, ◌∙◌, arith, true≢false}
-use Rattle.std.specs.Prelude.{nat_le, ◌^◌, ◌==◌, ◌&&◌}
+-- Digits and limits of versions.
+use Rattle.std.proofs.Common.{◌≡◌, ℕ, ◌≤◌, ◌<◌, Bool, true, false, List, [], ◌∷◌, length, refl, sym, ap, subst, ◌∙◌, arith, true≢false}
+use Rattle.std.specs.Prelude.{nat_lt, nat_le, ◌^◌, ◌==◌, ◌&&◌}
 use Rattle.std.specs.List.{list_all}
-use Rattle.std.specs.Borrow.{Bor}
 use Rattle.std.specs.Char.{is_ascii_digit, digit_value}
 use Rattle.std.specs.Str.Parse.{AllDigits, IsNumeral, digits_value, without_leading_plus}
 use Rattle.std.proofs.lemmas.Bool.Decides.{nat_tests}
-use Rattle.command_words.specs.Tests.{are_options}
+use Rattle.script_tree.specs.declared.limits.TheConstants.{VERSIONS}
+use Rattle.command_words.specs.Words.{IsLimit}
+use Rattle.command_words.specs.Tests.{is_limit}
 
 digit_below : (c : ℕ) → is_ascii_digit c ≡ true → digit_value c < 10
 digit_below c h = grind (arith, nat_tests, h)
@@ -33,23 +34,69 @@ pub no_plus : (ds : List ℕ) → list_all is_ascii_digit ds ≡ true → withou
 no_plus [] h = refl
 no_plus (d ∷ ds) h = rw (not_plus d (both (is_ascii_digit d) (list_all is_ascii_digit ds) h).0) refl
 
-pub too_many : (words : List (Bor (List ℕ))) → 4 ≤ length words → are_options (map (λ s. s.now) words) ≡ false
-too_many [] h = absurd (omega (arith, h))
-too_many (a ∷ []) h = absurd (omega (arith, h))
-too_many (a ∷ b ∷ []) h = absurd (omega (arith, h))
-too_many (a ∷ b ∷ c ∷ []) h = absurd (omega (arith, h))
-too_many (a ∷ b ∷ c ∷ d ∷ words) h = refl
-
-pub within_parsed : (ds : List ℕ) (n : ℕ) → list_all is_ascii_digit ds ≡ true → digits_value 10 (without_leading_plus ds) ≡ n → nat_le n 4000000 ≡ nat_le (digits_value 10 ds) 4000000
+pub within_parsed : (ds : List ℕ) (n : ℕ) → list_all is_ascii_digit ds ≡ true → digits_value 10 (without_leading_plus ds) ≡ n
+    → nat_le n 4000000 ≡ nat_le (digits_value 10 ds) 4000000
 within_parsed ds n h e = ap (λ k. nat_le k 4000000) (sym e ∙ ap (digits_value 10) (no_plus ds h))
 
-pub beyond_parsed : (ds : List ℕ) → list_all is_ascii_digit ds ≡ true → 0 < length ds → ((IsNumeral 10 (without_leading_plus ds) × (digits_value 10 (without_leading_plus ds) < 2 ^ 32)) → ⊥) → false ≡ nat_le (digits_value 10 ds) 4000000
+pub beyond_parsed : (ds : List ℕ) → list_all is_ascii_digit ds ≡ true → 0 < length ds
+    → ((IsNumeral 10 (without_leading_plus ds) × (digits_value 10 (without_leading_plus ds) < 2 ^ 32)) → ⊥)
+    → false ≡ nat_le (digits_value 10 ds) 4000000
 beyond_parsed ds h some p = sym (grind (arith, nat_tests, above))
   where
     small_fits : digits_value 10 ds ≤ 4000000 → ⊥
-    small_fits small = p (subst (IsNumeral 10) (sym (no_plus ds h)) (some, all_digits ds h), subst (λ xs. digits_value 10 xs < 2 ^ 32) (sym (no_plus ds h)) (omega (arith, small)))
+    small_fits small = p (
+      subst (IsNumeral 10) (sym (no_plus ds h)) (some, all_digits ds h),
+      subst (λ xs. digits_value 10 xs < 2 ^ 32)
+          (sym (no_plus ds h)) (omega (arith, small)),
+    )
 
     above : 4000000 < digits_value 10 ds
     above = omega (arith, small_fits)
 
 pub ruleset limit_laws = (within_parsed, beyond_parsed)
+
+-- the test of a limit holds exactly of limits
+
+pub limit_spelled : (text : List ℕ) → is_limit text ≡ true → IsLimit text
+limit_spelled text h =
+    let p = both (nat_lt 0 (length text) && nat_le (length text) 7)
+    (list_all is_ascii_digit text && nat_le (digits_value 10 text) VERSIONS) h in
+    let lengths = both (nat_lt 0 (length text)) (nat_le (length text) 7) p.0 in
+    let rest = both (list_all is_ascii_digit text) (nat_le (digits_value 10 text) VERSIONS) p.1 in
+    record {
+      digits = (grind (arith, nat_tests, lengths.0), all_digits text rest.0);
+      few = grind (arith, nat_tests, lengths.1);
+      within = grind (arith, nat_tests, rest.1);
+    }
+
+pub limit_tested : (text : List ℕ) → IsLimit text → is_limit text ≡ true
+limit_tested text s =
+    let some : nat_lt 0 (length text) ≡ true = grind (arith, nat_tests, s.digits.0) in
+    let few : nat_le (length text) 7 ≡ true = grind (arith, nat_tests, s.few) in
+    let digits : list_all is_ascii_digit text ≡ true = digits_all text s.digits.1 in
+    let within : nat_le (digits_value 10 text) VERSIONS ≡ true = grind (arith, nat_tests, s.within) in
+    rw (some, few, digits, within) refl
+
+-- a limit begins with a digit
+pub first_digit : (d : ℕ) (ds : List ℕ) → IsLimit (d ∷ ds) → (48 ≤ d) × (d ≤ 57)
+first_digit d ds limit = let digit = digit_from d limit.digits.1.0 in (grind (arith, nat_tests, digit), grind (arith, nat_tests, digit))
+
+pub no_digit : IsLimit [] → ⊥
+no_digit limit = absurd (omega (arith, limit.digits.0))
+
+-- the number of a limit
+
+pub limit_parsed : (text : List ℕ) (n : ℕ) → IsLimit text → digits_value 10 (without_leading_plus text) ≡ n → n ≡ digits_value 10 text
+limit_parsed text n limit e = sym e ∙ ap (digits_value 10) (no_plus text (digits_all text limit.digits.1))
+
+pub limit_parses : (text : List ℕ) → IsLimit text
+    → ((IsNumeral 10 (without_leading_plus text) × (digits_value 10 (without_leading_plus text) < 2 ^ 32)) → ⊥) → ⊥
+limit_parses text limit none =
+    let plain = no_plus text (digits_all text limit.digits.1) in
+    none (
+      subst (IsNumeral 10) (sym plain) limit.digits,
+      subst (λ xs. digits_value 10 xs < 2 ^ 32) (sym plain)
+          (omega (arith, limit.within)),
+    )
+
+pub ruleset number_laws = (limit_parsed, limit_parses)

@@ -1,3 +1,5 @@
 pub mod Words
+pub mod Kinds
+pub mod Blocks
 pub mod Tests
 pub mod Parser

@@ -1,55 +1,113 @@
--- The command lines, and what each asks for.
-use Rattle.std.specs.Prelude.{◌≡◌, ℕ, ◌≤◌, Bool, true, false, ⊤, ◌⊎◌, List, [], ◌∷◌, ◌++◌, codes, length, Result, Ok, Err}
+-- The command lines, and what each asks for: the word of a command, and behind it options in any order, none twice.
+use Rattle.std.specs.Prelude.{◌≡◌, ◌≢◌, ℕ, ◌≤◌, Bool, true, false, IsTrue, ⊤, ◌⊎◌, List, [], ◌∷◌, ◌++◌, codes, length, map, Result, Ok, Err}
+use Rattle.std.specs.List.{AllByRecursion}
 use Rattle.std.specs.Str.Parse.{IsNumeral, digits_value}
 use Rattle.script_tree.specs.declared.limits.TheConstants.{VERSIONS}
 use Rattle.command_words.specs.declared.command.Command.{Command}
-use Rattle.command_words.specs.declared.command.Command.TheVariants.{Run, Serial, Print}
+use Rattle.command_words.specs.declared.command.Command.TheVariants as command
 use Rattle.command_words.specs.declared.command.WordsFault.{WordsFault}
 use Rattle.command_words.specs.declared.command.WordsFault.TheVariants.{Refused, Memory}
+use Rattle.command_words.specs.declared.kinds.Kind.{Kind}
+use Rattle.command_words.specs.declared.kinds.Kind.TheVariants as kind
+use Rattle.command_words.specs.declared.kinds.Kinds.{Kinds}
+use Rattle.command_words.specs.declared.verb.Verb.{Verb}
+use Rattle.command_words.specs.declared.verb.Verb.TheVariants as verb
+
+-- ---- options
+
+-- an option as it is given, with its value as it is written
+pub data Given : Type 0 where
+  Json : Given
+  Versions : List ℕ → Given
+
+abbrev pub kind_of : Given → Kind
+kind_of Json = kind.Json
+kind_of (Versions text) = kind.Versions
 
 -- 1 to 7 decimal digits that write a number, which is at most the greatest limit of versions
-pub record SpellsLimit (text : List ℕ) (limit : ℕ) : Type 0 where
+pub record IsLimit (text : List ℕ) : Type 0 where
   pub digits : IsNumeral 10 text
   pub few : length text ≤ 7
-  pub value : limit ≡ digits_value 10 text
-  pub within : limit ≤ VERSIONS
+  pub within : digits_value 10 text ≤ VERSIONS
 
--- `--versions` and a limit behind it, as two words or as one with `=` between
-pub record NamesLimit (words : List (List ℕ)) (limit : ℕ) : Type 0 where
-  pub text : List ℕ
-  pub spells : SpellsLimit text limit
-  pub written : (words ≡ codes "--versions" ∷ text ∷ []) ⊎ (words ≡ (codes "--versions=" ++ text) ∷ [])
+-- the block of an option: its words, with a value behind them or, by `=`, in the same word
+abbrev pub IsBlock : Given → List (List ℕ) → Type 0
+IsBlock Json words = words ≡ codes "--json" ∷ []
+IsBlock (Versions text) words = IsLimit text × ((words ≡ codes "--versions" ∷ text ∷ []) ⊎ (words ≡ (codes "--versions=" ++ text) ∷ []))
 
--- without these words the limit is the greatest one
-abbrev pub GivesLimit : List (List ℕ) → ℕ → Type 0
-GivesLimit words limit = ((words ≡ []) × (limit ≡ VERSIONS)) ⊎ NamesLimit words limit
+-- words are the blocks of options, one behind the other
+abbrev pub AreBlocks : List Given → List (List ℕ) → Type 0
+AreBlocks [] words = words ≡ []
+AreBlocks (option ∷ given) words = (block : List (List ℕ)) × (rest : List (List ℕ)) × (words ≡ block ++ rest) × IsBlock option block
+    × AreBlocks given rest
 
--- the word that asks for JSON, or no word
-abbrev pub json_words : Bool → List (List ℕ)
-json_words true = codes "--json" ∷ []
-json_words false = []
+-- no kind is there twice
+abbrev pub NoneTwice : List Kind → Type 0
+NoneTwice [] = ⊤
+NoneTwice (kind ∷ kinds) = AllByRecursion (λ other. kind ≢ other) kinds × NoneTwice kinds
 
--- the options, each at most once and in any order
-pub record AreOptions (words : List (List ℕ)) (limit : ℕ) (json : Bool) : Type 0 where
-  pub limit_words : List (List ℕ)
-  pub gives : GivesLimit limit_words limit
-  pub order : (words ≡ json_words json ++ limit_words) ⊎ (words ≡ limit_words ++ json_words json)
+-- a kind is one of these
+abbrev pub has : Kinds → Kind → Bool
+has kinds kind.Json = kinds.json
+has kinds kind.Versions = kinds.versions
 
--- words that are no options, in whatever order
-pub record AreNoOptions (words : List (List ℕ)) : Type 0 where
-  pub none : (limit : ℕ) (json : Bool) → AreOptions words limit json → ⊥
+-- words are these options: each of a kind that may be given, and no kind twice
+pub record AreOptions (kinds : Kinds) (given : List Given) (words : List (List ℕ)) : Type 0 where
+  pub blocks : AreBlocks given words
+  pub may : AllByRecursion (λ kind. IsTrue (has kinds kind)) (map kind_of given)
+  pub once : NoneTwice (map kind_of given)
 
--- a command, its word, and options behind it
-pub record Called (name : List ℕ) (words : List (List ℕ)) (limit : ℕ) (json : Bool) : Type 0 where
+-- words that are no options
+pub record AreNoOptions (kinds : Kinds) (words : List (List ℕ)) : Type 0 where
+  pub none : (given : List Given) → AreOptions kinds given words → ⊥
+
+-- the limit of versions that is given, else the greatest one
+abbrev pub versions_in : List Given → ℕ
+versions_in [] = VERSIONS
+versions_in (Json ∷ given) = versions_in given
+versions_in (Versions text ∷ given) = digits_value 10 text
+
+-- JSON is asked for
+abbrev pub json_in : List Given → Bool
+json_in [] = false
+json_in (Json ∷ given) = true
+json_in (Versions text ∷ given) = json_in given
+
+-- ---- commands: for each its word, the kinds of options that it has, and what it is with the options that are given
+
+abbrev pub word_of : Verb → List ℕ
+word_of verb.Run = codes "run"
+word_of verb.Replay = codes "replay"
+word_of verb.Serial = codes "serial"
+word_of verb.Print = codes "print"
+
+abbrev pub kinds_of : Verb → Kinds
+kinds_of verb.Run = record { json = true; versions = true }
+kinds_of verb.Replay = record { json = true; versions = true }
+kinds_of verb.Serial = record { json = true; versions = true }
+kinds_of verb.Print = record { json = false; versions = false }
+
+abbrev pub asked : Verb → ℕ → Bool → Command
+asked verb.Run versions json = command.Run versions json
+asked verb.Replay versions json = command.Replay versions json
+asked verb.Serial versions json = command.Serial versions json
+asked verb.Print versions json = command.Print
+
+-- Words are the line of a command. (An operand of a command would stand between its word and its options.)
+pub record AsksFor (words : List (List ℕ)) (command : Command) : Type 0 where
+  pub verb : Verb
   pub options : List (List ℕ)
-  pub are : AreOptions options limit json
-  pub words_are : words ≡ name ∷ options
+  pub given : List Given
+  pub words_are : words ≡ word_of verb ∷ options
+  pub are : AreOptions (kinds_of verb) given options
+  pub command_is : command ≡ asked verb (versions_in given) (json_in given)
 
--- words are the line of a command
-abbrev pub AsksFor : List (List ℕ) → Command → Type 0
-AsksFor words (Run limit json) = Called (codes "run") words limit json
-AsksFor words (Serial limit json) = Called (codes "serial") words limit json
-AsksFor words Print = words ≡ codes "print" ∷ []
+-- the limit of versions of a command, where it has one, is at most the greatest one
+abbrev pub HasFewVersions : Command → Type 0
+HasFewVersions (command.Run versions json) = versions ≤ VERSIONS
+HasFewVersions (command.Replay versions json) = versions ≤ VERSIONS
+HasFewVersions (command.Serial versions json) = versions ≤ VERSIONS
+HasFewVersions command.Print = ⊤
 
 -- how words are read: as the command that they ask for, refused exactly where they ask for none, or not for want of memory
 abbrev pub ReadsWords : List (List ℕ) → Result Command WordsFault → Type 0

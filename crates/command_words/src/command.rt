@@ -8,6 +8,8 @@ use thiserror::Error;
 pub enum Command {
     /// Run it, with at most so many versions, and write the report, as text or as JSON.
     Run { versions: u32, json: bool },
+    /// The same in the turns that the schedule behind the deck names, and then in rounds.
+    Replay { versions: u32, json: bool },
     /// The same by the one-thread machine, thread after thread.
     Serial { versions: u32, json: bool },
     /// Write it in its canonical form.

@@ -2,8 +2,10 @@
 #![tactic(auto)]
 
 mod command;
+mod kinds;
 pub mod laws;
 mod options;
+mod verb;
 mod words;
 
 pub use crate::command::{Command, WordsFault};

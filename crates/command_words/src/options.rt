@@ -1,13 +1,16 @@
-// The options of a run, tested and then read by the parser of options.
+// The test of options, before the parser of options sees them. The parser would also take `--`, a sign before digits, a
+// limit of any length, and an option that a command has not.
 
-ghost use Rattle.std.specs.Prelude.{◌≡◌, ◌<◌, ◌∷◌, [], true, length, map, nat_le};
+ghost use Rattle.std.specs.Prelude.{◌≡◌, ◌<◌, ◌↔◌, ◌∷◌, true, false, length, map, codes, nat_le, IsTrue, IfSome, IfNone};
 ghost use Rattle.std.specs.List.{list_all};
 ghost use Rattle.std.specs.Char.{is_ascii_digit};
 ghost use Rattle.std.specs.Str.Parse.{digits_value};
 ghost use Rattle.script_tree.specs.declared.limits.TheConstants.{VERSIONS};
-ghost use Rattle.command_words.specs.Words.{SpellsLimit};
-ghost use Rattle.command_words.specs.Tests.{is_json, is_limit, is_limit_behind, is_limit_within, are_options};
+ghost use Rattle.command_words.specs.Words.{IsLimit, AreNoOptions};
+ghost use Rattle.command_words.specs.Blocks.{Begins, BeginsWithNone, AreSome};
+ghost use Rattle.command_words.specs.Tests.{is_limit, is_limit_within};
 
+use crate::kinds::{Kind, Kinds};
 use script_tree::limits::VERSIONS;
 
 /// How many digits a limit of versions has at most.
@@ -45,28 +48,16 @@ fn is_limit(text: &str) -> bool
     is_within(text)
 }
 
-/// The number of a limit of versions that has been tested.
-#[tactic(auto, using(crate::proofs::Tested::limit_laws))]
+/// The number of a limit of versions.
+#[tactic(auto, using(crate::proofs::Limits::number_laws))]
 pub fn limit_of(text: &str) -> u32
-    requires { is_limit text.now ≡ true }
-    ensures { SpellsLimit text.now result }
+    requires { IsLimit text.now }
+    ensures { result ≡ digits_value 10 text.now }
 {
     match text.parse::<u32>() {
         Ok(limit) => limit,
         Err(_) => unreachable!(),
     }
-}
-
-fn is_json(word: &str) -> bool
-    ensures { result ≡ is_json word.now }
-{
-    word == "--json"
-}
-
-fn is_limit_behind(word: &str, text: &str) -> bool
-    ensures { result ≡ is_limit_behind word.now text.now }
-{
-    word == "--versions" && is_limit(text)
 }
 
 fn is_limit_within(word: &str) -> bool
@@ -78,38 +69,97 @@ fn is_limit_within(word: &str) -> bool
     }
 }
 
-fn are_two(a: &str, b: &str) -> bool
-    ensures { result ≡ are_options (a.now ∷ b.now ∷ []) }
+fn is_word(word: &str, expected: &str) -> bool
+    ensures { IsTrue result ↔ (word.now ≡ expected.now) }
 {
-    if is_limit_behind(a, b) {
-        return true;
-    }
-    if is_json(a) && is_limit_within(b) {
-        return true;
-    }
-    is_limit_within(a) && is_json(b)
+    word == expected
 }
 
-fn are_three(a: &str, b: &str, c: &str) -> bool
-    ensures { result ≡ are_options (a.now ∷ b.now ∷ c.now ∷ []) }
-{
-    if is_json(a) && is_limit_behind(b, c) {
-        return true;
-    }
-    is_limit_behind(a, b) && is_json(c)
+/// The block of an option: of which kind it is, and how many words it has.
+#[derive(Clone, Copy)]
+struct Block {
+    kind: Kind,
+    words: usize,
 }
 
-/// Whether words are options, each at most once. The parser of options would also take `--`, a sign before digits, and
-/// a limit of any length.
-#[tactic(auto, using(crate::proofs::Limits::too_many))]
-pub fn are_options(options: &[&str]) -> bool
-    ensures { result ≡ are_options (map (λ s. s.now) options.now) }
+// The block of `--versions` with the word behind it, if that is a limit.
+#[tactic(auto, using(crate::proofs::Found::behind_laws))]
+fn limit_block(first: &str, text: &str, others: &[&str]) -> Option<Block>
+    requires { first.now ≡ codes "--versions" }
+    ensures some { IfSome result (λ block. Begins (first.now ∷ text.now ∷ map (λ s. s.now) others.now) block.kind block.words) }
+    ensures none { IfNone result (BeginsWithNone (first.now ∷ text.now ∷ map (λ s. s.now) others.now)) }
 {
-    match options {
-        [] => true,
-        [a] => is_json(a) || is_limit_within(a),
-        [a, b] => are_two(a, b),
-        [a, b, c] => are_three(a, b, c),
-        _ => false,
+    if is_limit(text) {
+        Some(Block {
+            kind: Kind::Versions,
+            words: 2,
+        })
+    } else {
+        None
     }
+}
+
+// The block of `--versions`, with what stands behind that word.
+#[tactic(auto, using(crate::proofs::Found::behind_laws))]
+fn block_behind(first: &str, rest: &[&str]) -> Option<Block>
+    requires { first.now ≡ codes "--versions" }
+    ensures some { IfSome result (λ block. Begins (first.now ∷ map (λ s. s.now) rest.now) block.kind block.words) }
+    ensures none { IfNone result (BeginsWithNone (first.now ∷ map (λ s. s.now) rest.now)) }
+{
+    match rest {
+        [] => None,
+        [text, others @ ..] => limit_block(first, text, others),
+    }
+}
+
+// The block with which words begin.
+#[tactic(auto, using(crate::proofs::Found::block_laws))]
+fn first_block(first: &str, rest: &[&str]) -> Option<Block>
+    ensures some { IfSome result (λ block. Begins (first.now ∷ map (λ s. s.now) rest.now) block.kind block.words) }
+    ensures none { IfNone result (BeginsWithNone (first.now ∷ map (λ s. s.now) rest.now)) }
+{
+    if is_word(first, "--json") {
+        return Some(Block {
+            kind: Kind::Json,
+            words: 1,
+        });
+    }
+    if is_limit_within(first) {
+        return Some(Block {
+            kind: Kind::Versions,
+            words: 1,
+        });
+    }
+    if is_word(first, "--versions") {
+        return block_behind(first, rest);
+    }
+    None
+}
+
+// The block with which words begin.
+fn block_of(words: &[&str]) -> Option<Block>
+    ensures some { IfSome result (λ block. Begins (map (λ s. s.now) words.now) block.kind block.words) }
+    ensures none { IfNone result (0 < length words.now → BeginsWithNone (map (λ s. s.now) words.now)) }
+{
+    match words {
+        [] => None,
+        [first, rest @ ..] => first_block(first, rest),
+    }
+}
+
+/// Whether words are options of these kinds, each at most once.
+pub fn are_options(words: &[&str], kinds: Kinds) -> bool
+    ensures some { result ≡ true → AreSome kinds (map (λ s. s.now) words.now) }
+    ensures none { result ≡ false → AreNoOptions kinds (map (λ s. s.now) words.now) }
+{
+    if words.is_empty() {
+        return true;
+    }
+    let Some(block) = block_of(words) else {
+        return false
+    };
+    if !kinds.has(block.kind) {
+        return false;
+    }
+    are_options(&words[block.words..], kinds.without(block.kind))
 }

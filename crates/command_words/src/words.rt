@@ -1,18 +1,21 @@
 // From words to a command.
 
-ghost use Rattle.std.specs.Prelude.{◌≡◌, ◌↔◌, ◌∷◌, true, codes, map, All, IsTrue, IfOk, IfErr, IfSome, IfNone};
+ghost use Rattle.std.specs.Prelude.{◌≡◌, ◌∷◌, map, All, IfOk, IfErr, IfSome, IfNone};
 ghost use Rattle.std.specs.Str.{IsUtf8};
+ghost use Rattle.std.specs.Str.Parse.{digits_value};
 ghost use Rattle.command_words.specs.declared.command.WordsFault.TheVariants.{Memory, Refused};
 ghost use Rattle.clap.specs.Words.{app_of};
 ghost use Rattle.clap.specs.Values.{kind_of};
 ghost use Rattle.clap.specs.declared.error.ErrorKind.TheVariants.{OutOfMemory};
 ghost use Rattle.script_tree.specs.declared.limits.TheConstants.{VERSIONS as MOST};
 ghost use Rattle.command_words.specs.Parser.{app};
-ghost use Rattle.command_words.specs.Words.{AreOptions, AreNoOptions, ReadsWords, SpellsLimit};
-ghost use Rattle.command_words.specs.Tests.{are_options, is_limit};
+ghost use Rattle.command_words.specs.Words.{AreNoOptions, IsLimit, ReadsWords};
+ghost use Rattle.command_words.specs.Blocks.{AreSome, Gives};
 
 use crate::command::{Command, WordsFault};
+use crate::kinds::Kinds;
 use crate::options::{are_options, limit_of};
+use crate::verb::Verb;
 use clap::error::ErrorKind;
 use clap::{Arg, ArgAction, Error};
 use script_tree::items::Text;
@@ -20,9 +23,9 @@ use script_tree::limits::VERSIONS;
 use std::alloc::{AllocError, Global};
 use std::str;
 
-/// The options of a run.
+/// The values of options.
 #[derive(Clone, Copy)]
-struct RunOptions {
+struct Values {
     versions: u32,
     json: bool,
 }
@@ -39,7 +42,7 @@ fn text_of(word: &Text) -> Result<&str, WordsFault>
 }
 
 // The words as text. Words that aren't UTF-8 are refused.
-#[tactic(auto, using(crate::proofs::Found::one_not))]
+#[tactic(auto, using(crate::proofs::Asked::one_not))]
 fn texts<'a>(alloc: Global, words: &'a [Text]) -> Result<Vec<&'a str>, WordsFault>
     ensures ok { IfOk result (λ texts. map (λ s. s.now) texts.items ≡ words.now) }
     ensures err { IfErr result (λ fault. fault ≡ Refused → All IsUtf8 words.now → ⊥) }
@@ -54,7 +57,7 @@ fn texts<'a>(alloc: Global, words: &'a [Text]) -> Result<Vec<&'a str>, WordsFaul
     Ok(texts)
 }
 
-// The parser of options.
+// The parser of options, of all kinds.
 fn option_parser<'a>(alloc: Global) -> Result<clap::Command<'a>, AllocError>
     ensures { IfOk result (λ command. app_of command ≡ app) }
 {
@@ -82,10 +85,10 @@ fn fault(error: Error) -> WordsFault
     }
 }
 
-// The limit that a tested text spells, or the greatest one where there is no text.
+// The limit that a text spells, or the greatest one where there is no text.
 fn versions_of(text: Option<&str>) -> u32
-    requires { IfSome text (λ t. is_limit t.now ≡ true) }
-    ensures some { IfSome text.entry (λ t. SpellsLimit t.now result) }
+    requires { IfSome text (λ t. IsLimit t.now) }
+    ensures some { IfSome text.entry (λ t. result ≡ digits_value 10 t.now) }
     ensures none { IfNone text.entry (result ≡ MOST) }
 {
     match text {
@@ -95,114 +98,70 @@ fn versions_of(text: Option<&str>) -> u32
 }
 
 // What the parser of options makes of options that have been tested.
-fn read_options(alloc: Global, options: &[&str]) -> Result<RunOptions, WordsFault>
-    requires { are_options (map (λ s. s.now) options.now) ≡ true }
-    ensures ok { IfOk result (λ o. AreOptions (map (λ s. s.now) options.now) o.versions o.json) }
+fn parsed(alloc: Global, kinds: Kinds, options: &[&str]) -> Result<Values, WordsFault>
+    requires { AreSome kinds (map (λ s. s.now) options.now) }
+    ensures ok { IfOk result (λ values. Gives kinds (map (λ s. s.now) options.now) values.versions values.json) }
     ensures err { IfErr result (λ fault. fault ≡ Memory) }
 {
     let matches = match option_parser(alloc)?.try_get_matches_from(options) {
         Ok(matches) => matches,
         Err(error) => return Err(fault(error)),
     };
-    Ok(RunOptions {
+    Ok(Values {
         versions: versions_of(matches.get_str("versions")),
         json: matches.get_flag("json"),
     })
 }
 
-fn is_word(word: &Text, expected: &[u8]) -> bool
-    ensures { IsTrue result ↔ (word.now ≡ expected.now) }
+// The values of the options behind a command's word.
+#[tactic(auto, using(crate::proofs::Asked::memory_only))]
+fn values_of(alloc: Global, kinds: Kinds, options: &[&str]) -> Result<Values, WordsFault>
+    ensures ok { IfOk result (λ values. Gives kinds (map (λ s. s.now) options.now) values.versions values.json) }
+    ensures err { IfErr result (λ fault. fault ≡ Refused → AreNoOptions kinds (map (λ s. s.now) options.now)) }
 {
-    word.as_slice() == expected
-}
-
-// The options that texts are.
-#[tactic(auto, using(crate::proofs::Asked::tested_laws))]
-fn tested(alloc: Global, texts: &[&str]) -> Result<RunOptions, WordsFault>
-    ensures ok { IfOk result (λ o. AreOptions (map (λ s. s.now) texts.now) o.versions o.json) }
-    ensures err { IfErr result (λ fault. fault ≡ Refused → AreNoOptions (map (λ s. s.now) texts.now)) }
-{
-    if !are_options(texts) {
+    if !are_options(options, kinds) {
         return Err(WordsFault::Refused);
     }
-    read_options(alloc, texts)
+    parsed(alloc, kinds, options)
 }
 
-// The options behind a command's word.
-#[tactic(auto, using(crate::proofs::Asked::options_laws))]
-fn options_of(alloc: Global, words: &[Text]) -> Result<RunOptions, WordsFault>
-    ensures ok { IfOk result (λ o. AreOptions words.now o.versions o.json) }
-    ensures err { IfErr result (λ fault. fault ≡ Refused → AreNoOptions words.now) }
+// The command whose word is the first one, with the options behind it.
+#[tactic(auto, using(crate::proofs::Asked::asks_none))]
+fn command_of(alloc: Global, first: &str, options: &[&str]) -> Result<Command, WordsFault>
+    ensures { ReadsWords (first.now ∷ map (λ s. s.now) options.now) result }
+{
+    let Some(verb) = Verb::of(first) else {
+        return Err(WordsFault::Refused)
+    };
+    match values_of(alloc, verb.kinds(), options) {
+        Ok(Values { versions, json }) => Ok(verb.command(versions, json)),
+        Err(fault) => Err(fault),
+    }
+}
+
+#[tactic(auto, using(crate::proofs::Asked::none_asked))]
+fn read_texts(alloc: Global, texts: &[&str]) -> Result<Command, WordsFault>
+    ensures { ReadsWords (map (λ s. s.now) texts.now) result }
+{
+    match texts {
+        [] => Err(WordsFault::Refused),
+        [first, options @ ..] => command_of(alloc, first, options),
+    }
+}
+
+/// The command that words ask for, the words being those behind the program's name. Takes memory.
+///
+/// `Refused`: they are no command line. A command line is a command's word and the options behind it: `run`, `replay` or
+/// `serial`, each with the options `--json` and `--versions N` (or `--versions=N`), or `print`, which has none. Each option stands
+/// at most once, in any order. N has 1 to 7 decimal digits and is at most 4,000,000, which is the limit of versions
+/// without the option.
+#[tactic(auto, using(crate::proofs::Asked::no_text))]
+pub fn read_words(alloc: Global, words: &[Text]) -> Result<Command, WordsFault>
+    ensures { ReadsWords words.now result }
 {
     let texts = match texts(alloc, words) {
         Ok(texts) => texts,
         Err(fault) => return Err(fault),
     };
-    match tested(alloc, texts.as_slice()) {
-        Ok(options) => Ok(options),
-        Err(fault) => Err(fault),
-    }
-}
-
-#[tactic(auto, using(crate::proofs::Asked::run_laws))]
-fn run(alloc: Global, options: &[Text]) -> Result<Command, WordsFault>
-    ensures { ReadsWords (codes "run" ∷ options.now) result }
-{
-    match options_of(alloc, options) {
-        Ok(RunOptions { versions, json }) => Ok(Command::Run { versions, json }),
-        Err(fault) => Err(fault),
-    }
-}
-
-#[tactic(auto, using(crate::proofs::Asked::serial_laws))]
-fn serial(alloc: Global, options: &[Text]) -> Result<Command, WordsFault>
-    ensures { ReadsWords (codes "serial" ∷ options.now) result }
-{
-    match options_of(alloc, options) {
-        Ok(RunOptions { versions, json }) => Ok(Command::Serial { versions, json }),
-        Err(fault) => Err(fault),
-    }
-}
-
-#[tactic(auto, using(crate::proofs::Asked::print_laws))]
-fn print(options: &[Text]) -> Result<Command, WordsFault>
-    ensures { ReadsWords (codes "print" ∷ options.now) result }
-{
-    if options.is_empty() {
-        Ok(Command::Print)
-    } else {
-        Err(WordsFault::Refused)
-    }
-}
-
-// The command whose word is the first one, with what stands behind it.
-#[tactic(auto, using(crate::proofs::Asked::command_laws))]
-fn command_of(alloc: Global, first: &Text, rest: &[Text]) -> Result<Command, WordsFault>
-    ensures { ReadsWords (first.now ∷ rest.now) result }
-{
-    if is_word(first, b"run") {
-        return run(alloc, rest);
-    }
-    if is_word(first, b"serial") {
-        return serial(alloc, rest);
-    }
-    if is_word(first, b"print") {
-        return print(rest);
-    }
-    Err(WordsFault::Refused)
-}
-
-/// The command that words ask for, the words being those behind the program's name. Takes memory.
-///
-/// `Refused`: they are none of `print`, or `run` or `serial` with the options `--json` and `--versions N` (or
-/// `--versions=N`) behind it, each at most once and in any order. N has 1 to 7 decimal digits and is at most 4,000,000,
-/// which is the limit of versions without the option.
-#[tactic(auto, using(crate::proofs::Asked::none_asked))]
-pub fn read_words(alloc: Global, words: &[Text]) -> Result<Command, WordsFault>
-    ensures { ReadsWords words.now result }
-{
-    match words {
-        [] => Err(WordsFault::Refused),
-        [first, rest @ ..] => command_of(alloc, first, rest),
-    }
+    read_texts(alloc, texts.as_slice())
 }

@@ -12,7 +12,8 @@ use Rattle.signal_graph.specs.Legal.{LegalFrom, state_after, finals}
 use Rattle.report_text.specs.Report.{Answers, AreAnswered}
 
 reply_answers : (graph : Graph) (kept : Values) (call : Call) → Answers call (reply graph kept call)
-reply_answers graph kept (Fire sets looks) = length-map looks (λ name. val graph (after graph kept (Fire sets looks)) (number_of graph name))
+reply_answers graph kept (Fire sets looks) = length-map looks
+    (λ name. val graph (after graph kept (Fire sets looks)) (number_of graph name))
 reply_answers graph kept (Read looks) = length-map looks (λ name. val graph kept (number_of graph name))
 
 pub legal_answered : (graph : Graph) (kept : Values) (log : List Logged) → LegalFrom graph kept log → AreAnswered log

@@ -1,9 +1,9 @@
 -- Which status comes, from what the top call left on its devices.
-use Rattle.std.proofs.Common.{◌≡◌, ℕ, ◌+◌, List, Option, Some, None, Result, Ok, Err, refl, sym, subst, ◌∙◌, inl, inr, arith, ⊎_elim}
-use Rattle.std.specs.Prelude.{◌⊎◌, take}
+use Rattle.std.proofs.Common.{◌≡◌, ℕ, ◌+◌, List, Option, Some, None, Result, Ok, Err, refl, sym, subst, ◌∙◌, ap, true≢false, inl, inr}
+use Rattle.std.proofs.Common.{arith, ⊎_elim}
+use Rattle.std.specs.Prelude.{◌⊎◌, take, length, is_none}
 use Rattle.std.proofs.lemmas.List.{take_all}
 use Rattle.fs_io.specs.Count.{Rose}
-use Rattle.script_tree.specs.declared.limits.TheConstants.{DECK_BYTES}
 use Rattle.command_words.specs.declared.command.Command.{Command}
 use Rattle.command_words.specs.declared.command.WordsFault.{WordsFault}
 use Rattle.command_words.specs.declared.command.WordsFault.TheVariants as reading
@@ -15,7 +15,16 @@ use Rattle.deck_text.specs.Spelled.{SpellsDeck}
 use Rattle.deck_text.specs.Reasons.{IsDeckFault}
 use Rattle.framesweep_cli.specs.declared.ending.Ending.{Ending}
 use Rattle.framesweep_cli.specs.declared.ending.Ending.TheVariants.{Done, Refused, ReadFailed, WriteFailed, OutOfMemory}
-use Rattle.framesweep_cli.specs.Endings.{IsValid, IsInvalid, Refuses, Makes}
+use Rattle.framesweep_cli.specs.declared.fault.InputFault.{InputFault}
+use Rattle.framesweep_cli.specs.declared.fault.InputFault.TheVariants as input
+use Rattle.framesweep_cli.specs.declared.input.Input.{Input}
+use Rattle.framesweep_cli.specs.declared.reading.Reading.{Reading}
+use Rattle.framesweep_cli.specs.declared.reading.Reading.TheVariants as reads
+use Rattle.framesweep_cli.specs.Inputs.{reading_of, most_bytes, Spells, IsFault, IsRefusedFor, IsValid, IsInvalid}
+use Rattle.framesweep_cli.specs.Endings.{Makes}
+use Rattle.framesweep_cli.proofs.Judging.{holds_short}
+use Rattle.replay_run.specs.Input.{deck_text}
+use Rattle.replay_run.specs.Schedule.{first_unnamed}
 use Rattle.framesweep_cli.specs.Devices.{Devices}
 use Rattle.framesweep_cli.specs.Lines.{memory_line}
 use Rattle.framesweep_cli.specs.Statuses.{status_of, Happened, Ends, Declines, Follows, Obeys}
@@ -25,10 +34,13 @@ abbrev pub OneCommand : Type 0
 OneCommand = (words : List (List ℕ)) (a b : Command) → AsksFor words a → AsksFor words b → a ≡ b
 
 -- what words ask for is done, where there is memory to read them
-pub is_done : OneCommand → (words : List (List ℕ)) (command : Command) (before after : Devices) (status : ℕ) → Obeys words before after status → AsksFor words command → Ends command before after status ⊎ Declines before after memory_line 5 status
+pub is_done : OneCommand → (words : List (List ℕ)) (command : Command) (before after : Devices) (status : ℕ)
+    → Obeys words before after status → AsksFor words command → Ends command before after status
+    ⊎ Declines before after memory_line 5 status
 is_done only words command before after status o asks = from o.read_as o.read o.followed
   where
-    from : (r : Result Command WordsFault) → ReadsWords words r → Follows r before after status → Ends command before after status ⊎ Declines before after memory_line 5 status
+    from : (r : Result Command WordsFault) → ReadsWords words r → Follows r before after status → Ends command before after status
+        ⊎ Declines before after memory_line 5 status
     from (Ok c) read f = inl (subst (λ (d : Command). Ends d before after status) (only words c command read asks) f)
     from (Err reading.Refused) read f = absurd (read command asks)
     from (Err reading.Memory) read f = inr f
@@ -37,75 +49,128 @@ is_done only words command before after status o asks = from o.read_as o.read o.
 abbrev pub OneAnswer : Type 0
 OneAnswer = (bytes : List ℕ) (deck : Decked) (fault : DeckFault) → SpellsDeck bytes deck → IsDeckFault bytes fault → fault ≡ Memory
 
--- what is read of a source that spells a deck is all of it
-whole : (left bytes : List ℕ) (deck : Decked) → SpellsDeck left deck → bytes ≡ take (DECK_BYTES + 1) left → bytes ≡ left
-whole left bytes deck spells e = e ∙ take_all (DECK_BYTES + 1) left (omega (arith, spells.short))
+-- bytes spell one deck
+abbrev pub OneDeck : Type 0
+OneDeck = (bytes : List ℕ) (a b : Decked) → SpellsDeck bytes a → SpellsDeck bytes b → a ≡ b
 
-not_refused : OneAnswer → (left : Option (List ℕ)) (fault : DeckFault) → IsValid left → Refuses left fault → ⊥
-not_refused one None fault valid refuses = absurd valid
-not_refused one (Some left) fault valid refuses =
-    refuses.known (one left valid.0 fault valid.1 (subst (λ bytes. IsDeckFault bytes fault) (whole left refuses.bytes valid.0 valid.1 refuses.input) refuses.read))
+abbrev pub Answers : Type 0
+Answers = OneAnswer × OneDeck
 
-served : OneAnswer → (command : Command) (before after : Devices) (ending : Ending) → Happened command before after ending → IsValid before.source.left → (Rose before.source.faults after.source.faults → ⊥) → (Rose before.out.faults after.out.faults → ⊥) → (status_of ending ≡ 0) ⊎ (status_of ending ≡ 5)
+-- numbers that all name a thread, and of which one names none
+not_both : (a b : Input) (place : ℕ) → a.deck ≡ b.deck → a.schedule ≡ b.schedule → first_unnamed (length a.deck.scripts) a.schedule ≡ None
+    → first_unnamed (length b.deck.scripts) b.schedule ≡ Some place → ⊥
+not_both a b place decks schedules named unnamed =
+    let same = ap (λ (d : Decked). first_unnamed (length d.scripts) a.schedule) decks
+    ∙ ap (first_unnamed (length b.deck.scripts)) schedules in
+    true≢false (ap is_none (sym named ∙ same ∙ unnamed))
+
+-- what says an input has no fault
+no_fault : Answers → (reading : Reading) (bytes : List ℕ) (said : Input) (fault : InputFault) → Spells reading bytes said
+    → IsFault reading bytes fault → ⊥
+no_fault one reads.Deck bytes said input.TooLong spells is = absurd is
+no_fault one reads.Deck bytes said (input.Deck f) spells is = is.1 (one.0 bytes said.deck f spells.holds.0 is.0)
+no_fault one reads.Deck bytes said (input.ScheduleNumber place) spells is = absurd is
+no_fault one reads.Scheduled bytes said input.TooLong spells is = absurd (omega (arith, is, spells.holds.0))
+no_fault one reads.Scheduled bytes said (input.Deck f) spells is = is.2 (one.0 (deck_text bytes) said.deck f spells.holds.1 is.1)
+no_fault one reads.Scheduled bytes said (input.ScheduleNumber place) spells is =
+    not_both said is.0 place (one.1 (deck_text bytes) said.deck is.0.deck spells.holds.1 is.1.1) (spells.holds.2
+    ∙ sym is.1.2) spells.named is.2
+
+-- what is read of a source that says an input is all of it
+whole : (reading : Reading) (left bytes : List ℕ) (said : Input) → Spells reading left said → bytes ≡ take (most_bytes reading + 1) left
+    → bytes ≡ left
+whole reading left bytes said spells e = e
+    ∙ take_all (most_bytes reading + 1) left (omega (arith, holds_short reading left said spells.holds))
+
+not_refused : Answers → (command : Command) (left : Option (List ℕ)) (fault : InputFault) → IsValid command left
+    → IsRefusedFor (reading_of command) left fault → ⊥
+not_refused one command None fault valid refused = absurd valid
+not_refused one command (Some left) fault valid refused =
+    no_fault one (reading_of command) left valid.0 fault valid.1
+    (subst (λ (bytes : List ℕ). IsFault (reading_of command) bytes fault)
+    (whole (reading_of command) left refused.bytes valid.0 valid.1 refused.given) refused.is)
+
+served : Answers → (command : Command) (before after : Devices) (ending : Ending) → Happened command before after ending
+    → IsValid command before.source.left → (Rose before.source.faults after.source.faults → ⊥)
+    → (Rose before.out.faults after.out.faults → ⊥) → (status_of ending ≡ 0) ⊎ (status_of ending ≡ 5)
 served one command before after Done h valid reads writes = inl refl
-served one command before after (Refused fault) h valid reads writes = absurd (not_refused one before.source.left fault valid h.0)
+served one command before after (Refused fault) h valid reads writes = absurd (not_refused one command before.source.left fault valid h.0)
 served one command before after ReadFailed h valid reads writes = absurd (reads h.0)
 served one command before after WriteFailed h valid reads writes = absurd (writes h.0)
 served one command before after OutOfMemory h valid reads writes = inr refl
 
-pub ends_served : OneAnswer → (command : Command) (before after : Devices) (status : ℕ) → Ends command before after status → IsValid before.source.left → (Rose before.source.faults after.source.faults → ⊥) → (Rose before.out.faults after.out.faults → ⊥) → (status ≡ 0) ⊎ (status ≡ 5)
+pub ends_served : Answers → (command : Command) (before after : Devices) (status : ℕ) → Ends command before after status
+    → IsValid command before.source.left → (Rose before.source.faults after.source.faults → ⊥)
+    → (Rose before.out.faults after.out.faults → ⊥) → (status ≡ 0) ⊎ (status ≡ 5)
 ends_served one command before after status ends valid reads writes =
     subst (λ n. (n ≡ 0) ⊎ (n ≡ 5)) (sym ends.is) (served one command before after ends.ending ends.happened valid reads writes)
 
-pub is_served : OneAnswer → OneCommand → (words : List (List ℕ)) (command : Command) (before after : Devices) (status : ℕ) → Obeys words before after status → AsksFor words command → IsValid before.source.left → (Rose before.source.faults after.source.faults → ⊥) → (Rose before.out.faults after.out.faults → ⊥) → (status ≡ 0) ⊎ (status ≡ 5)
+pub is_served : Answers → OneCommand → (words : List (List ℕ)) (command : Command) (before after : Devices) (status : ℕ)
+    → Obeys words before after status → AsksFor words command → IsValid command before.source.left
+    → (Rose before.source.faults after.source.faults → ⊥) → (Rose before.out.faults after.out.faults → ⊥) → (status ≡ 0) ⊎ (status ≡ 5)
 is_served one only words command before after status o asks valid reads writes =
-    ⊎_elim (λ ends. ends_served one command before after status ends valid reads writes) (λ declines. inr declines.is) (is_done only words command before after status o asks)
+    ⊎_elim (λ ends. ends_served one command before after status ends valid reads writes) (λ declines. inr declines.is)
+    (is_done only words command before after status o asks)
 
 -- what was refused was not made
 
-not_made : OneAnswer → (command : Command) (left : Option (List ℕ)) (fault : DeckFault) (text : List ℕ) → IsInvalid left fault → Makes command left text → ⊥
+not_made : Answers → (command : Command) (left : Option (List ℕ)) (fault : InputFault) (text : List ℕ) → IsInvalid command left fault
+    → Makes command left text → ⊥
 not_made one command None fault text invalid made = absurd invalid
 not_made one command (Some left) fault text invalid made =
-    invalid.1 (one made.given.bytes made.deck fault made.given.read (subst (λ bytes. IsDeckFault bytes fault) (sym made.given.input) invalid.0))
+    no_fault one (reading_of command) made.given.bytes made.input fault made.given.spells
+    (subst (λ (bytes : List ℕ). IsFault (reading_of command) bytes fault) (sym made.given.given) invalid)
 
-denied : OneAnswer → (command : Command) (fault : DeckFault) (before after : Devices) (ending : Ending) → Happened command before after ending → IsInvalid before.source.left fault → (Rose before.source.faults after.source.faults → ⊥) → (status_of ending ≡ 2) ⊎ (status_of ending ≡ 5)
+denied : Answers → (command : Command) (fault : InputFault) (before after : Devices) (ending : Ending)
+    → Happened command before after ending → IsInvalid command before.source.left fault
+    → (Rose before.source.faults after.source.faults → ⊥) → (status_of ending ≡ 2) ⊎ (status_of ending ≡ 5)
 denied one command fault before after Done h invalid reads = absurd (not_made one command before.source.left fault h.text invalid h.made)
 denied one command fault before after (Refused f) h invalid reads = inl refl
 denied one command fault before after ReadFailed h invalid reads = absurd (reads h.0)
-denied one command fault before after WriteFailed h invalid reads = absurd (not_made one command before.source.left fault h.1.text invalid h.1.made)
+denied one command fault before after WriteFailed h invalid reads = absurd
+    (not_made one command before.source.left fault h.1.text invalid h.1.made)
 denied one command fault before after OutOfMemory h invalid reads = inr refl
 
-pub ends_denied : OneAnswer → (command : Command) (fault : DeckFault) (before after : Devices) (status : ℕ) → Ends command before after status → IsInvalid before.source.left fault → (Rose before.source.faults after.source.faults → ⊥) → (status ≡ 2) ⊎ (status ≡ 5)
+pub ends_denied : Answers → (command : Command) (fault : InputFault) (before after : Devices) (status : ℕ)
+    → Ends command before after status → IsInvalid command before.source.left fault → (Rose before.source.faults after.source.faults → ⊥)
+    → (status ≡ 2) ⊎ (status ≡ 5)
 ends_denied one command fault before after status ends invalid reads =
     subst (λ n. (n ≡ 2) ⊎ (n ≡ 5)) (sym ends.is) (denied one command fault before after ends.ending ends.happened invalid reads)
 
-pub is_denied : OneAnswer → OneCommand → (words : List (List ℕ)) (command : Command) (fault : DeckFault) (before after : Devices) (status : ℕ) → Obeys words before after status → AsksFor words command → IsInvalid before.source.left fault → (Rose before.source.faults after.source.faults → ⊥) → (status ≡ 2) ⊎ (status ≡ 5)
+pub is_denied : Answers → OneCommand
+    → (words : List (List ℕ)) (command : Command) (fault : InputFault) (before after : Devices) (status : ℕ)
+    → Obeys words before after status → AsksFor words command → IsInvalid command before.source.left fault
+    → (Rose before.source.faults after.source.faults → ⊥) → (status ≡ 2) ⊎ (status ≡ 5)
 is_denied one only words command fault before after status o asks invalid reads =
-    ⊎_elim (λ ends. ends_denied one command fault before after status ends invalid reads) (λ declines. inr declines.is) (is_done only words command before after status o asks)
+    ⊎_elim (λ ends. ends_denied one command fault before after status ends invalid reads) (λ declines. inr declines.is)
+    (is_done only words command before after status o asks)
 
 -- status 2 comes for no valid input
 
-not_two : OneAnswer → (command : Command) (before after : Devices) (ending : Ending) → Happened command before after ending → IsValid before.source.left → status_of ending ≡ 2 → ⊥
+not_two : Answers → (command : Command) (before after : Devices) (ending : Ending) → Happened command before after ending
+    → IsValid command before.source.left → status_of ending ≡ 2 → ⊥
 not_two one command before after Done h valid e = absurd (omega (arith, e))
-not_two one command before after (Refused fault) h valid e = not_refused one before.source.left fault valid h.0
+not_two one command before after (Refused fault) h valid e = not_refused one command before.source.left fault valid h.0
 not_two one command before after ReadFailed h valid e = absurd (omega (arith, e))
 not_two one command before after WriteFailed h valid e = absurd (omega (arith, e))
 not_two one command before after OutOfMemory h valid e = absurd (omega (arith, e))
 
-pub ends_not_two : OneAnswer → (command : Command) (before after : Devices) (status : ℕ) → Ends command before after status → IsValid before.source.left → status ≡ 2 → ⊥
-ends_not_two one command before after status ends valid two = not_two one command before after ends.ending ends.happened valid (sym ends.is ∙ two)
+pub ends_not_two : Answers → (command : Command) (before after : Devices) (status : ℕ) → Ends command before after status
+    → IsValid command before.source.left → status ≡ 2 → ⊥
+ends_not_two one command before after status ends valid two = not_two one command before after ends.ending ends.happened valid (sym ends.is
+    ∙ two)
 
-pub is_not_two : OneAnswer → (words : List (List ℕ)) (before after : Devices) (status : ℕ) → Obeys words before after status → IsValid before.source.left → status ≡ 2 → ⊥
-is_not_two one words before after status o valid two = from o.read_as o.followed
-  where
-    from : (r : Result Command WordsFault) → Follows r before after status → ⊥
-    from (Ok c) f = ends_not_two one c before after status f valid two
-    from (Err reading.Refused) f = absurd (omega (arith, f.is, two))
-    from (Err reading.Memory) f = absurd (omega (arith, f.is, two))
+pub is_not_two : Answers → OneCommand → (words : List (List ℕ)) (command : Command) (before after : Devices) (status : ℕ)
+    → Obeys words before after status → AsksFor words command
+    → IsValid command before.source.left → status ≡ 2 → ⊥
+is_not_two one only words command before after status o asks valid two =
+    ⊎_elim (λ ends. ends_not_two one command before after status ends valid two) (λ declines. absurd (omega (arith, declines.is, two)))
+    (is_done only words command before after status o asks)
 
 -- the words
 
-pub is_refused : (words : List (List ℕ)) (before after : Devices) (status : ℕ) → Obeys words before after status → ((command : Command) → AsksFor words command → ⊥) → (status ≡ 1) ⊎ (status ≡ 5)
+pub is_refused : (words : List (List ℕ)) (before after : Devices) (status : ℕ) → Obeys words before after status
+    → ((command : Command) → AsksFor words command → ⊥) → (status ≡ 1) ⊎ (status ≡ 5)
 is_refused words before after status o none = from o.read_as o.read o.followed
   where
     from : (r : Result Command WordsFault) → ReadsWords words r → Follows r before after status → (status ≡ 1) ⊎ (status ≡ 5)
@@ -120,7 +185,8 @@ not_one ReadFailed e = absurd (omega (arith, e))
 not_one WriteFailed e = absurd (omega (arith, e))
 not_one OutOfMemory e = absurd (omega (arith, e))
 
-pub is_not_one : (words : List (List ℕ)) (command : Command) (before after : Devices) (status : ℕ) → Obeys words before after status → AsksFor words command → status ≡ 1 → ⊥
+pub is_not_one : (words : List (List ℕ)) (command : Command) (before after : Devices) (status : ℕ) → Obeys words before after status
+    → AsksFor words command → status ≡ 1 → ⊥
 is_not_one words command before after status o asks one = from o.read_as o.read o.followed
   where
     from : (r : Result Command WordsFault) → ReadsWords words r → Follows r before after status → ⊥

@@ -1,5 +1,7 @@
-pub mod Inputs
+pub mod FirstBytes
+pub mod Judging
 pub mod Answered
+pub mod Threads
 pub mod Making
 pub mod Stopping
 pub mod Completing

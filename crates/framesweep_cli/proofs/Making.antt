@@ -1,36 +1,71 @@
 -- From what was read to what is written.
-use Rattle.std.proofs.Common.{◌≡◌, ℕ, Bool, List, Option, Result, Ok, Err, IfOk, subst}
-use Rattle.deck_text.specs.Decks.{Decked}
-use Rattle.deck_text.specs.Reasons.{ReadsDeck}
+use Rattle.std.proofs.Common.{◌≡◌, ℕ, Bool, true≢false, List, [], Some, Result, Ok, Err, sym, ap, ◌∙◌}
+use Rattle.std.specs.Prelude.{length, is_none, IfOk, IfErr}
 use Rattle.command_words.specs.declared.command.Command.{Command}
+use Rattle.command_words.specs.declared.command.Command.TheVariants.{Run}
+use Rattle.fs_io.specs.Bytes as bytes
+use Rattle.replay_run.specs.Schedule.{first_unnamed}
+use Rattle.framesweep_cli.specs.declared.fault.InputFault.TheVariants as fault
+use Rattle.framesweep_cli.specs.declared.input.Input.{Input}
+use Rattle.framesweep_cli.specs.declared.reading.Reading.{Reading}
+use Rattle.framesweep_cli.specs.declared.reading.Reading.TheVariants.{Deck, Scheduled}
 use Rattle.framesweep_cli.specs.declared.stop.Stop.{Stop}
-use Rattle.framesweep_cli.specs.declared.stop.Stop.TheVariants.{Read, Deck, Memory}
-use Rattle.framesweep_cli.specs.Endings.{IsInput, IsReport, IsSerial, IsAnyOrder, IsOutput, IsReadAs, Makes}
-use Rattle.framesweep_cli.specs.Stops.{IsRefused, IsUnread, IsStopped}
+use Rattle.framesweep_cli.specs.declared.stop.Stop.TheVariants.{Read, Input as Refuses, Memory}
+use Rattle.framesweep_cli.specs.Devices.{SourceState}
+use Rattle.framesweep_cli.specs.Inputs.{reading_of, IsNamed, HoldsInput}
+use Rattle.framesweep_cli.specs.Endings.{IsReport, IsAnyRun, IsOutput}
+use Rattle.framesweep_cli.specs.Stops.{IsUnnamed, IsStopped, IsMade}
+use Rattle.framesweep_cli.proofs.Judging.{suits}
 
-pub reads_deck : (left : Option (List ℕ)) (bytes : List ℕ) (deck : Decked) → IsInput left bytes → ReadsDeck bytes (Ok deck) → IsReadAs left deck
-reads_deck left bytes deck input read = record { bytes = bytes; input = input; read = read }
+-- what was written for an input that was read
+pub makes : (command : Command) (before after : SourceState) (input : Input) (text : List ℕ)
+    → HoldsInput (reading_of command) before.left input → IsNamed input
+    → bytes.Ends before.left after.left → IsOutput command input text → IsMade command before after (Ok text)
+makes command before after input text h named emptied output = (
+  record {
+    input = input;
+    given = record { bytes = h.bytes; given = h.given; spells = record { holds = h.holds; named = named } };
+    output = output;
+  },
+  emptied,
+)
 
--- bytes that were judged, as far as they were read as a deck
-pub judged : (left : Option (List ℕ)) (bytes slice : List ℕ) (r : Result Decked Stop) → IsInput left bytes → slice ≡ bytes → IfOk r (λ deck. ReadsDeck slice (Ok deck)) → IfOk r (IsReadAs left)
-judged left bytes slice (Ok deck) input same read = reads_deck left bytes deck input (subst (λ (b : List ℕ). ReadsDeck b (Ok deck)) same read)
-judged left bytes slice (Err stop) input same read = read
+-- a schedule that names no thread somewhere is no deck's alone
+alone_named : (input : Input) (place : ℕ) → input.schedule ≡ [] → first_unnamed (length input.deck.scripts) input.schedule ≡ Some place → ⊥
+alone_named input place none unnamed = absurd (true≢false (ap is_none (sym (ap (first_unnamed (length input.deck.scripts)) none)
+    ∙ unnamed)))
 
-pub makes : (command : Command) (left : Option (List ℕ)) (deck : Decked) (text : List ℕ) → IsReadAs left deck → IsOutput command deck text → Makes command left text
-makes command left deck text given output = record { deck = deck; given = given; output = output }
+-- why a run was not made, for an input that was read
+pub unmade : (reading : Reading) (before after : SourceState) (input : Input) (stop : Stop) → HoldsInput reading before.left input
+    → IsUnnamed input stop → IsStopped reading before after stop
+unmade reading before after input Read h unnamed = absurd unnamed
+unmade reading before after input (Refuses fault.TooLong) h unnamed = absurd unnamed
+unmade reading before after input (Refuses (fault.Deck f)) h unnamed = absurd unnamed
+unmade Deck before after input (Refuses (fault.ScheduleNumber place)) h unnamed = absurd (alone_named input place h.holds.1 unnamed)
+unmade Scheduled before after input (Refuses (fault.ScheduleNumber place)) h unnamed = record {
+  bytes = h.bytes;
+  given = h.given;
+  is =
+      (input, h.holds, unnamed);
+}
+unmade reading before after input Memory h unnamed = tt
 
--- input that was refused
-pub refused_stops : (left : Option (List ℕ)) (before after : ℕ) (bytes : List ℕ) (stop : Stop) → IsInput left bytes → IsRefused bytes stop → IsStopped left before after stop
-refused_stops left before after bytes Read input refused = absurd refused
-refused_stops left before after bytes (Deck fault) input refused = record { bytes = bytes; input = input; read = refused.0; known = refused.1 }
-refused_stops left before after bytes Memory input refused = refused
+pub no_numbers : (input : Input) → input.schedule ≡ [] → IsNamed input
+no_numbers input none = ap (first_unnamed (length input.deck.scripts)) none
 
--- input that was not read
-pub unread_stops : (left : Option (List ℕ)) (before after : ℕ) (stop : Stop) → IsUnread before after stop → IsStopped left before after stop
-unread_stops left before after Read unread = unread
-unread_stops left before after (Deck fault) unread = absurd unread
-unread_stops left before after Memory unread = unread
+-- what was made of an input by a command that waits for nobody, or why nothing was
+pub made_alone : (command : Command) (before after : SourceState) (input : Input) (r : Result (List ℕ) Stop)
+    → HoldsInput (reading_of command) before.left input → bytes.Ends before.left after.left
+    → IfOk r (IsOutput command input) → IfOk r (λ _. IsNamed input) → IfErr r (IsUnnamed input) → IsMade command before after r
+made_alone command before after input (Ok text) h emptied output named unnamed =
+    makes command before after input text h named emptied output
+made_alone command before after input (Err stop) h emptied output named unnamed = unmade
+    (reading_of command) before after input stop h unnamed
 
--- a report in thread order is one in some order
-pub in_any_order : (deck : Decked) (versions : ℕ) (json : Bool) (text : List ℕ) → IsReport deck versions json (IsSerial deck versions) text → IsReport deck versions json IsAnyOrder text
-in_any_order deck versions json text r = record { log = r.log; refused = r.refused; ordered = tt; legal = r.legal; merge = r.merge; bytes = r.bytes }
+pub made_run : (versions : ℕ) (json : Bool) (before after : SourceState) (input : Input) (text : List ℕ)
+    → HoldsInput Deck before.left input → bytes.Ends before.left after.left
+    → IsReport input.deck versions json IsAnyRun text → IsMade (Run versions json) before after (Ok text)
+made_run versions json before after input text h emptied report = makes (Run versions json) before after input text h
+    (no_numbers input h.holds.1) emptied report
+
+pub ruleset made_laws = (suits, made_alone, made_run)

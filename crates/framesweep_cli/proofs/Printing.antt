@@ -7,26 +7,46 @@ use Rattle.command_words.specs.declared.command.Command.TheVariants.{Print}
 use Rattle.deck_text.specs.Decks.{Decked}
 use Rattle.deck_text.specs.Printed.{canonical}
 use Rattle.deck_text.specs.Spelled.{Spell, SpellsDeck}
-use Rattle.framesweep_cli.specs.Endings.{IsReadAs, Makes}
-
--- bytes spell one deck
-abbrev pub OneDeck : Type 0
-OneDeck = (bytes : List ℕ) (a b : Decked) → SpellsDeck bytes a → SpellsDeck bytes b → a ≡ b
+use Rattle.framesweep_cli.specs.declared.input.Input.{Input}
+use Rattle.framesweep_cli.specs.declared.reading.Reading.{Reading}
+use Rattle.framesweep_cli.specs.declared.reading.Reading.TheVariants.{Deck}
+use Rattle.framesweep_cli.specs.Inputs.{reading_of, IsReadAs}
+use Rattle.framesweep_cli.specs.Endings.{Makes}
+use Rattle.framesweep_cli.proofs.Completing.{OneDeck}
 
 -- a canonical text spells its deck
 abbrev pub ReadsBack : Type 0
-ReadsBack = (text : List (List ℕ)) (deck : Decked) → Spell text deck → length (canonical deck) ≤ DECK_BYTES → SpellsDeck (canonical deck) deck
+ReadsBack = (text : List (List ℕ)) (deck : Decked) → Spell text deck → length (canonical deck) ≤ DECK_BYTES
+    → SpellsDeck (canonical deck) deck
 
-pub made_again : OneDeck → ReadsBack → (command : Command) (left text output : List ℕ) → Makes Print (Some left) text → length text ≤ DECK_BYTES → Makes command (Some left) output → Makes command (Some text) output
-made_again one back command left text output printed short made =
-    let input = made.given.input ∙ sym printed.given.input in
-    let same = one printed.given.bytes printed.deck made.deck printed.given.read (subst (λ (bytes : List ℕ). SpellsDeck bytes made.deck) input made.given.read) in
-    let spelled = printed.given.read in
-    let short_canonical = subst (λ (t : List ℕ). length t ≤ DECK_BYTES) printed.output short in
-    let read = back _ printed.deck spelled.spells short_canonical in
-    let given : IsReadAs (Some text) made.deck = record {
+-- an input that is a deck alone is read of the deck's canonical text too
+read_again : OneDeck → ReadsBack → (left text : List ℕ) (printed input : Input) → IsReadAs Deck (Some left) printed
+    → text ≡ canonical printed.deck → length text ≤ DECK_BYTES
+    → IsReadAs Deck (Some left) input → IsReadAs Deck (Some text) input
+read_again one back left text printed input a is short b =
+    let bytes = b.given ∙ sym a.given in
+    let spelled = a.spells.holds.0 in
+    let same = one a.bytes printed.deck input.deck spelled
+    (subst (λ (bytes : List ℕ). SpellsDeck bytes input.deck) bytes b.spells.holds.0) in
+    let read = back _ printed.deck spelled.spells (subst (λ (t : List ℕ). length t ≤ DECK_BYTES) is short) in
+    record {
       bytes = text;
-      input = sym (take_all (DECK_BYTES + 1) text (omega (arith, short)));
-      read = subst (SpellsDeck text) same (subst (λ (t : List ℕ). SpellsDeck t printed.deck) (sym printed.output) read);
-    } in
-    record { deck = made.deck; given = given; output = made.output }
+      given = sym (take_all (DECK_BYTES + 1) text (omega (arith, short)));
+      spells = record {
+        holds = (subst (SpellsDeck text) same (subst (λ (t : List ℕ). SpellsDeck t printed.deck) (sym is) read), b.spells.holds.1);
+        named = b.spells.named;
+      };
+    }
+
+pub made_again : OneDeck → ReadsBack → (command : Command) (left text output : List ℕ) → reading_of command ≡ Deck
+    → Makes Print (Some left) text → length text ≤ DECK_BYTES
+    → Makes command (Some left) output → Makes command (Some text) output
+made_again one back command left text output reads printed short made =
+    let b = subst (λ (r : Reading). IsReadAs r (Some left) made.input) reads made.given in
+    let again = read_again one back left text printed.input made.input printed.given printed.output short b in
+    record {
+      input = made.input;
+      given = subst (λ (r : Reading). IsReadAs r (Some text) made.input)
+          (sym reads) again;
+      output = made.output;
+    }

@@ -3,6 +3,8 @@ use Rattle.std.specs.Prelude.{ℕ, List, [], ◌∷◌, ◌++◌, codes, decimal
 use Rattle.deck_text.specs.declared.fault.What.{What}
 use Rattle.deck_text.specs.declared.fault.What.TheVariants.{Bytes, Nodes, Threads, Levels, Inputs, Candidates, Selectors, Sets, Looks}
 use Rattle.deck_text.specs.declared.fault.DeckFault.{DeckFault}
+use Rattle.framesweep_cli.specs.declared.fault.InputFault.{InputFault}
+use Rattle.framesweep_cli.specs.declared.fault.InputFault.TheVariants as input
 use Rattle.deck_text.specs.declared.fault.DeckFault.TheVariants.{Syntax, DoubleName, UnknownInput, TooMany, LineTooLong, NoThread, Memory}
 
 abbrev pub words_line : List ℕ
@@ -41,3 +43,9 @@ fault_line (TooMany line what) = at_line line (codes ": too many " ++ (what_text
 fault_line (LineTooLong line) = at_line line (codes ": line too long\n")
 fault_line NoThread = codes "framesweep: no thread\n"
 fault_line Memory = memory_line
+
+-- why input is refused
+abbrev pub input_line : InputFault → List ℕ
+input_line input.TooLong = codes "framesweep: input too long\n"
+input_line (input.Deck fault) = fault_line fault
+input_line (input.ScheduleNumber place) = codes "framesweep: schedule number " ++ (decimal place ++ 10 ∷ [])

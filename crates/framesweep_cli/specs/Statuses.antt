@@ -9,8 +9,9 @@ use Rattle.command_words.specs.declared.command.WordsFault.TheVariants as words
 use Rattle.framesweep_cli.specs.declared.ending.Ending.{Ending}
 use Rattle.framesweep_cli.specs.declared.ending.Ending.TheVariants.{Done, Refused, ReadFailed, WriteFailed, OutOfMemory}
 use Rattle.framesweep_cli.specs.Devices.{SinkState, Devices}
-use Rattle.framesweep_cli.specs.Endings.{Makes, Refuses}
-use Rattle.framesweep_cli.specs.Lines.{words_line, read_line, write_line, memory_line, fault_line}
+use Rattle.framesweep_cli.specs.Inputs.{reading_of, IsRefusedFor}
+use Rattle.framesweep_cli.specs.Endings.{Makes}
+use Rattle.framesweep_cli.specs.Lines.{words_line, read_line, write_line, memory_line, input_line}
 use Rattle.command_words.specs.Words.{ReadsWords}
 
 abbrev pub status_of : Ending → ℕ
@@ -23,7 +24,7 @@ status_of OutOfMemory = 5
 -- the one line that an ending gives standard error, if any
 abbrev pub line_of : Ending → Option (List ℕ)
 line_of Done = None
-line_of (Refused fault) = Some (fault_line fault)
+line_of (Refused fault) = Some (input_line fault)
 line_of ReadFailed = Some read_line
 line_of WriteFailed = Some write_line
 line_of OutOfMemory = Some memory_line
@@ -56,7 +57,7 @@ pub record WritesPart (command : Command) (before after : Devices) : Type 0 wher
 -- what each ending of a command means for the source and the output; where no output was begun it was let alone
 abbrev pub Happened : Command → Devices → Devices → Ending → Type 0
 Happened command before after Done = Writes command before after
-Happened command before after (Refused fault) = Refuses before.source.left fault × (after.out ≡ before.out)
+Happened command before after (Refused fault) = IsRefusedFor (reading_of command) before.source.left fault × (after.out ≡ before.out)
 Happened command before after ReadFailed = Rose before.source.faults after.source.faults × (after.out ≡ before.out)
 Happened command before after WriteFailed = Rose before.out.faults after.out.faults × WritesPart command before after
 Happened command before after OutOfMemory = after.out ≡ before.out

@@ -3,15 +3,15 @@
 ghost use Rattle.std.specs.Prelude.{◌≡◌};
 ghost use Rattle.framesweep_cli.specs.Statuses.{status_of};
 
-use deck_text::DeckFault;
+use crate::fault::InputFault;
 
 /// How a command ends.
 #[derive(Clone, Copy, Debug)]
 pub enum Ending {
     /// The output was written whole and flushed.
     Done,
-    /// The input is refused, for this fault of the deck.
-    Refused(DeckFault),
+    /// The input is refused, for this fault.
+    Refused(InputFault),
     /// A read failed.
     ReadFailed,
     /// A write or the flush failed.

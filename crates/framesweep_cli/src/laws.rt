@@ -2,12 +2,14 @@
 
 ghost use Rattle.std.specs.Prelude.{◌≡◌, ℕ, ◌≤◌, ◌⊎◌, List, length, Some};
 ghost use Rattle.script_tree.specs.declared.limits.TheConstants.{DECK_BYTES};
-ghost use Rattle.deck_text.specs.declared.fault.DeckFault.{DeckFault};
 ghost use Rattle.fs_io.specs.Count.{Rose};
 ghost use Rattle.command_words.specs.declared.command.Command.{Command};
 ghost use Rattle.command_words.specs.declared.command.Command.TheVariants.{Print};
 ghost use Rattle.command_words.specs.Words.{AsksFor};
-ghost use Rattle.framesweep_cli.specs.Endings.{Makes, IsValid, IsInvalid};
+ghost use Rattle.framesweep_cli.specs.declared.fault.InputFault.{InputFault};
+ghost use Rattle.framesweep_cli.specs.declared.reading.Reading.TheVariants.{Deck};
+ghost use Rattle.framesweep_cli.specs.Inputs.{reading_of, IsValid, IsInvalid};
+ghost use Rattle.framesweep_cli.specs.Endings.{Makes};
 ghost use Rattle.framesweep_cli.specs.Devices.{Devices};
 ghost use Rattle.framesweep_cli.specs.Lines.{memory_line};
 ghost use Rattle.framesweep_cli.specs.Statuses.{Ends, Declines, Obeys};
@@ -15,39 +17,52 @@ ghost use Rattle.framesweep_cli.specs.Statuses.{Ends, Declines, Obeys};
 /// Status 1 comes exactly where the words are no command line, want of memory aside; and where they are one, the one
 /// command that they ask for is done, or there was no memory to read them.
 pub fn words_decide()
-    ensures refused { (words : List (List ℕ)) (before after : Devices) (status : ℕ) → Obeys words before after status → ((command : Command) → AsksFor words command → ⊥) → (status ≡ 1) ⊎ (status ≡ 5) }
-    ensures asked { (words : List (List ℕ)) (command : Command) (before after : Devices) (status : ℕ) → Obeys words before after status → AsksFor words command → status ≡ 1 → ⊥ }
-    ensures done { (words : List (List ℕ)) (command : Command) (before after : Devices) (status : ℕ) → Obeys words before after status → AsksFor words command → Ends command before after status ⊎ Declines before after memory_line 5 status }
+    ensures refused { (words : List (List ℕ)) (before after : Devices) (status : ℕ) → Obeys words before after status
+        → ((command : Command) → AsksFor words command → ⊥) → (status ≡ 1) ⊎ (status ≡ 5) }
+    ensures asked { (words : List (List ℕ)) (command : Command) (before after : Devices) (status : ℕ) → Obeys words before after status
+        → AsksFor words command → status ≡ 1 → ⊥ }
+    ensures done { (words : List (List ℕ)) (command : Command) (before after : Devices) (status : ℕ) → Obeys words before after status
+        → AsksFor words command → Ends command before after status ⊎ Declines before after memory_line 5 status }
 {
     command_words::laws::words_ask_for_one_command();
 }
 
-/// Where a command is done, or asked for by words, on valid input, and neither the source's faults nor the output's rose,
-/// the status is 0 or 5.
+/// Where a command is done, or asked for by words, on input that is valid for it, and neither the source's faults nor the
+/// output's rose, the status is 0 or 5.
 pub fn valid_input_is_served()
-    ensures alone { (command : Command) (before after : Devices) (status : ℕ) → Ends command before after status → IsValid before.source.left → (Rose before.source.faults after.source.faults → ⊥) → (Rose before.out.faults after.out.faults → ⊥) → (status ≡ 0) ⊎ (status ≡ 5) }
-    ensures asked { (words : List (List ℕ)) (command : Command) (before after : Devices) (status : ℕ) → Obeys words before after status → AsksFor words command → IsValid before.source.left → (Rose before.source.faults after.source.faults → ⊥) → (Rose before.out.faults after.out.faults → ⊥) → (status ≡ 0) ⊎ (status ≡ 5) }
+    ensures alone { (command : Command) (before after : Devices) (status : ℕ) → Ends command before after status
+        → IsValid command before.source.left → (Rose before.source.faults after.source.faults → ⊥)
+        → (Rose before.out.faults after.out.faults → ⊥) → (status ≡ 0) ⊎ (status ≡ 5) }
+    ensures asked { (words : List (List ℕ)) (command : Command) (before after : Devices) (status : ℕ) → Obeys words before after status
+        → AsksFor words command → IsValid command before.source.left → (Rose before.source.faults after.source.faults → ⊥)
+        → (Rose before.out.faults after.out.faults → ⊥) → (status ≡ 0) ⊎ (status ≡ 5) }
 {
     deck_text::laws::one_answer();
     command_words::laws::words_ask_for_one_command();
 }
 
-/// Where a command is done, or asked for by words, on input that spells no deck, and the source's faults did not rise, the
-/// status is 2 or 5; and 2 comes for no valid input.
+/// Where a command is done, or asked for by words, on input that is refused for it, and the source's faults did not rise,
+/// the status is 2 or 5; and 2 comes for no valid input.
 pub fn invalid_input_is_refused()
-    ensures alone { (command : Command) (fault : DeckFault) (before after : Devices) (status : ℕ) → Ends command before after status → IsInvalid before.source.left fault → (Rose before.source.faults after.source.faults → ⊥) → (status ≡ 2) ⊎ (status ≡ 5) }
-    ensures asked { (words : List (List ℕ)) (command : Command) (fault : DeckFault) (before after : Devices) (status : ℕ) → Obeys words before after status → AsksFor words command → IsInvalid before.source.left fault → (Rose before.source.faults after.source.faults → ⊥) → (status ≡ 2) ⊎ (status ≡ 5) }
-    ensures valid_alone { (command : Command) (before after : Devices) (status : ℕ) → Ends command before after status → IsValid before.source.left → status ≡ 2 → ⊥ }
-    ensures valid { (words : List (List ℕ)) (before after : Devices) (status : ℕ) → Obeys words before after status → IsValid before.source.left → status ≡ 2 → ⊥ }
+    ensures alone { (command : Command) (fault : InputFault) (before after : Devices) (status : ℕ) → Ends command before after status
+        → IsInvalid command before.source.left fault → (Rose before.source.faults after.source.faults → ⊥) → (status ≡ 2) ⊎ (status ≡ 5) }
+    ensures asked { (words : List (List ℕ)) (command : Command) (fault : InputFault) (before after : Devices) (status : ℕ)
+        → Obeys words before after status → AsksFor words command → IsInvalid command before.source.left fault
+        → (Rose before.source.faults after.source.faults → ⊥) → (status ≡ 2) ⊎ (status ≡ 5) }
+    ensures valid_alone { (command : Command) (before after : Devices) (status : ℕ) → Ends command before after status
+        → IsValid command before.source.left → status ≡ 2 → ⊥ }
+    ensures valid { (words : List (List ℕ)) (command : Command) (before after : Devices) (status : ℕ) → Obeys words before after status
+        → AsksFor words command → IsValid command before.source.left → status ≡ 2 → ⊥ }
 {
     deck_text::laws::one_answer();
     command_words::laws::words_ask_for_one_command();
 }
 
-/// What `print` makes of an input can stand in its place, where it is within the bytes of a deck: each command makes of
-/// it what it makes of the input. So a printed deck runs as the deck does, and is printed as itself.
+/// What `print` makes of an input can stand in its place, where it is within the bytes of a deck: each command that reads a
+/// deck alone makes of it what it makes of the input. So a printed deck runs as the deck does, and is printed as itself.
 pub fn printed_decks_serve()
-    ensures { (command : Command) (left text output : List ℕ) → Makes Print (Some left) text → length text ≤ DECK_BYTES → Makes command (Some left) output → Makes command (Some text) output }
+    ensures { (command : Command) (left text output : List ℕ) → reading_of command ≡ Deck → Makes Print (Some left) text
+        → length text ≤ DECK_BYTES → Makes command (Some left) output → Makes command (Some text) output }
 {
     deck_text::laws::one_answer();
     deck_text::laws::canonical_deck();

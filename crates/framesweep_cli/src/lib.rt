@@ -2,12 +2,16 @@
 #![tactic(auto)]
 
 mod ending;
+mod fault;
 mod input;
 pub mod laws;
+pub mod limits;
 mod lines;
 mod output;
+mod reading;
 mod stop;
 mod top;
 
 pub use command_words::{Command, WordsFault, read_words};
+pub use fault::InputFault;
 pub use top::{framesweep, framesweep_alone};

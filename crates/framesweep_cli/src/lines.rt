@@ -1,8 +1,9 @@
 // The lines on standard error.
 
 ghost use Rattle.std.specs.Prelude.{◌≡◌, ◌++◌, IfOk, OnOk};
-ghost use Rattle.framesweep_cli.specs.Lines.{words_line, read_line, write_line, memory_line, what_text, at_line, fault_line};
+ghost use Rattle.framesweep_cli.specs.Lines.{words_line, read_line, write_line, memory_line, what_text, at_line, fault_line, input_line};
 
+use crate::fault::InputFault;
 use deck_text::{DeckFault, What};
 use script_tree::items::Text;
 use script_tree::memory::OutOfMemory;
@@ -52,8 +53,8 @@ fn too_many(alloc: Global, line: u32, what: What) -> Result<Text, OutOfMemory>
     Ok(text)
 }
 
-/// The line that names why a deck is refused. Takes memory.
-pub fn fault_line(alloc: Global, fault: DeckFault) -> Result<Text, OutOfMemory>
+// Why a deck is refused.
+fn fault_line(alloc: Global, fault: DeckFault) -> Result<Text, OutOfMemory>
     ensures { IfOk result (λ text. text ≡ fault_line fault) }
 {
     match fault {
@@ -64,5 +65,26 @@ pub fn fault_line(alloc: Global, fault: DeckFault) -> Result<Text, OutOfMemory>
         DeckFault::LineTooLong(line) => at_line(alloc, line, b": line too long\n"),
         DeckFault::NoThread => Text::from_slice(alloc, b"framesweep: no thread\n"),
         DeckFault::Memory => Text::from_slice(alloc, MEMORY_LINE),
+    }
+}
+
+// The place of a number in a schedule.
+fn schedule_number(alloc: Global, place: u32) -> Result<Text, OutOfMemory>
+    ensures { IfOk result (λ text. text ≡ input_line (InputFault.ScheduleNumber place)) }
+{
+    let mut text = Text::from_slice(alloc, b"framesweep: schedule number ")?;
+    print_number(&mut text, place)?;
+    text.extend_from_slice(b"\n")?;
+    Ok(text)
+}
+
+/// The line that names why input is refused. Takes memory.
+pub fn input_line(alloc: Global, fault: InputFault) -> Result<Text, OutOfMemory>
+    ensures { IfOk result (λ text. text ≡ input_line fault) }
+{
+    match fault {
+        InputFault::TooLong => Text::from_slice(alloc, b"framesweep: input too long\n"),
+        InputFault::Deck(fault) => fault_line(alloc, fault),
+        InputFault::ScheduleNumber(place) => schedule_number(alloc, place),
     }
 }

@@ -1,38 +1,133 @@
-// What a command writes for a deck.
+// What each command writes for its input.
 
-ghost use Rattle.std.specs.Prelude.{◌≡◌, ◌≤◌, IfOk};
-ghost use Rattle.framesweep_cli.specs.Endings.{IsOutput, IsReport, IsSerial};
+ghost use Rattle.std.specs.Prelude.{◌≡◌, ◌≤◌, length, IfOk, IfErr, OnOk};
+ghost use Rattle.script_tree.specs.declared.limits.TheConstants.{VERSIONS};
+ghost use Rattle.signal_graph.specs.Legal.{Legal, finals};
+ghost use Rattle.call_log.specs.Merge.{Merge};
+ghost use Rattle.deck_text.specs.Calls.{AreThreads};
+ghost use Rattle.report_text.specs.Report.{AreAnswered};
+ghost use Rattle.replay_run.specs.Faults.{place_of};
+ghost use Rattle.replay_run.specs.Schedule.{first_unnamed};
+ghost use Rattle.framesweep_cli.specs.Inputs.{reading_of, IsNamed, Suits};
+ghost use Rattle.framesweep_cli.specs.declared.reading.Reading.TheVariants.{Scheduled};
+ghost use Rattle.framesweep_cli.specs.Endings.{report_bytes, IsAlone, IsAnyRun, IsOutput, IsReplay, IsReport, IsSerial};
+ghost use Rattle.framesweep_cli.specs.Stops.{IsUnnamed};
 
+use crate::fault::InputFault;
+use crate::input::Input;
+use crate::stop::Stop;
+use call_log::Finished;
 use command_words::Command;
 use deck_text::{Deck, print_deck};
+use replay_run::{ReplayFault, replay_owned};
 use report_text::{report, report_json};
 use script_tree::items::Text;
 use script_tree::memory::OutOfMemory;
 use serial_machine::serial_owned;
+use signal_graph::call::Scripts;
+use signal_graph::graph::Graph;
 use std::alloc::Global;
+
+// The report of a run, as text or as JSON.
+fn report_of(
+    alloc: Global,
+    graph: &Graph,
+    finished: &Finished,
+    json: bool,
+) -> Result<Text, OutOfMemory>
+    requires finals { length finished.now.finals ≡ length graph.now.nodes }
+    requires replies { AreAnswered finished.now.log.entries }
+    ensures { IfOk result (λ text.
+        text ≡ report_bytes json finished.now.log.entries finished.now.refused graph.now.names finished.now.finals) }
+{
+    if json {
+        return report_json(alloc, graph, finished);
+    }
+    report(alloc, graph, finished)
+}
+
+// The run of threads, in some order: here thread after thread. Where threads are started to make it, this is the place.
+fn run(
+    alloc: Global,
+    graph: &Graph,
+    scripts: Scripts,
+    versions: u32,
+) -> Result<Finished, OutOfMemory>
+    requires { AreThreads scripts }
+    ensures legal { IfOk result (λ run. Legal graph.now run.log.entries) }
+    ensures merge { IfOk result (λ run. Merge graph.now scripts versions run.log.entries run.refused) }
+    ensures finals { IfOk result (λ run. run.finals ≡ finals graph.now run.log.entries) }
+{
+    serial_owned(alloc, graph, scripts, versions)
+}
+
+/// The report of a run of a deck's threads. Takes memory.
+#[tactic(auto, using(crate::proofs::Answered::report_laws))]
+pub fn run_report(alloc: Global, deck: Deck, versions: u32, json: bool) -> Result<Text, OutOfMemory>
+    ensures { IfOk result (IsReport deck versions json IsAnyRun) }
+{
+    let (graph, scripts) = deck.into_parts();
+    let finished = run(alloc, &graph, scripts, versions)?;
+    report_of(alloc, &graph, &finished, json)
+}
 
 // The report of the run of a deck, thread after thread.
 #[tactic(auto, using(crate::proofs::Answered::report_laws))]
-fn run(alloc: Global, deck: Deck, versions: u32, json: bool) -> Result<Text, OutOfMemory>
+fn serial_report(alloc: Global, deck: Deck, versions: u32, json: bool) -> Result<Text, OutOfMemory>
     ensures { IfOk result (IsReport deck versions json (IsSerial deck versions)) }
 {
     let (graph, scripts) = deck.into_parts();
     let finished = serial_owned(alloc, &graph, scripts, versions)?;
-    if json {
-        return report_json(alloc, &graph, &finished);
-    }
-    report(alloc, &graph, &finished)
+    report_of(alloc, &graph, &finished, json)
 }
 
-/// What a command writes for a deck, whose calls move into the log of its run. Takes memory.
-#[tactic(auto, using(crate::proofs::Making::in_any_order))]
-pub fn output(alloc: Global, command: &Command, deck: Deck) -> Result<Text, OutOfMemory>
-    ensures { IfOk result (IsOutput command.now deck) }
+// Why a schedule is not replayed.
+fn unplayed(fault: ReplayFault) -> Stop
+    ensures { (input : Input) → place_of fault ≡ first_unnamed (length input.deck.scripts) input.schedule → IsUnnamed input result }
+{
+    match fault {
+        ReplayFault::ScheduleNumber(place) => Stop::Input(InputFault::ScheduleNumber(place)),
+        ReplayFault::Memory => Stop::Memory,
+    }
+}
+
+// The report of the run that a schedule makes of a deck.
+#[tactic(auto, using(crate::proofs::Threads::replay_laws))]
+fn replay_report(alloc: Global, input: Input, versions: u32, json: bool) -> Result<Text, Stop>
+    requires few_versions { versions ≤ VERSIONS }
+    requires suits { Suits Scheduled input }
+    ensures ok { IfOk result (IsReport input.deck versions json (IsReplay input versions)) }
+    ensures named { OnOk result (IsNamed input) }
+    ensures err { IfErr result (IsUnnamed input) }
+{
+    let Input { deck, schedule } = input;
+    let (graph, scripts) = deck.into_parts();
+    let finished = match replay_owned(alloc, &graph, scripts, &schedule, versions) {
+        Ok(finished) => finished,
+        Err(fault) => return Err(unplayed(fault)),
+    };
+    match report_of(alloc, &graph, &finished, json) {
+        Ok(text) => Ok(text),
+        Err(_) => Err(Stop::Memory),
+    }
+}
+
+/// What a command that waits for nobody writes for its input. The calls of the deck move into the log of its run. Takes
+/// memory.
+pub fn output(alloc: Global, command: &Command, input: Input) -> Result<Text, Stop>
+    requires alone { IsAlone command.now }
+    requires suits { Suits (reading_of command.now) input }
+    ensures ok { IfOk result (IsOutput command.now input) }
+    ensures named { OnOk result (IsNamed input) }
+    ensures err { IfErr result (IsUnnamed input) }
 {
     match command {
-        Command::Print => print_deck(alloc, &deck),
-        Command::Run { versions, json } | Command::Serial { versions, json } => {
-            run(alloc, deck, *versions, *json)
+        Command::Run { .. } => unreachable!(),
+        Command::Replay { versions, json } => replay_report(alloc, input, *versions, *json),
+        Command::Serial { versions, json } => {
+            let Input { deck, schedule: _ } = input;
+            Ok(serial_report(alloc, deck, *versions, *json)?)
         }
+        Command::Print => Ok(print_deck(alloc, &input.deck)?),
     }
 }

@@ -1,6 +1,6 @@
 // Why there is no output.
 
-use deck_text::DeckFault;
+use crate::fault::InputFault;
 use script_tree::memory::OutOfMemory;
 
 /// Why there is no output.
@@ -8,8 +8,8 @@ use script_tree::memory::OutOfMemory;
 pub enum Stop {
     /// A read failed.
     Read,
-    /// The input is refused as a deck, for this fault, which is not want of memory.
-    Deck(DeckFault),
+    /// The input is refused.
+    Input(InputFault),
     /// There was no memory.
     Memory,
 }

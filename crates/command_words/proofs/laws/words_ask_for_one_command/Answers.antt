@@ -1,4 +1,4 @@
-use Rattle.command_words.proofs.OneCommand.{one_command}
+use Rattle.command_words.proofs.Asked.{one_command}
 use Rattle.command_words.proofs.laws.words_ask_for_one_command.Goals as goal
 
 pub returns : goal.returns

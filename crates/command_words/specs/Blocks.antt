@@ -1,0 +1,29 @@
+-- The block with which words begin, and whether words are options at all.
+use Rattle.std.specs.Prelude.{◌≡◌, ℕ, ◌≤◌, Bool, List, ◌++◌, length, take}
+use Rattle.command_words.specs.declared.kinds.Kind.{Kind}
+use Rattle.command_words.specs.declared.kinds.Kinds.{Kinds}
+use Rattle.command_words.specs.Words.{Given, kind_of, IsBlock, AreOptions, versions_in, json_in}
+
+-- the first words, so many of them, are the block of an option of this kind
+pub record Begins (words : List (List ℕ)) (kind : Kind) (count : ℕ) : Type 0 where
+  pub option : Given
+  pub of_kind : kind_of option ≡ kind
+  pub block : IsBlock option (take count words)
+  pub some : 1 ≤ count
+  pub within : count ≤ length words
+
+-- no first words are a block
+pub record BeginsWithNone (words : List (List ℕ)) : Type 0 where
+  pub none : (option : Given) (block rest : List (List ℕ)) → words ≡ block ++ rest → IsBlock option block → ⊥
+
+-- words are some options
+pub record AreSome (kinds : Kinds) (words : List (List ℕ)) : Type 0 where
+  pub given : List Given
+  pub are : AreOptions kinds given words
+
+-- words are options that give these values, or leave them at their defaults
+pub record Gives (kinds : Kinds) (words : List (List ℕ)) (versions : ℕ) (json : Bool) : Type 0 where
+  pub given : List Given
+  pub are : AreOptions kinds given words
+  pub versions_are : versions ≡ versions_in given
+  pub json_is : json ≡ json_in given

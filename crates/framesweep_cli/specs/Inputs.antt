@@ -1,0 +1,93 @@
+-- What each command reads, what its input says, and why input is refused.
+use Rattle.std.specs.Prelude.{◌≡◌, ◌≢◌, ℕ, ◌+◌, ◌<◌, ◌≤◌, ◌^◌, ⊤, List, [], length, take, Option, Some, None}
+use Rattle.script_tree.specs.declared.limits.TheConstants.{DECK_BYTES}
+use Rattle.deck_text.specs.declared.fault.DeckFault.TheVariants.{Memory}
+use Rattle.deck_text.specs.Reasons.{IsDeckFault}
+use Rattle.deck_text.specs.Spelled.{SpellsDeck}
+use Rattle.replay_run.specs.Input.{deck_text, schedule_text}
+use Rattle.replay_run.specs.Schedule.{schedule_of, first_unnamed}
+use Rattle.command_words.specs.declared.command.Command.{Command}
+use Rattle.command_words.specs.declared.command.Command.TheVariants.{Run, Replay, Serial, Print}
+use Rattle.framesweep_cli.specs.declared.input.Input.{Input}
+use Rattle.framesweep_cli.specs.declared.limits.TheConstants.{SCHEDULED_BYTES}
+use Rattle.framesweep_cli.specs.declared.reading.Reading.{Reading}
+use Rattle.framesweep_cli.specs.declared.reading.Reading.TheVariants.{Deck, Scheduled}
+use Rattle.framesweep_cli.specs.declared.fault.InputFault.{InputFault}
+use Rattle.framesweep_cli.specs.declared.fault.InputFault.TheVariants as fault
+
+-- what a command reads
+abbrev pub reading_of : Command → Reading
+reading_of (Run versions json) = Deck
+reading_of (Replay versions json) = Scheduled
+reading_of (Serial versions json) = Deck
+reading_of Print = Deck
+
+-- how many bytes that may have
+abbrev pub most_bytes : Reading → ℕ
+most_bytes Deck = DECK_BYTES
+most_bytes Scheduled = SCHEDULED_BYTES
+
+-- the bytes are what the source had left, where it told that: all of it, or the first ones of an input that is too long
+abbrev pub IsInput : Reading → Option (List ℕ) → List ℕ → Type 0
+IsInput reading None bytes = ⊤
+IsInput reading (Some left) bytes = bytes ≡ take (most_bytes reading + 1) left
+
+-- the schedule names no thread that the deck has not
+abbrev pub IsNamed : Input → Type 0
+IsNamed input = first_unnamed (length input.deck.scripts) input.schedule ≡ None
+
+-- bytes say a deck and numbers, whatever these name
+abbrev pub Holds : Reading → List ℕ → Input → Type 0
+Holds Deck bytes input = SpellsDeck bytes input.deck × (input.schedule ≡ [])
+Holds Scheduled bytes input = (length bytes ≤ SCHEDULED_BYTES) × SpellsDeck (deck_text bytes) input.deck
+    × (input.schedule ≡ schedule_of (schedule_text bytes))
+
+-- A command that reads so may have this input: there are few numbers, and none where a deck alone is read.
+pub record Suits (reading : Reading) (input : Input) : Type 0 where
+  pub few : length input.schedule < 2 ^ 32
+  pub none : reading ≡ Deck → input.schedule ≡ []
+
+-- bytes say an input
+pub record Spells (reading : Reading) (bytes : List ℕ) (input : Input) : Type 0 where
+  pub holds : Holds reading bytes input
+  pub named : IsNamed input
+
+-- Bytes are refused, for this fault. Of several the first one is named: they are too many, the deck has a fault, the schedule has
+-- a number that names no thread. A deck that is read alone and has too many bytes is refused by the line that holds the first of
+-- these.
+abbrev pub IsFault : Reading → List ℕ → InputFault → Type 0
+IsFault Deck bytes fault.TooLong = ⊥
+IsFault Deck bytes (fault.Deck f) = IsDeckFault bytes f × (f ≢ Memory)
+IsFault Deck bytes (fault.ScheduleNumber place) = ⊥
+IsFault Scheduled bytes fault.TooLong = SCHEDULED_BYTES < length bytes
+IsFault Scheduled bytes (fault.Deck f) = (length bytes ≤ SCHEDULED_BYTES) × IsDeckFault (deck_text bytes) f × (f ≢ Memory)
+IsFault Scheduled bytes (fault.ScheduleNumber place) =
+    (input : Input) × Holds Scheduled bytes input × (first_unnamed (length input.deck.scripts) input.schedule ≡ Some place)
+
+-- the input is read, and says a deck and numbers, whatever these name
+pub record HoldsInput (reading : Reading) (left : Option (List ℕ)) (input : Input) : Type 0 where
+  pub bytes : List ℕ
+  pub given : IsInput reading left bytes
+  pub holds : Holds reading bytes input
+
+-- the input is read, and says this
+pub record IsReadAs (reading : Reading) (left : Option (List ℕ)) (input : Input) : Type 0 where
+  pub bytes : List ℕ
+  pub given : IsInput reading left bytes
+  pub spells : Spells reading bytes input
+
+-- the input is read, and refused for this fault
+pub record IsRefusedFor (reading : Reading) (left : Option (List ℕ)) (fault : InputFault) : Type 0 where
+  pub bytes : List ℕ
+  pub given : IsInput reading left bytes
+  pub is : IsFault reading bytes fault
+
+-- a source told what it had left, and that is valid for a command
+abbrev pub IsValid : Command → Option (List ℕ) → Type 0
+IsValid command None = ⊥
+IsValid command (Some left) = (input : Input) × Spells (reading_of command) left input
+
+-- a source told what it had left, and that is refused for this fault: all of it, or its first bytes where there are too many
+abbrev pub IsInvalid : Command → Option (List ℕ) → InputFault → Type 0
+IsInvalid command None fault = ⊥
+IsInvalid command (Some left) fault = IsFault (reading_of command) (take (most_bytes (reading_of command) + 1) left) fault

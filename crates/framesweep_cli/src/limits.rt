@@ -1,0 +1,4 @@
+//! The limits of what the program reads, beside those of a deck.
+
+/// How many bytes a deck and the schedule behind it may have together.
+pub const SCHEDULED_BYTES: u64 = 33_554_432;
