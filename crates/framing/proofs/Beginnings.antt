@@ -62,6 +62,6 @@ pub begin_makes : (book new : Booked) (caller version : ℕ) (call : Call) (room
     → version ≡ book.book.begun + 1 → MakesBeginning book caller call room new version
 begin_makes book new caller version call room is v graph s fits h made = (
   is ∙ ap (λ (r : Roomy). begin_call r book caller call) (room_is graph call room made)
-  ∙ ap (λ (f : Book). begin_call (record { sets = sets_in graph call; looks = looks_in graph call; nodes = length graph.nodes }) (record book { book = f }) caller call) fits.parts,
+      ∙ ap (λ (f : Book). begin_call (record { sets = sets_in graph call; looks = looks_in graph call; nodes = length graph.nodes }) (record book { book = f }) caller call) fits.parts,
   let b = ap (λ (f : Book). f.begun) fits.parts in omega (arith, v, b),
 )

@@ -1,8 +1,9 @@
 -- Each change keeps a list within its rooms, one entry a call, and no out-edge twice.
-use Rattle.std.proofs.Common.{◌≡◌, ℕ, ◌+◌, ◌-◌, ◌^◌, ◌<◌, ◌≤◌, Bool, true, false, ◌||◌, ◌==◌, List, [], ◌∷◌, ◌++◌, length, take, drop, refl, sym, ap, ◌∙◌, arith, subst, cond, true≢false, zero, suc, Some, length-append, length-take, length-drop, take_all}
+use Rattle.std.proofs.Common.{◌≡◌, ℕ, ◌+◌, ◌-◌, ◌^◌, ◌<◌, ◌≤◌, Bool, true, false, ◌||◌, ◌==◌, List, [], ◌∷◌, ◌++◌, length, take, drop, refl, sym, ap, ◌∙◌, max, arith, subst, cond, true≢false, zero, suc, Some, length-append, length-take, length-drop, take_all}
 use Rattle.std.specs.List.{insert, filter, remove_range, slice_get}
 use Rattle.std.specs.Prelude.{Result, Ok, Err, IsOk, OnOk}
 use Rattle.std.specs.List.Retain.{RetainsInTurn}
+use Rattle.std.proofs.lemmas.Bool.{ne_eqb}
 use Rattle.std.proofs.lemmas.Bool.Decides.{eqb_tells}
 use Rattle.std.proofs.lemmas.List.{take-append-drop}
 use Rattle.std.proofs.lemmas.List.Edits.{length-insert}
@@ -31,6 +32,18 @@ pub IsUnique-insert : (es : List Entry) (i : ℕ) (e : Entry) → IsUnique es �
 IsUnique-insert es i e q h =
     let whole = sym (take-append-drop i es) in
     IsUnique-put (take i es) (drop i es) e (subst IsUnique whole q) (subst (λ (xs : List Entry). has xs e.version ≡ false) whole h)
+
+-- no entry's version is above this one
+abbrev pub IsNewest : ℕ → List Entry → Type 0
+IsNewest newest es = (t : ℕ) → newest < t → has es t ≡ false
+
+newest-insert : (es : List Entry) (i : ℕ) (e : Entry) (newest : ℕ) → IsNewest newest es → IsNewest (max newest e.version) (insert es i e)
+newest-insert es i e newest k t above =
+    let put = has-put (take i es) (drop i es) e t in
+    let whole = ap (λ (xs : List Entry). has xs t) (take-append-drop i es) in
+    let none = k t (omega (arith, above)) in
+    let other = ne_eqb e.version t (λ same. omega (arith, same, above)) in
+    put ∙ ap (λ b. b || has (take i es ++ drop i es) t) other ∙ whole ∙ none
 
 -- ---- another state
 
@@ -142,10 +155,11 @@ pub record IsSeen (list : Versions) (f d : ℕ) : Type 0 where
   pub done : d ≡ done_len list.entries
   pub done_fits : d ≤ length list.entries
 
-module _ {entries : SmallVec Entry} {outs : SmallVec OutEdge} {room outs_room first_frame done_end : ℕ} where
-  kept_with_entries : (new : SmallVec Entry) (f d : ℕ) → IsKept entries outs room outs_room first_frame done_end → 0 < length new.items → length new.items ≤ room
-      → new.capacity ≡ entries.capacity → IsUnique new.items → f ≡ frames new.items → d ≡ done_len new.items → IsKept new outs room outs_room f d
-  kept_with_entries new f d k some fits same unique frame done = record {
+module _ {entries : SmallVec Entry} {outs : SmallVec OutEdge} {room outs_room first_frame done_end newest : ℕ} where
+  kept_with_entries : (new : SmallVec Entry) (f d t : ℕ) → IsKept entries outs room outs_room first_frame done_end newest → 0 < length new.items → length new.items ≤ room
+      → new.capacity ≡ entries.capacity → IsUnique new.items → f ≡ frames new.items → d ≡ done_len new.items → IsNewest t new.items
+      → IsKept new outs room outs_room f d t
+  kept_with_entries new f d t k some fits same unique frame done above = record {
     small = k.small;
     outs_small = k.outs_small;
     some = some;
@@ -157,10 +171,11 @@ module _ {entries : SmallVec Entry} {outs : SmallVec OutEdge} {room outs_room fi
     different = k.different;
     frame = frame;
     done = done;
+    above = above;
   }
 
-  kept_with_outs : (new : SmallVec OutEdge) → IsKept entries outs room outs_room first_frame done_end → length new.items ≤ outs_room → new.capacity ≡ outs.capacity → AreDifferent new.items
-      → IsKept entries new room outs_room first_frame done_end
+  kept_with_outs : (new : SmallVec OutEdge) → IsKept entries outs room outs_room first_frame done_end newest → length new.items ≤ outs_room → new.capacity ≡ outs.capacity → AreDifferent new.items
+      → IsKept entries new room outs_room first_frame done_end newest
   kept_with_outs new k fits same different = record {
     small = k.small;
     outs_small = k.outs_small;
@@ -173,48 +188,53 @@ module _ {entries : SmallVec Entry} {outs : SmallVec OutEdge} {room outs_room fi
     different = different;
     frame = k.frame;
     done = k.done;
+    above = k.above;
   }
 
-  pub kept_more_outs : (new : SmallVec OutEdge) (node since : ℕ) → IsKept entries outs room outs_room first_frame done_end → length outs.items < outs_room → has_out outs.items node since ≡ false
-      → new.items ≡ outs.items ++ (node, since) ∷ [] → new.capacity ≡ outs.capacity → IsKept entries new room outs_room first_frame done_end
+  pub kept_more_outs : (new : SmallVec OutEdge) (node since : ℕ) → IsKept entries outs room outs_room first_frame done_end newest → length outs.items < outs_room → has_out outs.items node since ≡ false
+      → new.items ≡ outs.items ++ (node, since) ∷ [] → new.capacity ≡ outs.capacity → IsKept entries new room outs_room first_frame done_end newest
   kept_more_outs new node since k fits other items same =
       let long = length-append outs.items ((node, since) ∷ []) in
       kept_with_outs new k (omega (arith, fits, ap length items, long)) same (subst AreDifferent (sym items) (AreDifferent-push outs.items node since k.different other))
 
-  pub kept_fewer_outs : (new : SmallVec OutEdge) (test : OutEdge → Bool) → IsKept entries outs room outs_room first_frame done_end → length new.items ≤ length outs.items
-      → new.items ≡ filter test outs.items → new.capacity ≡ outs.capacity → IsKept entries new room outs_room first_frame done_end
+  pub kept_fewer_outs : (new : SmallVec OutEdge) (test : OutEdge → Bool) → IsKept entries outs room outs_room first_frame done_end newest → length new.items ≤ length outs.items
+      → new.items ≡ filter test outs.items → new.capacity ≡ outs.capacity → IsKept entries new room outs_room first_frame done_end newest
   kept_fewer_outs new test k fits items same = kept_with_outs new k (omega (arith, fits, k.outs_fit)) same (subst AreDifferent (sym items) (AreDifferent-filter test outs.items k.different))
 
-  pub kept_inserted : (new : SmallVec Entry) (i : ℕ) (e : Entry) (f d : ℕ) → IsKept entries outs room outs_room first_frame done_end → length entries.items < room → i ≤ length entries.items
+  pub kept_inserted : (new : SmallVec Entry) (i : ℕ) (e : Entry) (f d t : ℕ) → IsKept entries outs room outs_room first_frame done_end newest → length entries.items < room → i ≤ length entries.items
       → has entries.items e.version ≡ false → f ≡ frames (insert entries.items i e) → d ≡ done_len (insert entries.items i e)
-      → new.items ≡ insert entries.items i e → new.capacity ≡ entries.capacity → IsKept new outs room outs_room f d
-  kept_inserted new i e f d k fits le other frame done items same =
+      → new.items ≡ insert entries.items i e → new.capacity ≡ entries.capacity → t ≡ max newest e.version → IsKept new outs room outs_room f d t
+  kept_inserted new i e f d t k fits le other frame done items same is =
       let long = length-insert entries.items i e le in
-      kept_with_entries new f d k (omega (arith, ap length items, long)) (omega (arith, fits, ap length items, long)) same
+      kept_with_entries new f d t k (omega (arith, ap length items, long)) (omega (arith, fits, ap length items, long)) same
       (subst IsUnique (sym items) (IsUnique-insert entries.items i e k.unique other)) (frame ∙ sym (ap frames items)) (done ∙ sym (ap done_len items))
+      (subst (IsNewest t) (sym items) (subst (λ (u : ℕ). IsNewest u (insert entries.items i e)) (sym is) (newest-insert entries.items i e newest k.above)))
 
-  pub kept_stated : (new : SmallVec Entry) (t : ℕ) (s : State) (f d : ℕ) → IsKept entries outs room outs_room first_frame done_end
+  pub kept_stated : (new : SmallVec Entry) (t : ℕ) (s : State) (f d : ℕ) → IsKept entries outs room outs_room first_frame done_end newest
       → f ≡ frames (with_state t s entries.items) → d ≡ done_len (with_state t s entries.items)
-      → new.items ≡ with_state t s entries.items → new.capacity ≡ entries.capacity → IsKept new outs room outs_room f d
+      → new.items ≡ with_state t s entries.items → new.capacity ≡ entries.capacity → IsKept new outs room outs_room f d newest
   kept_stated new t s f d k frame done items same =
       let long = ap length items ∙ length-with_state t s entries.items in
-      kept_with_entries new f d k (omega (arith, long, k.some)) (omega (arith, long, k.fits)) same
+      kept_with_entries new f d newest k (omega (arith, long, k.some)) (omega (arith, long, k.fits)) same
       (subst IsUnique (sym items) (IsUnique-with_state t s entries.items k.unique)) (frame ∙ sym (ap frames items)) (done ∙ sym (ap done_len items))
+      (subst (IsNewest newest) (sym items) (λ u above. has-with_state t s entries.items u ∙ k.above u above))
 
-  pub kept_cut : (new : SmallVec Entry) (i n : ℕ) (e : Entry) (f d : ℕ) → IsKept entries outs room outs_room first_frame done_end → i < n → n ≤ length entries.items
+  pub kept_cut : (new : SmallVec Entry) (i n : ℕ) (e : Entry) (f d : ℕ) → IsKept entries outs room outs_room first_frame done_end newest → i < n → n ≤ length entries.items
       → slice_get entries.items i ≡ Some e → is_done e.state ≡ true → f ≡ frames (e ∷ drop n entries.items) → d ≡ done_len (e ∷ drop n entries.items)
-      → new.items ≡ remove_range (remove_range entries.items (i + 1) n) 0 i → new.capacity ≡ entries.capacity → IsKept new outs room outs_room f d
+      → new.items ≡ remove_range (remove_range entries.items (i + 1) n) 0 i → new.capacity ≡ entries.capacity → IsKept new outs room outs_room f d newest
   kept_cut new i n e f d k lt le at is frame done items same =
       let between = remove_range entries.items (i + 1) n in
       let first = length-remove_range entries.items (i + 1) n (omega (arith, lt)) le in
       let second = length-remove_range between 0 i (omega arith) (omega (arith, first, lt, le)) in
       let long = ap length items in
       let left = items ∙ cut_before entries.items (drop n entries.items) i e at in
-      kept_with_entries new f d k (omega (arith, first, second, long, lt, le)) (omega (arith, first, second, long, k.fits, lt, le)) same
+      kept_with_entries new f d newest k (omega (arith, first, second, long, lt, le)) (omega (arith, first, second, long, k.fits, lt, le)) same
       (subst IsUnique (sym items) (IsUnique-remove_range between 0 i (omega arith) (IsUnique-remove_range entries.items (i + 1) n (omega (arith, lt)) k.unique)))
       (frame ∙ sym (ap frames left)) (done ∙ sym (ap done_len left))
+      (subst (IsNewest newest) (sym items) (λ u above. has-remove_range between 0 i u (omega arith)
+      (has-remove_range entries.items (i + 1) n u (omega (arith, lt)) (k.above u above))))
 
-  pub seen : (list : Versions) → IsKept entries outs room outs_room first_frame done_end
+  pub seen : (list : Versions) → IsKept entries outs room outs_room first_frame done_end newest
       → record { entries = entries.items; outs = outs.items; room = room; outs_room = outs_room } ≡ list → IsSeen list first_frame done_end
   seen list k is = subst (λ (v : Versions). IsSeen v first_frame done_end) is (record {
     small = k.small;
@@ -226,3 +246,7 @@ module _ {entries : SmallVec Entry} {outs : SmallVec OutEdge} {room outs_room fi
     done = k.done;
     done_fits = omega (arith, k.done, done_len_fits entries.items);
   })
+
+  pub older : (list : Versions) → IsKept entries outs room outs_room first_frame done_end newest
+      → record { entries = entries.items; outs = outs.items; room = room; outs_room = outs_room } ≡ list → IsNewest newest list.entries
+  older list k is = subst (λ (v : Versions). IsNewest newest v.entries) is k.above

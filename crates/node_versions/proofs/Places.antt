@@ -58,6 +58,9 @@ place-bound : (es : List Entry) (t : ℕ) → place es t ≤ length es
 place-bound [] t = omega arith
 place-bound (e ∷ es) t = let r = place-bound es t in grind (arith, r)
 
+pub place-absent : (es : List Entry) (t : ℕ) → has es t ≡ false → length es ≡ place es t
+place-absent es t h = let r = has-place es t in let b = place-bound es t in grind (arith, nat_tests, r, b, h)
+
 pub active-place : (es : List Entry) (since t : ℕ) → ((place es since == length es) || leb (place es since) (place es t)) ≡ is_active es since t
 active-place es since t =
     let a = has-place es since in

@@ -26,8 +26,8 @@ const INLINE_OUTS: usize = 4;
 /// how many of each there is room for. No two entries have one version, and no out-edge is there twice. All memory is
 /// taken by `new`.
 ///
-/// Calls mostly ask of an entry near the end of the list, so a version's entry is looked for from there. Where the first
-/// Frame and the last Done stand is kept beside the entries.
+/// Calls mostly ask of an entry near the end of the list, so a version's entry is looked for from there, and a call that is newer
+/// than all that have entered is told at once to have none. Where the first Frame and the last Done stand is kept beside the entries.
 #[derive(Drop)]
 pub struct NodeList {
     entries: SmallVec<Entry, INLINE_ENTRIES>,
@@ -35,6 +35,8 @@ pub struct NodeList {
     first_frame: u32,
     // The index behind the last Done, 0 where there is none.
     done_end: u32,
+    // No entry's version is above this one.
+    newest: u32,
     outs: SmallVec<(u32, u32), INLINE_OUTS>,
     room: u32,
     outs_room: u32,
@@ -51,7 +53,7 @@ impl Model for NodeList {
 
     ghost view = { λ l. record { entries = l.entries.items; outs = l.outs.items; room = l.room; outs_room = l.outs_room } };
 
-    ghost invariant = { λ l. IsKept l.entries l.outs l.room l.outs_room l.first_frame l.done_end };
+    ghost invariant = { λ l. IsKept l.entries l.outs l.room l.outs_room l.first_frame l.done_end l.newest };
 }
 
 impl NodeList {
@@ -82,6 +84,7 @@ impl NodeList {
             entries,
             first_frame: 1,
             done_end: 1,
+            newest: 0,
             outs,
             room,
             outs_room,
@@ -183,9 +186,11 @@ impl NodeList {
     {
         let first_frame = self.first_frame_with(index, &entry);
         let done_end = self.done_end_with(index, &entry);
+        let newest = self.newest.max(entry.version);
         let _room_is_reserved = self.entries.insert(index as usize, entry);
         self.first_frame = first_frame;
         self.done_end = done_end;
+        self.newest = newest;
     }
 
     /// Makes the version's Mark a Frame.
@@ -335,6 +340,9 @@ impl NodeList {
         ensures place { result ≡ position_or_len (is_of version) self.now.entries }
         ensures bound { result ≤ length self.now.entries }
     {
+        if version > self.newest {
+            return self.len();
+        }
         let mut rest = self.entries.as_slice();
         while let Some((entry, front)) = rest.split_last() {
             if entry.version == version {

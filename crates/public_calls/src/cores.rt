@@ -4,6 +4,7 @@ use deck_text::read_deck;
 use flow_model::{Step, Turn};
 use interleave_core::Core;
 use node_versions::NodeList;
+use script_tree::limits::{LOOKS, SETS};
 use signal_graph::call::{Call, Scripts};
 use signal_graph::graph::Graph;
 use std::alloc::Global;
@@ -34,10 +35,15 @@ fn first_calls(scripts: Scripts) -> Result<(Call, Call), Fail> {
 }
 
 fn begin(alloc: Global, core: &mut Core, caller: u32, call: Call) -> Result<(), Fail> {
+    if call.sets().len() > SETS || call.looks().len() > LOOKS {
+        return Err(Fail::from("the call is not within the limits"));
+    }
     if !core.can_begin(caller, &call) {
         return Err(Fail::from("the call may not begin"));
     }
-    let room = core.make_room(alloc, &call)?;
+    let Ok(room) = core.admit(alloc, &call) else {
+        return Err(Fail::from("the call is refused"));
+    };
     core.begin(caller, call, room);
     Ok(())
 }
