@@ -33,7 +33,10 @@ impl Model for Caller {
 
     ghost coded = { Prim.hlevel (codes, tree_code) };
 
-    ghost view = { λ c. record { live = c.live; thread = record { left = reverse c.left.items; number = suc c.taken; refused = c.refused } } };
+    ghost view = { λ c. record {
+      live = c.live;
+      thread = record { left = reverse c.left.items; number = suc c.taken; refused = c.refused };
+    } };
 
     ghost invariant = { λ c. c.taken + length c.left.items < 2 ^ 32 };
 }

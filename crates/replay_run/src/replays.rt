@@ -36,7 +36,8 @@ pub fn replay(
     requires few_versions { versions ≤ VERSIONS }
     requires few_numbers { length schedule.now < 2 ^ 32 }
     ensures log { IfOk result (λ run. run.log.entries ≡ (replayed deck.now.graph deck.now.scripts versions schedule.now).core.log) }
-    ensures refused { IfOk result (λ run. run.refused ≡ all_refused (replayed deck.now.graph deck.now.scripts versions schedule.now).threads) }
+    ensures refused { IfOk result (λ run. run.refused
+        ≡ all_refused (replayed deck.now.graph deck.now.scripts versions schedule.now).threads) }
     ensures values { IfOk result (λ run. run.finals ≡ last_values (replayed deck.now.graph deck.now.scripts versions schedule.now).core) }
     ensures legal { IfOk result (λ run. Legal deck.now.graph run.log.entries) }
     ensures merge { IfOk result (λ run. Merge deck.now.graph deck.now.scripts versions run.log.entries run.refused) }
