@@ -16,6 +16,8 @@ NAME = r"[^\s(){}\[\],;|.:]+"
 HEAD = re.compile(rf"(?:(?:unfoldable|abbrev|pub|record|data) )+({NAME})|({NAME})(?: {NAME})* : ")
 SPEC_IMPORT = re.compile(r"(?:pub |ghost )?use ([\w.]+?)(?:\.\{(.*)\}| as (\w+));?$")
 RUST_IMPORT = re.compile(r"^ *(?:pub )?use ([\w:]+?)(?:::\{([^}]*)\}| as (\w+))?;", re.MULTILINE)
+# Words of the language, which name nothing.
+LANGUAGE = frozenset("Type Unit abbrev data elim else if in let pub record then unfoldable where".split())
 RUST_ITEM = re.compile(r"^(?:pub(?:\(crate\))? )?(enum|struct|type|const|trait) (\w+)")
 
 
@@ -301,10 +303,11 @@ def kit_word(word, path):
 
 
 class Closure:
-    """All that some items rest on: the parts of each item that count, which files name which, and the kit's words."""
+    """All that some items rest on: the parts of each item that count, which files name which, the kit's words, and words of
+    definitions that are none of these and not bound, of which there should be none."""
 
     def __init__(self, roots, counts=lambda item, part: True):
-        self.parts, self.files, self.kit = {}, {}, set()
+        self.parts, self.files, self.kit, self.unknown = {}, {}, set(), set()
         left = list(roots)
         while left:
             item = left.pop()
@@ -315,10 +318,14 @@ class Closure:
     def named(self, item):
         """The items that an item names."""
         words = set().union(*(named_by(part, item.bound) for part in self.parts[item.path, item.name]))
-        others = [other for other in (item_of(word, item.path) for word in sorted(words)) if other]
-        self.files.setdefault(item.path, set()).update(other.path for other in others)
-        self.kit.update(kit for kit in (kit_word(word, item.path) for word in words) if kit)
-        return others
+        others = {word: item_of(word, item.path) for word in sorted(words)}
+        kit = {word: kit_word(word, item.path) for word in words if not others[word]}
+        self.files.setdefault(item.path, set()).update(other.path for other in others.values() if other)
+        self.kit.update(found for found in kit.values() if found)
+        if item.path.suffix == ".antt":
+            left = {word[0] for word in kit if not kit[word]} - LANGUAGE
+            self.unknown.update((item.path.name, word) for word in left if re.fullmatch(r"[A-Za-z]\w+", word))
+        return [other for other in others.values() if other]
 
     def lines(self, path):
         """How many lines of a file count."""
