@@ -1,0 +1,4 @@
+pub mod Separate
+pub mod Calls
+pub mod Draws
+pub mod Workload
