@@ -24,3 +24,5 @@ mod runs;
 mod scripts;
 #[cfg(test)]
 mod serial_runs;
+#[cfg(test)]
+mod workloads;

@@ -1,0 +1,9 @@
+pub mod Adding
+pub mod Saying
+pub mod Shortness
+pub mod Leading
+pub mod Telling
+pub mod Drawing
+pub mod NameRows
+pub mod OneByOne
+pub mod Steps
