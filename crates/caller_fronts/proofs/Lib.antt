@@ -1,0 +1,4 @@
+pub mod KeysTell
+pub mod OwnCalls
+pub mod TokensStay
+pub mod Turns

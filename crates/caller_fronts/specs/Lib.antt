@@ -1,0 +1,4 @@
+pub mod Fronts
+pub mod Jobs
+pub mod Keys
+pub mod Tokens

@@ -1,0 +1,97 @@
+//! Laws of fronts, of idle callers, and of callers within a call. The functions do nothing when they run.
+
+ghost use Rattle.std.specs.Prelude.{◌≡◌, ◌≢◌, ℕ, ◌<◌, ◌≤◌, ◌^◌, List, [], ◌∷◌, ◌++◌, length, Some, true};
+ghost use Rattle.script_tree.specs.declared.limits.TheConstants.{VERSIONS};
+ghost use Rattle.signal_graph.specs.declared.call.Call.{Call};
+ghost use Rattle.signal_graph.specs.Graph.{Graph, IsGraph, is_in};
+ghost use Rattle.signal_graph.specs.Machine.{looks_of};
+ghost use Rattle.chronicle.specs.declared.entry.Entry.{Entry};
+ghost use Rattle.chronicle.specs.Entries.{events, IsPrefixWithAll};
+ghost use Rattle.flow_model.specs.declared.step.Step.{Step};
+ghost use Rattle.flow_model.specs.declared.step.Step.TheVariants as steps;
+ghost use Rattle.flow_model.specs.declared.step.Turn.TheVariants as turn;
+ghost use Rattle.flow_model.specs.Machine.Keys.{version_of_step, is_own_step};
+ghost use Rattle.flow_model.specs.Machine.Next.{next, next_at};
+ghost use Rattle.flow_model.specs.Machine.Sets.{put, take_out};
+ghost use Rattle.flow_model.specs.Machine.State.{Core, live, call, opening};
+ghost use Rattle.flow_model.specs.Machine.Steps.{allowed, can_begin, has_call};
+ghost use Rattle.flow_model.specs.Machine.Histories.{Move, Begin, Make, may, after_move, state, is_history};
+ghost use Rattle.flow_model.specs.Follows.Callers.{begun_by, count_begins};
+ghost use Rattle.flow_model.specs.Follows.Others.{caller_of};
+ghost use Rattle.flow_model.specs.Kept.Lawful.{IsLawful};
+ghost use Rattle.flow_state.specs.declared.outcome.Answer.{Answer};
+ghost use Rattle.flow_state.specs.Answers.{step_of, IsRight};
+ghost use Rattle.caller_fronts.specs.Fronts.{IsLater};
+ghost use Rattle.caller_fronts.specs.Jobs.{job_at, jobs_at, job_of, with_job, without_job};
+ghost use Rattle.caller_fronts.specs.Keys.{AreKeyed, key_for};
+ghost use Rattle.caller_fronts.specs.Tokens.{IsIdle, IsGoing, IsEvaluationDue, IsTurnOf, HasLooks};
+
+use flow_model::laws::{
+    callers_find_their_calls, callers_have_their_calls, evaluations_stay, histories_are_bounded,
+    histories_are_lawful, lawful_stays, next_at_is_allowed, next_is_allowed,
+};
+use flow_model::stored_laws::histories_have_bounds;
+
+/// In a later history a caller has begun the same calls, with the same versions.
+pub fn own_calls_stay()
+    ensures { (graph : Graph) (callers limit caller : ℕ) (front later : List Move) → IsLater graph callers limit caller front later
+        → begun_by caller later ≡ begun_by caller front }
+{}
+
+/// Each history is later than itself, and what is later than a later one is later.
+pub fn later_goes_on()
+    ensures same { (graph : Graph) (callers limit caller : ℕ) (front : List Move) → is_history graph callers limit front ≡ true
+        → IsLater graph callers limit caller front front }
+    ensures on { (graph : Graph) (callers limit caller : ℕ) (front later last : List Move)
+        → IsLater graph callers limit caller front later → IsLater graph callers limit caller later last
+        → IsLater graph callers limit caller front last }
+{}
+
+/// Where entries are a history, each under the key of the caller whose own move it is, a prefix with all entries of a caller's key is
+/// a front of that caller. An entry more with its key keeps that.
+pub fn keys_tell_fronts()
+    ensures front { (graph : Graph) (callers limit caller : ℕ) (shorter entries : List (Entry Move)) → 0 < caller
+        → is_history graph callers limit (events entries) ≡ true → AreKeyed graph (opening graph callers limit) entries
+        → IsPrefixWithAll caller shorter entries
+        → IsLater graph callers limit caller (events shorter) (events entries) }
+    ensures history { (graph : Graph) (callers limit : ℕ) (moves : List Move) (move : Move) → is_history graph callers limit moves ≡ true
+        → may graph (state graph callers limit moves) move ≡ true
+        → (is_history graph callers limit (moves ++ move ∷ []) ≡ true)
+        × (state graph callers limit (moves ++ move ∷ []) ≡ after_move graph (state graph callers limit moves) move) }
+    ensures keyed { (graph : Graph) (callers limit : ℕ) (entries : List (Entry Move)) (entry : Entry Move)
+        → AreKeyed graph (opening graph callers limit) entries
+        → entry.first_key ≡ caller_of (state graph callers limit (events entries)) entry.event → entry.second_key ≡ 0
+        → AreKeyed graph (opening graph callers limit) (entries ++ entry ∷ []) }
+{}
+
+/// After moves of others an idle caller is idle. A caller within a call is, its call asks the same, and its jobs that are out find the
+/// same.
+pub fn tokens_stay()
+    ensures idle { (graph : Graph) (callers limit caller : ℕ) (front later : List Move) → IsLater graph callers limit caller front later
+        → IsIdle graph callers limit caller front
+        → IsIdle graph callers limit caller later }
+    ensures going { (graph : Graph) → IsGraph graph → (callers limit caller version : ℕ) (nodes : List ℕ) (front later : List Move)
+        → IsLater graph callers limit caller front later → IsGoing graph callers limit caller version nodes front
+        → IsGoing graph callers limit caller version nodes later }
+    ensures jobs { (graph : Graph) → IsGraph graph → (callers limit caller version : ℕ) (nodes : List ℕ) (front later : List Move)
+        → IsLater graph callers limit caller front later → IsGoing graph callers limit caller version nodes front
+        → jobs_at graph (state graph callers limit later) version nodes ≡ jobs_at graph (state graph callers limit front) version nodes }
+    ensures looks { (graph : Graph) (callers limit caller version room : ℕ) (nodes : List ℕ) (front later : List Move)
+        → IsLater graph callers limit caller front later → IsGoing graph callers limit caller version nodes front
+        → HasLooks graph callers limit version front room
+        → HasLooks graph callers limit version later room }
+{
+    callers_find_their_calls();
+    histories_are_lawful();
+}
+
+/// What comes next for a live call is a turn of it, also at a given node.
+pub fn turns_are_of_calls()
+    ensures next { (graph : Graph) → IsGraph graph → (s : Core) → IsLawful graph s → (t : ℕ) → live s t ≡ true
+        → IsTurnOf graph s t (next graph s t) }
+    ensures next_at { (graph : Graph) (s : Core) → IsLawful graph s → (t n : ℕ) → live s t ≡ true
+        → IsTurnOf graph s t (next_at graph s t n) }
+{
+    next_is_allowed();
+    next_at_is_allowed();
+}
