@@ -6,7 +6,7 @@ use Rattle.flow_model.specs.Machine.State.{Core, opening}
 use Rattle.flow_model.specs.Machine.Histories.{Move, Begin, Make, after_move, after_moves, state, is_history}
 use Rattle.flow_model.specs.Follows.Callers.{begun_from, begun_by, count_begins}
 use Rattle.flow_model.specs.Follows.Others.{none_by, caller_of}
-use Rattle.flow_model.proofs.Histories.Moves.{may_parts, after_parts}
+use Rattle.flow_model.proofs.Histories.Moves.{after_parts}
 use Rattle.flow_model.proofs.General.Truths.{and_both, and_make}
 use Rattle.caller_fronts.specs.Fronts.{IsLater}
 
@@ -30,7 +30,7 @@ pub begun-append : (k from : ℕ) (xs ys : List Move) → begun_from k from (xs 
 begun-append k from [] ys = ap (λ (n : ℕ). begun_from k n ys) (omega arith)
 begun-append k from (Begin caller call ∷ xs) ys =
     let r : begun_from k (suc from) (xs ++ ys) ≡ begun_from k (suc from) xs ++ begun_from k (from + suc (count_begins xs)) ys
-        = begun-append k (suc from) xs ys ∙ ap (λ (n : ℕ). begun_from k (suc from) xs ++ begun_from k n ys) (omega arith) in
+    = begun-append k (suc from) xs ys ∙ ap (λ (n : ℕ). begun_from k (suc from) xs ++ begun_from k n ys) (omega arith) in
     go (caller == k) r
   where
     go : (b : Bool) → begun_from k (suc from) (xs ++ ys) ≡ begun_from k (suc from) xs ++ begun_from k (from + suc (count_begins xs)) ys

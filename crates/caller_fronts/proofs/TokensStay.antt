@@ -1,5 +1,5 @@
 -- What a caller finds again in a later history.
-use Rattle.std.proofs.Common.{◌≡◌, ◌⊎◌, inl, inr, ⊎_elim, ℕ, Bool, true, false, not, ◌&&◌, ◌||◌, ◌==◌, List, [], ◌∷◌, ◌++◌, map, refl, sym, ap, ap₂, ◌∙◌, subst, arith}
+use Rattle.std.proofs.Common.{◌≡◌, inl, inr, ⊎_elim, ℕ, Bool, true, false, not, List, [], ◌∷◌, map, refl, sym, ap, ap₂, ◌∙◌, subst}
 use Rattle.signal_graph.specs.Graph.{Graph, is_in}
 use Rattle.flow_model.specs.declared.step.Step.TheVariants as steps
 use Rattle.flow_model.specs.Machine.State.{Core, opening}
@@ -12,7 +12,7 @@ use Rattle.flow_state.specs.declared.outcome.Outcome.TheVariants as outcome
 use Rattle.flow_state.specs.declared.outcome.Answer.{Answer}
 use Rattle.flow_state.specs.Jobs.{outcome_in}
 use Rattle.caller_fronts.specs.Fronts.{IsLater}
-use Rattle.caller_fronts.specs.Jobs.{job_at, jobs_at}
+use Rattle.caller_fronts.specs.Jobs.{job_at}
 use Rattle.caller_fronts.specs.Tokens.{IsEvaluationDue}
 
 -- ---- the moves behind a front

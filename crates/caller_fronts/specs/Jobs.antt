@@ -1,5 +1,5 @@
 -- Jobs that are out: evaluations that go on with no lock held.
-use Rattle.std.specs.Prelude.{◌≡◌, ℕ, Bool, true, false, not, ◌==◌, nat_lt, List, [], ◌∷◌, map, filter, find, Option, is_some}
+use Rattle.std.specs.Prelude.{ℕ, Bool, true, false, not, ◌==◌, nat_lt, List, [], ◌∷◌, map, filter, find, Option, is_some}
 use Rattle.signal_graph.specs.Graph.{Graph}
 use Rattle.flow_model.specs.Machine.State.{Core}
 use Rattle.flow_model.specs.Machine.Words.{is_found, found_now, body_now}

@@ -61,9 +61,12 @@ abbrev pub HasLooks : Graph → ℕ → ℕ → ℕ → List Move → ℕ → Ty
 HasLooks graph callers limit version moves room =
     length (looks_of (call (state graph callers limit moves) version).call) ≤ room
 
+-- The step is none of the evaluations of a call at these nodes.
+abbrev pub IsNoJob : ℕ → List ℕ → Step → Type 0
+IsNoJob version nodes step = (n : ℕ) → is_in n nodes ≡ true → (step ≢ Evaluate version n) × (step ≢ Body version n)
+
 -- The turn is one of the call: a step in it is allowed and not the call's end, and nobody else's own.
 pub record IsTurnOf (graph : Graph) (s : Core) (version : ℕ) (x : Turn) : Type 0 where
   pub allowed : (step : Step) → x ≡ turn.Step step → allowed graph s step ≡ true
   pub own : (step : Step) → x ≡ turn.Step step → is_own_step step ≡ true → version_of_step step ≡ Some version
   pub goes_on : (step : Step) → x ≡ turn.Step step → step ≢ End version
-

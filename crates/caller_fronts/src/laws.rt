@@ -1,6 +1,6 @@
 //! Laws of fronts, of idle callers, and of callers within a call. The functions do nothing when they run.
 
-ghost use Rattle.std.specs.Prelude.{◌≡◌, ◌≢◌, ℕ, ◌<◌, ◌≤◌, ◌^◌, List, [], ◌∷◌, ◌++◌, length, Some, true};
+ghost use Rattle.std.specs.Prelude.{◌≡◌, ◌≢◌, ℕ, ◌<◌, ◌≤◌, ◌^◌, List, [], ◌∷◌, ◌++◌, length, suc, Some, None, true, false};
 ghost use Rattle.script_tree.specs.declared.limits.TheConstants.{VERSIONS};
 ghost use Rattle.signal_graph.specs.declared.call.Call.{Call};
 ghost use Rattle.signal_graph.specs.Graph.{Graph, IsGraph, is_in};
@@ -12,6 +12,7 @@ ghost use Rattle.flow_model.specs.declared.step.Step.TheVariants as steps;
 ghost use Rattle.flow_model.specs.declared.step.Turn.TheVariants as turn;
 ghost use Rattle.flow_model.specs.Machine.Keys.{version_of_step, is_own_step};
 ghost use Rattle.flow_model.specs.Machine.Next.{next, next_at};
+ghost use Rattle.flow_model.specs.Machine.Schedules.{version_of};
 ghost use Rattle.flow_model.specs.Machine.Sets.{put, take_out};
 ghost use Rattle.flow_model.specs.Machine.State.{Core, live, call, opening};
 ghost use Rattle.flow_model.specs.Machine.Steps.{allowed, can_begin, has_call};
@@ -24,11 +25,11 @@ ghost use Rattle.flow_state.specs.Answers.{step_of, IsRight};
 ghost use Rattle.caller_fronts.specs.Fronts.{IsLater};
 ghost use Rattle.caller_fronts.specs.Jobs.{job_at, jobs_at, job_of, with_job, without_job};
 ghost use Rattle.caller_fronts.specs.Keys.{AreKeyed, key_for};
-ghost use Rattle.caller_fronts.specs.Tokens.{IsIdle, IsGoing, IsEvaluationDue, IsTurnOf, HasLooks};
+ghost use Rattle.caller_fronts.specs.Tokens.{IsIdle, IsGoing, IsEvaluationDue, IsTurnOf, IsNoJob, HasLooks};
 
 use flow_model::laws::{
     callers_find_their_calls, callers_have_their_calls, evaluations_stay, histories_are_bounded,
-    histories_are_lawful, lawful_stays, next_at_is_allowed, next_is_allowed,
+    histories_are_lawful, next_at_is_allowed, next_is_allowed, steps_come_in_time,
 };
 use flow_model::stored_laws::histories_have_bounds;
 
@@ -94,4 +95,109 @@ pub fn turns_are_of_calls()
 {
     next_is_allowed();
     next_at_is_allowed();
+}
+
+/// The jobs that are out, by their nodes: which there are, with one more or less, and that each is right while its evaluation is due.
+pub fn jobs_have_nodes()
+    ensures out { (graph : Graph) (s : Core) (t n : ℕ) (nodes : List ℕ) (answer : Answer) → job_of n (jobs_at graph s t nodes) ≡ Some answer
+        → (is_in n nodes ≡ true) × (answer ≡ job_at graph s t n) }
+    ensures some { (graph : Graph) (s : Core) (t n : ℕ) (nodes : List ℕ) → is_in n nodes ≡ true
+        → job_of n (jobs_at graph s t nodes) ≡ Some (job_at graph s t n) }
+    ensures none { (graph : Graph) (s : Core) (t n : ℕ) (nodes : List ℕ) → is_in n nodes ≡ false
+        → job_of n (jobs_at graph s t nodes) ≡ None }
+    ensures more { (graph : Graph) (s : Core) (t n : ℕ) (nodes : List ℕ) → is_in n nodes ≡ false
+        → jobs_at graph s t (put n nodes) ≡ with_job (job_at graph s t n) (jobs_at graph s t nodes) }
+    ensures less { (graph : Graph) (s : Core) (t n : ℕ) (nodes : List ℕ)
+        → jobs_at graph s t (take_out n nodes) ≡ without_job n (jobs_at graph s t nodes) }
+    ensures evaluate { (graph : Graph) (s : Core) (t n : ℕ) → allowed graph s (steps.Evaluate t n) ≡ true
+        → (step_of (job_at graph s t n) ≡ steps.Evaluate t n) × IsRight graph s (job_at graph s t n) }
+    ensures body { (graph : Graph) (s : Core) (t n : ℕ) → allowed graph s (steps.Body t n) ≡ true
+        → (step_of (job_at graph s t n) ≡ steps.Body t n) × IsRight graph s (job_at graph s t n) }
+    ensures is_evaluate { (graph : Graph) (s : Core) (t n : ℕ) (answer : Answer) → allowed graph s (steps.Evaluate t n) ≡ true
+        → step_of answer ≡ steps.Evaluate t n → IsRight graph s answer
+        → answer ≡ job_at graph s t n }
+    ensures is_body { (graph : Graph) (s : Core) (t n : ℕ) (answer : Answer) → allowed graph s (steps.Body t n) ≡ true
+        → step_of answer ≡ steps.Body t n → IsRight graph s answer
+        → answer ≡ job_at graph s t n }
+{}
+
+/// After a step of a turn of a live call, or of anybody but its caller, that is not its end: it lives and asks the same, and its jobs
+/// that are out, of which the step is none, find the same.
+pub fn steps_keep_calls()
+    ensures whose { (s : Core) (caller version : ℕ) (step : Step) → (call s version).caller ≡ caller
+        → (is_own_step step ≡ true → version_of_step step ≡ Some version)
+        → caller_of s (Make step) ≡ key_for caller step }
+    ensures going { (graph : Graph) → IsGraph graph → (callers limit caller version : ℕ) (nodes : List ℕ) (moves : List Move) (step : Step)
+        → IsGoing graph callers limit caller version nodes moves → allowed graph (state graph callers limit moves) step ≡ true
+        → step ≢ steps.End version → IsNoJob version nodes step
+        → IsGoing graph callers limit caller version nodes (moves ++ Make step ∷ []) }
+    ensures jobs { (graph : Graph) → IsGraph graph → (callers limit caller version : ℕ) (nodes : List ℕ) (moves : List Move) (step : Step)
+        → IsGoing graph callers limit caller version nodes moves → allowed graph (state graph callers limit moves) step ≡ true
+        → IsNoJob version nodes step
+        → jobs_at graph (state graph callers limit (moves ++ Make step ∷ [])) version nodes
+        ≡ jobs_at graph (state graph callers limit moves) version nodes }
+    ensures looks { (graph : Graph) (callers limit caller version room : ℕ) (nodes : List ℕ) (moves : List Move) (step : Step)
+        → IsGoing graph callers limit caller version nodes moves → allowed graph (state graph callers limit moves) step ≡ true
+        → step ≢ steps.End version → HasLooks graph callers limit version moves room
+        → HasLooks graph callers limit version (moves ++ Make step ∷ []) room }
+    ensures fewer { (graph : Graph) (callers limit caller version n : ℕ) (nodes : List ℕ) (moves : List Move)
+        → IsGoing graph callers limit caller version nodes moves
+        → IsGoing graph callers limit caller version (take_out n nodes) moves }
+    ensures more { (graph : Graph) (callers limit caller version n : ℕ) (nodes : List ℕ) (moves : List Move)
+        → IsGoing graph callers limit caller version nodes moves → IsEvaluationDue graph (state graph callers limit moves) version n
+        → IsGoing graph callers limit caller version (put n nodes) moves }
+{
+    evaluations_stay();
+    histories_are_lawful();
+}
+
+/// After a beginning that may be made its call lives, with no job out, and asks what it was begun with.
+pub fn beginnings_make_calls()
+    ensures begun { (graph : Graph) (callers limit : ℕ) (moves : List Move) → is_history graph callers limit moves ≡ true
+        → (state graph callers limit moves).begun ≡ count_begins moves }
+    ensures going { (graph : Graph) → IsGraph graph → (callers limit caller : ℕ) (moves : List Move) (call : Call)
+        → IsIdle graph callers limit caller moves → can_begin graph (state graph callers limit moves) caller call ≡ true
+        → IsGoing graph callers limit caller (suc (count_begins moves)) [] (moves ++ Begin caller call ∷ []) }
+    ensures looks { (graph : Graph) → IsGraph graph → (callers limit caller : ℕ) (moves : List Move) (call : Call)
+        → IsIdle graph callers limit caller moves → can_begin graph (state graph callers limit moves) caller call ≡ true
+        → HasLooks graph callers limit (suc (count_begins moves)) (moves ++ Begin caller call ∷ []) (length (looks_of call)) }
+    ensures free { (graph : Graph) (callers limit caller : ℕ) (moves : List Move) → IsIdle graph callers limit caller moves
+        → version_of caller (state graph callers limit moves).calls ≡ None }
+{
+    callers_have_their_calls();
+    histories_are_lawful();
+}
+
+/// Where a live call may end it has no job out, and its caller is idle afterwards.
+pub fn ends_leave_callers_idle()
+    ensures jobs { (graph : Graph) → IsGraph graph → (callers limit caller version : ℕ) (nodes : List ℕ) (moves : List Move)
+        → IsGoing graph callers limit caller version nodes moves
+        → allowed graph (state graph callers limit moves) (steps.End version) ≡ true
+        → nodes ≡ [] }
+    ensures idle { (graph : Graph) (callers limit caller version : ℕ) (nodes : List ℕ) (moves : List Move)
+        → IsGoing graph callers limit caller version nodes moves
+        → allowed graph (state graph callers limit moves) (steps.End version) ≡ true
+        → IsIdle graph callers limit caller (moves ++ Make (steps.End version) ∷ []) }
+    ensures none_live { (graph : Graph) → IsGraph graph → (callers limit : ℕ) (moves : List Move)
+        → is_history graph callers limit moves ≡ true
+        → ((k : ℕ) → 0 < k → k ≤ callers → has_call k (state graph callers limit moves).calls ≡ false)
+        → (state graph callers limit moves).calls ≡ [] }
+{
+    callers_have_their_calls();
+    evaluations_stay();
+    steps_come_in_time();
+    histories_are_lawful();
+    histories_have_bounds();
+}
+
+/// A history of so many versions has fewer moves than a word can count.
+pub fn histories_are_short()
+    ensures { (graph : Graph) → IsGraph graph → (callers limit : ℕ) (moves : List Move) → limit ≤ VERSIONS
+        → is_history graph callers limit moves ≡ true
+        → length moves < 2 ^ 63 }
+{
+    histories_are_bounded();
+    histories_are_lawful();
+    callers_have_their_calls();
+    histories_have_bounds();
 }

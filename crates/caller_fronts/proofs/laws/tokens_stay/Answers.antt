@@ -1,4 +1,4 @@
-use Rattle.std.proofs.Common.{◌≡◌, ◌≤◌, ℕ, true, false, List, length, sym, ap, ◌∙◌, subst}
+use Rattle.std.proofs.Common.{◌≡◌, ◌≤◌, ℕ, true, false, length, sym, ap, ◌∙◌, subst}
 use Rattle.signal_graph.specs.declared.call.Call.{Call}
 use Rattle.signal_graph.specs.Machine.{looks_of}
 use Rattle.flow_model.specs.Machine.State.{Core, live, call}
@@ -46,8 +46,8 @@ returns-clause-jobs c graph is_graph callers limit caller version nodes front la
     let lawful = c.histories_are_lawful.ensures graph is_graph callers limit front h.history in
     let others = subst (λ (k : ℕ). none_by graph k s l.rest ≡ true) (sym h.whose) l.others in
     ap (λ (q : Core). jobs_at graph q version nodes) is ∙ maps-same (job_at graph (after_moves graph s l.rest) version) (job_at graph s version) nodes (λ n i. job-stays graph s (after_moves graph s l.rest) version n
-        (λ a. c.callers_find_their_calls.ensures.node graph is_graph s lawful l.rest may version n others a)
-        (λ a. c.callers_find_their_calls.ensures.body graph is_graph s lawful l.rest may version n others a) (h.due n i))
+    (λ a. c.callers_find_their_calls.ensures.node graph is_graph s lawful l.rest may version n others a)
+    (λ a. c.callers_find_their_calls.ensures.body graph is_graph s lawful l.rest may version n others a) (h.due n i))
 
 pub returns-clause-looks : goal.returns-clause-looks
 returns-clause-looks c graph callers limit caller version room nodes front later l h fits =
