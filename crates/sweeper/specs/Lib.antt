@@ -1,0 +1,5 @@
+pub mod Answers
+pub mod Ends
+pub mod Kept
+pub mod Moves
+pub mod Tokens

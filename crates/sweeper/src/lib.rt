@@ -1,0 +1,16 @@
+//! Threads over one core: callers begin calls and make their steps one at a time, each step under one short lock.
+#![tactic(auto)]
+
+mod list;
+mod locked;
+mod moves;
+mod naming;
+mod shared;
+mod token;
+
+pub use interleave_core::Refusal;
+pub use list::PassList;
+pub use moves::Move;
+pub use naming::Naming;
+pub use shared::{Closed, Sweeper, open_sweeper};
+pub use token::{Advance, Begun, Ended, Live, Pass};

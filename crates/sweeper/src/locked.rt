@@ -1,0 +1,746 @@
+// What lies under the lock.
+
+ghost use Rattle.std.specs.Prelude.{◌≡◌, ◌<◌, ◌≤◌, ◌^◌, ◌++◌, ◌∷◌, ◌+◌, suc, [], length, true, false, None, Some, option_map};
+ghost use Rattle.std.specs.Prelude.{replicate, vec_capacity, ℕ, IfOk, IfErr, OnOk, OnErr};
+ghost use Rattle.script_tree.specs.declared.limits.TheConstants.{NODES, THREADS, VERSIONS};
+ghost use Rattle.node_set.specs.Members.{no_members, first_from};
+ghost use Rattle.signal_graph.specs.Machine.{looks_of};
+ghost use Rattle.chronicle.specs.Entries.{events};
+ghost use Rattle.chronicle.specs.Keys.{is_out, out_with, out_without};
+ghost use Rattle.flow_state.specs.Answers.{step_of, IsRight};
+ghost use Rattle.flow_model.specs.declared.step.Step.TheVariants as step;
+ghost use Rattle.flow_model.specs.declared.step.Turn.TheVariants as turns;
+ghost use Rattle.flow_model.specs.Machine.State.{call, live};
+ghost use Rattle.flow_model.specs.Machine.Steps.{allowed, can_begin, reply_of};
+ghost use Rattle.flow_model.specs.Machine.Next.{next, next_at, why_not_ended};
+ghost use Rattle.flow_model.specs.Machine.Histories.{Begin, Make, state, is_history};
+ghost use Rattle.flow_model.specs.Follows.Callers.{IsWithin, count_begins};
+ghost use Rattle.flow_model.specs.Follows.Others.{caller_of};
+ghost use Rattle.flow_model.specs.Follows.Bounds.{looks_of_reply};
+ghost use Rattle.interleave_core.specs.Beginning.{why_of};
+ghost use Rattle.interleave_core.specs.Rooms.{IsRoomFor};
+ghost use Rattle.interleave_core.specs.Whole.{IsDue};
+ghost use Rattle.sweeper.specs.Answers.{Begins, Starts, Advances, AdvancesAt, Finishes, Takes, HandsOut, plain_step};
+ghost use Rattle.sweeper.specs.Answers.{refused_after, seen, stepped, handed_in};
+ghost use Rattle.sweeper.specs.Ends.{Closes, HasAllPasses, Settles, EndsAt, fresh};
+ghost use Rattle.caller_fronts.specs.Fronts.{IsLater};
+ghost use Rattle.caller_fronts.specs.Jobs.{job_of, jobs_at};
+ghost use Rattle.caller_fronts.specs.Keys.{key_for};
+ghost use Rattle.caller_fronts.specs.Tokens.{IsIdle, IsTurnOf};
+ghost use Rattle.sweeper.specs.Tokens.{HasLastReply, IsMet, met_at, last_of};
+
+use crate::list::PassList;
+use crate::moves::{Answered, Beginning, Made, Move};
+use crate::naming::Naming;
+use crate::shared::Closed;
+use crate::token::{Advance, Begun, Ended, Live, Pass};
+use caller_fronts::laws::{
+    beginnings_make_calls, ends_leave_callers_idle, histories_are_short, jobs_have_nodes,
+    keys_tell_fronts, own_calls_stay, steps_keep_calls, tokens_stay, turns_are_of_calls,
+};
+use chronicle::{Note, Writer};
+use flow_model::laws::{
+    causes_are_exact, histories_are_lawful, logs_are_legal, logs_have_all_calls,
+};
+use flow_model::stored_laws::{histories_have_bounds, states_are_bounded};
+use flow_model::{Cause, Step, Turn};
+use flow_state::{Answer, Room};
+use interleave_core::{Core, Refusal};
+use node_set::NodeSet;
+use script_tree::items::Items;
+use script_tree::memory::OutOfMemory;
+use script_tree::value::Value;
+use signal_graph::call::{Call, Reply, ValueList};
+use signal_graph::graph::Graph;
+use std::alloc::Global;
+use std::marker::{Model, PhantomData};
+use std::snapshot::Snapshot;
+
+/// The machine and its history. Contracts see the moves so far, the keys of callers that are out, and how many rooms are.
+#[derive(Drop)]
+pub(crate) struct Locked<'g, J: Naming> {
+    core: Core<'g>,
+    writer: Writer<Move>,
+    // How many callers wait for a move.
+    waiting: u32,
+    of: PhantomData<J>,
+}
+
+impl<'g, J: Naming> Model for Locked<'g, J> {
+    ghost use Rattle.std.specs.Prelude.{◌≡◌};
+    ghost use Rattle.chronicle.specs.Entries.{events};
+    ghost use Rattle.sweeper.specs.Tokens.{Held};
+    ghost use Rattle.sweeper.specs.Kept.{IsKept};
+
+    ghost Value = { Held };
+
+    ghost view = { λ l. record { moves = events l.writer.list; out = l.writer.out; rooms = l.core.rooms } };
+
+    ghost invariant = { λ l. (l.writer.table ≡ J.table) × IsKept J.graph J.callers J.limit l.core l.writer.list };
+}
+
+/// A live call whose note was taken back.
+pub(crate) struct Met {
+    caller: u32,
+    version: u32,
+    out: NodeSet,
+    looks: Vec<Value>,
+}
+
+/// What a call takes besides its room: a copy of it, and room for the looks of the reply that the caller gets. It is made before the
+/// lock is taken.
+#[derive(Drop)]
+pub(crate) struct Prepared {
+    call: Call,
+    looks: Vec<Value>,
+}
+
+impl Prepared {
+    pub(crate) fn new(alloc: Global, call: &Call) -> Result<Prepared, OutOfMemory>
+        ensures { IfOk result (λ p. (p.call ≡ call.now) × (p.looks.items ≡ []) × (length (looks_of call.now) ≤ vec_capacity p.looks)) }
+    {
+        let looks = Vec::with_capacity(alloc, call.looks().len())?;
+        let call = call.copy(alloc)?;
+        Ok(Prepared { call, looks })
+    }
+}
+
+impl<'g, J: Naming> Locked<'g, J> {
+    pub(crate) fn new(
+        alloc: Global,
+        graph: &'g Graph,
+        writer: Writer<Move>,
+        callers: u32,
+        versions: u32,
+    ) -> Result<Locked<'g, J>, OutOfMemory>
+        requires some { 1 ≤ callers }
+        requires few { callers ≤ THREADS }
+        requires versions { versions ≤ VERSIONS }
+        requires named { (J.table ≡ writer.table) × (J.graph ≡ graph.now) × (J.callers ≡ callers) × (J.limit ≡ versions) }
+        requires new { (writer.list ≡ []) × (writer.out ≡ []) }
+        ensures { IfOk result (λ locked. locked ≡ record { moves = []; out = []; rooms = 0 }) }
+    {
+        let core = Core::new(alloc, graph, callers, versions)?;
+        Ok(Locked {
+            core,
+            writer,
+            waiting: 0,
+            of: PhantomData,
+        })
+    }
+
+    /// The passes of all callers, which have seen nothing. Takes memory.
+    pub(crate) fn first_passes(
+        &mut self,
+        alloc: Global,
+        nodes: u32,
+        callers: u32,
+    ) -> Result<PassList<J>, OutOfMemory>
+        requires callers { (callers ≡ J.callers) × (callers ≤ THREADS) }
+        requires nodes { nodes ≡ length J.graph.nodes }
+        requires first { (self.old.moves ≡ []) × (self.old.out ≡ []) }
+        ensures { IfOk result (λ passes. passes ≡ fresh 1 callers) }
+    {
+        let _ = &self.core;
+        let sets = empty_sets(alloc, nodes, callers)?;
+        let mut passes = PassList::new(alloc, callers as usize)?;
+        let mut caller = 0;
+        for out in sets {
+            caller += 1;
+            passes.push(self.first_pass(caller, out));
+        }
+        Ok(passes)
+    }
+
+    // The pass of a caller that has seen nothing.
+    fn first_pass(&mut self, caller: u32, out: NodeSet) -> Pass<J>
+        requires caller { (0 < caller) × (caller ≤ J.callers) }
+        requires nodes { out ≡ no_members (length J.graph.nodes) }
+        requires first { self.old.moves ≡ [] }
+        requires free { is_out caller self.old.out ≡ false }
+        ensures pass { result ≡ record { caller = caller; front = [] } }
+        ensures after { self.new ≡ record self.old { out = out_with caller self.old.out } }
+    {
+        let note = self.note(caller);
+        Pass {
+            caller,
+            note,
+            out,
+            of: PhantomData,
+        }
+    }
+
+    /// How many moves were made.
+    pub(crate) fn len(&self) -> u64
+        ensures { result ≡ length self.now.moves }
+    {
+        self.writer.len()
+    }
+
+    /// A caller waits for a move from now on.
+    pub(crate) fn wait(&mut self)
+        ensures { self.new ≡ self.old }
+    {
+        self.waiting = self.waiting.saturating_add(1);
+    }
+
+    /// A caller waits no more.
+    pub(crate) fn wait_no_more(&mut self)
+        ensures { self.new ≡ self.old }
+    {
+        self.waiting = self.waiting.saturating_sub(1);
+    }
+
+    /// Whether any caller waits for a move.
+    pub(crate) fn is_awaited(&self) -> bool {
+        self.waiting > 0
+    }
+
+    // Takes a note back: what it has not seen are moves that are not its caller's own.
+    fn learn(&mut self, note: Note<Move>)
+        requires table { note.table ≡ J.table }
+        requires some { 0 < note.key }
+        ensures later { IsLater J.graph J.callers J.limit note.key (events note.list) self.old.moves }
+        ensures free { is_out note.key self.new.out ≡ false }
+        ensures after { self.new ≡ record self.old { out = out_without note.key self.old.out } }
+    {
+        keys_tell_fronts();
+        self.writer.retire(note);
+    }
+
+    // A note of a caller, with all moves so far.
+    fn note(&mut self, caller: u32) -> Note<Move>
+        requires { is_out caller self.old.out ≡ false }
+        ensures note { (result.table ≡ J.table) × (result.key ≡ caller) × (events result.list ≡ self.old.moves) }
+        ensures after { self.new ≡ record self.old { out = out_with caller self.old.out } }
+    {
+        self.writer.note(u64::from(caller))
+    }
+
+    // Makes a step of a caller.
+    fn make(&mut self, caller: u32, step: Step)
+        requires allowed { allowed J.graph (state J.graph J.callers J.limit self.old.moves) step ≡ true }
+        requires whose { caller_of (state J.graph J.callers J.limit self.old.moves) (Make step) ≡ key_for caller step }
+        requires free { is_out caller self.old.out ≡ false }
+        ensures { self.new ≡ record self.old { moves = self.old.moves ++ Make step ∷ [] } }
+    {
+        keys_tell_fronts();
+        histories_are_short();
+        let made = Made {
+            caller: Snapshot::of(&caller),
+            step: Snapshot::of(&step),
+        };
+        self.core.apply(step);
+        self.writer.append(made);
+    }
+
+    /// Begins a call of an idle caller, of which a copy and room for the looks are made already, if there was memory.
+    pub(crate) fn begin(
+        &mut self,
+        alloc: Global,
+        pass: Pass<J>,
+        call: &Call,
+        prepared: Result<Prepared, OutOfMemory>,
+    ) -> Begun<J>
+        requires within { IsWithin call.now }
+        requires copy { IfOk prepared (λ p. (p.call ≡ call.now) × (p.looks.items ≡ [])
+            × (length (looks_of call.now) ≤ vec_capacity p.looks)) }
+        ensures later { IsLater J.graph J.callers J.limit pass.caller pass.front self.old.moves }
+        ensures answer { Begins J.graph J.callers J.limit pass call.now self.old.moves result }
+    {
+        tokens_stay();
+        let Pass {
+            caller,
+            note,
+            out,
+            of: _,
+        } = pass;
+        self.learn(note);
+        match self.admit(alloc, call) {
+            Ok(room) => self.start(caller, out, prepared, room),
+            Err(refusal) => Begun::Refused(self.pass(caller, out), refusal),
+        }
+    }
+
+    // Whether a call may begin, and if so the room that it needs.
+    fn admit(&mut self, alloc: Global, call: &Call) -> Result<Room, Refusal>
+        requires { IsWithin call.now }
+        ensures ok { OnOk result (self.new ≡ record self.old { rooms = suc self.old.rooms }) }
+        ensures err { OnErr result (self.new ≡ self.old) }
+        ensures room { IfOk result (IsRoomFor J.graph call.now) }
+        ensures fits { OnOk result (refused_after J.graph J.limit call.now self.old.moves ≡ None) }
+        ensures begins { OnOk result ((caller : ℕ) → IsIdle J.graph J.callers J.limit caller self.old.moves
+            → can_begin J.graph (state J.graph J.callers J.limit self.old.moves) caller call.now ≡ true) }
+        ensures why { IfErr result (λ refusal. why_of refusal ≡ refused_after J.graph J.limit call.now self.old.moves) }
+    {
+        beginnings_make_calls();
+        histories_have_bounds();
+        self.core.admit(alloc, call)
+    }
+
+    // The pass of a caller that has no live call.
+    fn pass(&mut self, caller: u32, out: NodeSet) -> Pass<J>
+        requires idle { IsIdle J.graph J.callers J.limit caller self.old.moves }
+        requires nodes { out ≡ no_members (length J.graph.nodes) }
+        requires free { is_out caller self.old.out ≡ false }
+        ensures pass { result ≡ record { caller = caller; front = self.old.moves } }
+        ensures after { self.new ≡ record self.old { out = out_with caller self.old.out } }
+    {
+        let note = self.note(caller);
+        Pass {
+            caller,
+            note,
+            out,
+            of: PhantomData,
+        }
+    }
+
+    // A call of an idle caller that is admitted, unless there is no memory for it.
+    fn start(
+        &mut self,
+        caller: u32,
+        out: NodeSet,
+        prepared: Result<Prepared, OutOfMemory>,
+        room: Room,
+    ) -> Begun<J>
+        requires idle { IsIdle J.graph J.callers J.limit caller self.old.moves }
+        requires nodes { out ≡ no_members (length J.graph.nodes) }
+        requires free { is_out caller self.old.out ≡ false }
+        requires can { IfOk prepared (λ p. can_begin J.graph (state J.graph J.callers J.limit self.old.moves) caller p.call ≡ true) }
+        requires looks { IfOk prepared (λ p. (p.looks.items ≡ []) × (length (looks_of p.call) ≤ vec_capacity p.looks)) }
+        requires room { IfOk prepared (λ p. IsRoomFor J.graph p.call room) }
+        requires rooms { 0 < self.old.rooms }
+        ensures { Starts J.graph J.callers J.limit caller self.old.moves prepared result }
+    {
+        match prepared {
+            Ok(prepared) => {
+                let Prepared { call, looks } = prepared;
+                Begun::Live(self.start_call(caller, out, looks, call, room))
+            }
+            Err(_) => {
+                self.core.give_back(room);
+                Begun::Refused(self.pass(caller, out), Refusal::Memory)
+            }
+        }
+    }
+
+    // The call begins.
+    fn start_call(
+        &mut self,
+        caller: u32,
+        out: NodeSet,
+        looks: Vec<Value>,
+        call: Call,
+        room: Room,
+    ) -> Live<J>
+        requires idle { IsIdle J.graph J.callers J.limit caller self.old.moves }
+        requires nodes { out ≡ no_members (length J.graph.nodes) }
+        requires free { is_out caller self.old.out ≡ false }
+        requires can { can_begin J.graph (state J.graph J.callers J.limit self.old.moves) caller call ≡ true }
+        requires looks { (looks.items ≡ []) × (length (looks_of call) ≤ vec_capacity looks) }
+        requires room { IsRoomFor J.graph call room }
+        requires rooms { 0 < self.old.rooms }
+        ensures { result ≡ record {
+          caller = caller;
+          front = self.old.moves ++ Begin caller call ∷ [];
+          version = suc (count_begins self.old.moves);
+          out = [];
+        } }
+    {
+        let _ = &self.core;
+        beginnings_make_calls();
+        let version = self.make_beginning(caller, call, room);
+        self.live(Met {
+            caller,
+            version,
+            out,
+            looks,
+        })
+    }
+
+    // Makes a beginning.
+    fn make_beginning(&mut self, caller: u32, call: Call, room: Room) -> u32
+        requires can { can_begin J.graph (state J.graph J.callers J.limit self.old.moves) caller call ≡ true }
+        requires room { IsRoomFor J.graph call room }
+        requires rooms { 0 < self.old.rooms }
+        requires free { is_out caller self.old.out ≡ false }
+        ensures version { result ≡ suc (count_begins self.old.moves) }
+        ensures moves { self.new.moves ≡ self.old.moves ++ Begin caller call ∷ [] }
+        ensures out { self.new.out ≡ self.old.out }
+    {
+        beginnings_make_calls();
+        keys_tell_fronts();
+        histories_are_short();
+        let beginning = Beginning {
+            caller: Snapshot::of(&caller),
+            call: Snapshot::of(&call),
+        };
+        let version = self.core.begin(caller, call, room);
+        self.writer.append(beginning);
+        version
+    }
+
+    /// Makes the step that comes next for a live call, or says why there is none, or gives the job that comes next.
+    pub(crate) fn advance(&mut self, live: Live<J>) -> Advance<'g, J>
+        ensures later { IsLater J.graph J.callers J.limit live.caller live.front self.old.moves }
+        ensures answer { Advances J.graph J.callers J.limit live self.old.moves result }
+    {
+        let met = self.meet(live);
+        let turn = self.next(met.version);
+        self.take(met, turn)
+    }
+
+    /// The same at a given node.
+    pub(crate) fn advance_at(&mut self, live: Live<J>, node: u32) -> Advance<'g, J>
+        requires { node < length J.graph.nodes }
+        ensures later { IsLater J.graph J.callers J.limit live.caller live.front self.old.moves }
+        ensures answer { AdvancesAt J.graph J.callers J.limit live node self.old.moves result }
+    {
+        let met = self.meet(live);
+        let turn = self.next_at(met.version, node);
+        self.take(met, turn)
+    }
+
+    // What comes next for a live call.
+    fn next(&self, version: u32) -> Turn
+        requires { live (state J.graph J.callers J.limit self.now.moves) version ≡ true }
+        ensures turn { result ≡ next J.graph (state J.graph J.callers J.limit self.now.moves) version }
+        ensures of { IsTurnOf J.graph (state J.graph J.callers J.limit self.now.moves) version result }
+    {
+        turns_are_of_calls();
+        histories_are_lawful();
+        self.core.next(version)
+    }
+
+    // The same at a given node.
+    fn next_at(&self, version: u32, node: u32) -> Turn
+        requires live { live (state J.graph J.callers J.limit self.now.moves) version ≡ true }
+        requires node { node < length J.graph.nodes }
+        ensures turn { result ≡ next_at J.graph (state J.graph J.callers J.limit self.now.moves) version node }
+        ensures of { IsTurnOf J.graph (state J.graph J.callers J.limit self.now.moves) version result }
+    {
+        turns_are_of_calls();
+        histories_are_lawful();
+        self.core.next_at(version, node)
+    }
+
+    // Takes the note of a live call back.
+    fn meet(&mut self, live: Live<J>) -> Met
+        ensures later { IsLater J.graph J.callers J.limit live.caller live.front self.old.moves }
+        ensures met { IsMet J.graph J.callers J.limit result self.old.moves }
+        ensures same { met_at J.graph J.callers J.limit result self.old.moves ≡ seen live self.old.moves }
+        ensures nodes { jobs_at J.graph (state J.graph J.callers J.limit live.front) live.version result.out.nodes ≡ live.out }
+        ensures free { is_out result.caller self.new.out ≡ false }
+        ensures after { self.new ≡ record self.old { out = out_without live.caller self.old.out } }
+    {
+        let _ = &self.core;
+        tokens_stay();
+        let Live {
+            caller,
+            version,
+            note,
+            out,
+            looks,
+            of: _,
+        } = live;
+        self.learn(note);
+        Met {
+            caller,
+            version,
+            out,
+            looks,
+        }
+    }
+
+    // What a turn of a live call comes to.
+    fn take(&mut self, met: Met, turn: Turn) -> Advance<'g, J>
+        requires met { IsMet J.graph J.callers J.limit met self.old.moves }
+        requires free { is_out met.caller self.old.out ≡ false }
+        requires turn { IsTurnOf J.graph (state J.graph J.callers J.limit self.old.moves) met.version turn }
+        ensures { Takes J.graph J.callers J.limit (met_at J.graph J.callers J.limit met self.old.moves) turn result }
+    {
+        match turn {
+            Turn::Step(step) => self.take_step(met, step),
+            Turn::NotYet(cause) => Advance::NotYet(self.live(met), cause),
+            Turn::Ready => Advance::Ready(self.live(met)),
+        }
+    }
+
+    // What a step that comes next comes to.
+    fn take_step(&mut self, met: Met, step: Step) -> Advance<'g, J>
+        requires met { IsMet J.graph J.callers J.limit met self.old.moves }
+        requires free { is_out met.caller self.old.out ≡ false }
+        requires turn { IsTurnOf J.graph (state J.graph J.callers J.limit self.old.moves) met.version (turns.Step step) }
+        ensures { Takes J.graph J.callers J.limit (met_at J.graph J.callers J.limit met self.old.moves) (turns.Step step) result }
+    {
+        match step {
+            Step::Evaluate { node, .. } => self.hand_out(met, node),
+            Step::Body { node, .. } => self.hand_out(met, node),
+            _ => Advance::Stepped(self.step(met, step)),
+        }
+    }
+
+    // A step of a live call that needs no job.
+    fn step(&mut self, met: Met, step: Step) -> Live<J>
+        requires met { IsMet J.graph J.callers J.limit met self.old.moves }
+        requires free { is_out met.caller self.old.out ≡ false }
+        requires turn { IsTurnOf J.graph (state J.graph J.callers J.limit self.old.moves) met.version (turns.Step step) }
+        requires plain { plain_step (turns.Step step) ≡ Some step }
+        ensures { result ≡ stepped (met_at J.graph J.callers J.limit met self.old.moves) step }
+    {
+        let _ = &self.core;
+        steps_keep_calls();
+        self.make(met.caller, step);
+        self.live(met)
+    }
+
+    // The job of an evaluation that is due, unless it is out already.
+    fn hand_out(&mut self, met: Met, node: u32) -> Advance<'g, J>
+        requires met { IsMet J.graph J.callers J.limit met self.old.moves }
+        requires free { is_out met.caller self.old.out ≡ false }
+        requires due { IsDue J.graph (state J.graph J.callers J.limit self.old.moves) met.version node }
+        ensures { HandsOut J.graph J.callers J.limit (met_at J.graph J.callers J.limit met self.old.moves) node result }
+    {
+        let _ = &self.core;
+        jobs_have_nodes();
+        steps_keep_calls();
+        histories_are_lawful();
+        let mut met = met;
+        if met.out.contains(node) {
+            return Advance::NotYet(self.live(met), Cause::JobOut { node });
+        }
+        met.out.insert(node);
+        let job = self.core.job(met.version, node);
+        Advance::Evaluate(self.live(met), job)
+    }
+
+    // A live call that has seen all moves so far.
+    fn live(&mut self, met: Met) -> Live<J>
+        requires met { IsMet J.graph J.callers J.limit met self.old.moves }
+        requires free { is_out met.caller self.old.out ≡ false }
+        ensures live { result ≡ met_at J.graph J.callers J.limit met self.old.moves }
+        ensures after { self.new ≡ record self.old { out = out_with met.caller self.old.out } }
+    {
+        let Met {
+            caller,
+            version,
+            out,
+            looks,
+        } = met;
+        let note = self.note(caller);
+        Live {
+            caller,
+            version,
+            note,
+            out,
+            looks,
+            of: PhantomData,
+        }
+    }
+
+    /// Hands in an answer.
+    pub(crate) fn put(&mut self, live: Live<J>, answer: Answer) -> Live<J>
+        requires { job_of answer.node live.out ≡ Some answer }
+        ensures later { IsLater J.graph J.callers J.limit live.caller live.front self.old.moves }
+        ensures answer { result ≡ handed_in (seen live self.old.moves) answer }
+    {
+        let met = self.meet(live);
+        self.put_met(met, answer)
+    }
+
+    // Hands in an answer of a live call that has seen all moves.
+    fn put_met(&mut self, met: Met, answer: Answer) -> Live<J>
+        requires met { IsMet J.graph J.callers J.limit met self.old.moves }
+        requires free { is_out met.caller self.old.out ≡ false }
+        requires out { job_of answer.node (met_at J.graph J.callers J.limit met self.old.moves).out ≡ Some answer }
+        ensures { result ≡ handed_in (met_at J.graph J.callers J.limit met self.old.moves) answer }
+    {
+        let _ = &self.core;
+        jobs_have_nodes();
+        steps_keep_calls();
+        let mut met = met;
+        met.out.is_kept();
+        met.out.remove(answer.node);
+        self.make_answer(met.caller, answer);
+        self.live(met)
+    }
+
+    // Makes the step of an answer.
+    fn make_answer(&mut self, caller: u32, answer: Answer)
+        requires allowed { allowed J.graph (state J.graph J.callers J.limit self.old.moves) (step_of answer) ≡ true }
+        requires right { IsRight J.graph (state J.graph J.callers J.limit self.old.moves) answer }
+        requires whose { caller_of (state J.graph J.callers J.limit self.old.moves) (Make (step_of answer)) ≡ caller }
+        requires free { is_out caller self.old.out ≡ false }
+        ensures { self.new ≡ record self.old { moves = self.old.moves ++ Make (step_of answer) ∷ [] } }
+    {
+        keys_tell_fronts();
+        histories_are_short();
+        let answered = Answered {
+            caller: Snapshot::of(&caller),
+            answer: Snapshot::of(&answer),
+        };
+        self.core.put(answer);
+        self.writer.append(answered);
+    }
+
+    /// The least node at or above one that is open for a live call.
+    pub(crate) fn next_open(&mut self, live: Live<J>, from: u32) -> (Live<J>, Option<u32>)
+        ensures later { IsLater J.graph J.callers J.limit live.caller live.front self.old.moves }
+        ensures live { result.0 ≡ seen live self.old.moves }
+        ensures node { result.1 ≡ first_from from (call (state J.graph J.callers J.limit self.old.moves) live.version).open_nodes }
+    {
+        let met = self.meet(live);
+        let node = self.core.book().next_open(met.version, from);
+        (self.live(met), node)
+    }
+
+    /// A live call sees all moves so far.
+    pub(crate) fn see(&mut self, live: Live<J>) -> Live<J>
+        ensures later { IsLater J.graph J.callers J.limit live.caller live.front self.old.moves }
+        ensures live { result ≡ seen live self.old.moves }
+        ensures after { self.new.moves ≡ self.old.moves }
+    {
+        let met = self.meet(live);
+        self.live(met)
+    }
+
+    /// Ends a live call, or says why it can't end.
+    pub(crate) fn end(&mut self, live: Live<J>) -> Ended<J>
+        ensures later { IsLater J.graph J.callers J.limit live.caller live.front self.old.moves }
+        ensures answer { Finishes J.graph J.callers J.limit live self.old.moves result }
+    {
+        causes_are_exact();
+        let met = self.meet(live);
+        match step_rules::why_not_ended(self.core.book(), met.version) {
+            Some(cause) => Ended::NotYet(self.live(met), cause),
+            None => self.end_met(met),
+        }
+    }
+
+    // Ends a live call that may end.
+    fn end_met(&mut self, met: Met) -> Ended<J>
+        requires met { IsMet J.graph J.callers J.limit met self.old.moves }
+        requires free { is_out met.caller self.old.out ≡ false }
+        requires none { why_not_ended (state J.graph J.callers J.limit self.old.moves) met.version ≡ None }
+        requires allowed { allowed J.graph (state J.graph J.callers J.limit self.old.moves) (step.End met.version) ≡ true }
+        ensures { Finishes J.graph J.callers J.limit (met_at J.graph J.callers J.limit met self.old.moves) self.old.moves result }
+    {
+        let _ = &self.core;
+        ends_leave_callers_idle();
+        steps_keep_calls();
+        states_are_bounded();
+        histories_are_lawful();
+        let Met {
+            caller,
+            version,
+            out,
+            looks,
+        } = met;
+        self.make(caller, Step::End { version });
+        let reply = self.last_reply(looks);
+        Ended::Ended(self.pass(caller, out), reply)
+    }
+
+    // A copy of the last reply of the log, in the room that there is.
+    fn last_reply(&self, looks: Vec<Value>) -> Reply
+        requires empty { looks.items ≡ [] }
+        requires room { HasLastReply (state J.graph J.callers J.limit self.now.moves).log (vec_capacity looks) }
+        ensures { option_map (λ entry. entry.reply) (last_of (state J.graph J.callers J.limit self.now.moves).log) ≡ Some result }
+    {
+        let log = self.core.book().log();
+        reply_in(&log.get(log.len() - 1).reply, looks)
+    }
+
+    // Takes passes back.
+    fn settle(&mut self, passes: PassList<J>)
+        ensures passes { Settles J.graph J.callers J.limit passes self.old.moves }
+        ensures after { self.new.moves ≡ self.old.moves }
+    {
+        let mut passes = passes;
+        match passes.take_first() {
+            None => passes.spend(),
+            Some(pass) => {
+                let Pass {
+                    caller: _,
+                    note,
+                    out: _,
+                    of: _,
+                } = pass;
+                tokens_stay();
+                self.learn(note);
+                self.settle(passes);
+            }
+        }
+    }
+
+    /// The log and the last values, where the passes are those of all callers.
+    pub(crate) fn close(self, passes: PassList<J>) -> Closed
+        requires { HasAllPasses J.callers passes }
+        ensures { Closes J.graph J.callers J.limit passes result.log.entries result.finals }
+    {
+        let _ = &self.core;
+        ends_leave_callers_idle();
+        logs_have_all_calls();
+        own_calls_stay();
+        let mut locked = self;
+        locked.settle(passes);
+        locked.finish()
+    }
+
+    // The log and the last values. No call lives.
+    fn finish(self) -> Closed
+        requires { (state J.graph J.callers J.limit self.moves).calls ≡ [] }
+        ensures { EndsAt J.graph J.callers J.limit self.entry.moves result.log.entries result.finals }
+    {
+        logs_are_legal();
+        let (log, finals) = self.core.finish();
+        Closed { log, finals }
+    }
+}
+
+// So many empty sets of nodes.
+fn empty_sets(alloc: Global, nodes: u32, count: u32) -> Result<Vec<NodeSet>, OutOfMemory>
+    requires { nodes ≤ NODES }
+    ensures { IfOk result (λ sets. sets.items ≡ replicate count (no_members nodes)) }
+{
+    let mut sets = Vec::with_capacity(alloc, count as usize)?;
+    for _ in 0..count {
+        sets.push_reserved(NodeSet::new(alloc, nodes)?);
+    }
+    Ok(sets)
+}
+
+// A copy of a reply, with its looks in the room that there is.
+fn reply_in(reply: &Reply, room: Vec<Value>) -> Reply
+    requires empty { room.items ≡ [] }
+    requires room { length (looks_of_reply reply.now) ≤ vec_capacity room }
+    ensures { result ≡ reply.now }
+{
+    match reply {
+        Reply::Fire {
+            changed,
+            evaluated,
+            looks,
+        } => Reply::Fire {
+            changed: *changed,
+            evaluated: *evaluated,
+            looks: values_in(looks.as_slice(), room),
+        },
+        Reply::Read { looks } => Reply::Read {
+            looks: values_in(looks.as_slice(), room),
+        },
+    }
+}
+
+// A copy of values in the room that there is.
+fn values_in(values: &[Value], room: Vec<Value>) -> ValueList
+    requires empty { room.items ≡ [] }
+    requires room { length values.now ≤ vec_capacity room }
+    ensures { result ≡ values.now }
+{
+    let mut room = room;
+    for value in values {
+        room.push_reserved(*value);
+    }
+    Items::from_vec(room)
+}
