@@ -1,7 +1,7 @@
 // The deck of 7 against the text that a program in another language made of the same rules, and a summary.
 
-use deck_maker::{make, summary};
 use call_log::{Finished, Log, RefusedList};
+use deck_maker::{make, summary};
 use deck_text::print_deck;
 use script_tree::value::{Fault, Value};
 use signal_graph::call::ValueList;

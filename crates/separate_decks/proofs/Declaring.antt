@@ -114,14 +114,16 @@ signal_no_picks (suc (suc r)) false = refl
 signal_fits : (n p q r : ℕ) → 72 ≤ n → n < 216 → p < n → q < n → Fits n (signal p q r)
 signal_fits n p q r low high h k = (
   subst (λ ms. Right n (Signal (over (two p q) (signal_tree r (Input 0) (second p q))) ms))
-      (sym (places_of (two p q) (of_two (λ m. m < 216) p q (omega arith) (omega arith))))
-      ((
-        signal_no_acc r (p == q),
-        signal_no_picks r (p == q),
-        names_resolve (two p q),
-        of_two (λ m. m < n) p q h k,
-        signal_kept p q r (omega arith) (omega arith),
-      ), low),
+      (sym (places_of (two p q) (of_two (λ m. m < 216) p q (omega arith) (omega arith)))) (
+        (
+          signal_no_acc r (p == q),
+          signal_no_picks r (p == q),
+          names_resolve (two p q),
+          of_two (λ m. m < n) p q h k,
+          signal_kept p q r (omega arith) (omega arith),
+        ),
+        low,
+      ),
   (signal_no_acc r (p == q), signal_no_picks r (p == q)),
 )
 
