@@ -4,5 +4,6 @@ pub mod JobLists
 pub mod KeysTell
 pub mod OwnCalls
 pub mod OwnSteps
+pub mod Rests
 pub mod TokensStay
 pub mod Turns

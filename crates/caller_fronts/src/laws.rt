@@ -22,7 +22,7 @@ ghost use Rattle.flow_model.specs.Follows.Others.{caller_of};
 ghost use Rattle.flow_model.specs.Kept.Lawful.{IsLawful};
 ghost use Rattle.flow_state.specs.declared.outcome.Answer.{Answer};
 ghost use Rattle.flow_state.specs.Answers.{step_of, IsRight};
-ghost use Rattle.caller_fronts.specs.Fronts.{IsLater};
+ghost use Rattle.caller_fronts.specs.Fronts.{IsLater, RestsAtEnds};
 ghost use Rattle.caller_fronts.specs.Jobs.{job_at, jobs_at, job_of, with_job, without_job};
 ghost use Rattle.caller_fronts.specs.Keys.{AreKeyed, key_for};
 ghost use Rattle.caller_fronts.specs.Tokens.{IsIdle, IsGoing, IsEvaluationDue, IsTurnOf, IsNoJob, HasLooks};
@@ -199,5 +199,31 @@ pub fn histories_are_short()
     histories_are_bounded();
     histories_are_lawful();
     callers_have_their_calls();
+    histories_have_bounds();
+}
+
+/// A call lives after each beginning, and where one lived before a step it is gone only after its end. So no call lives after moves
+/// of callers within calls only where none was made or the last is an end.
+pub fn rests_are_at_ends()
+    ensures first { (graph : Graph) (callers limit : ℕ) → RestsAtEnds graph callers limit [] }
+    ensures begun { (graph : Graph) (callers limit caller : ℕ) (moves : List Move) (call : Call)
+        → RestsAtEnds graph callers limit (moves ++ Begin caller call ∷ []) }
+    ensures made { (graph : Graph) (callers limit : ℕ) (moves : List Move) (step : Step)
+        → (state graph callers limit moves).calls ≢ []
+        → RestsAtEnds graph callers limit (moves ++ Make step ∷ []) }
+{}
+
+/// Whose own move is the last of a history has seen the whole history, and the last end's caller is one of the callers.
+pub fn last_moves_are_seen()
+    ensures whole { (graph : Graph) (callers limit caller : ℕ) (front earlier : List Move) (move : Move)
+        → IsLater graph callers limit caller front (earlier ++ move ∷ []) → caller_of (state graph callers limit earlier) move ≡ caller
+        → front ≡ earlier ++ move ∷ [] }
+    ensures one_of { (graph : Graph) → IsGraph graph → (callers limit version : ℕ) (earlier : List Move)
+        → is_history graph callers limit (earlier ++ Make (steps.End version) ∷ []) ≡ true
+        → (0 < caller_of (state graph callers limit earlier) (Make (steps.End version)))
+        × (caller_of (state graph callers limit earlier) (Make (steps.End version)) ≤ callers) }
+{
+    steps_come_in_time();
+    histories_are_lawful();
     histories_have_bounds();
 }
