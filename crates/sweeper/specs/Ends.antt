@@ -24,13 +24,19 @@ HasPass k (pass ∷ passes) = (pass.caller ≡ k) ⊎ HasPass k passes
 abbrev pub HasAllPasses : ℕ → List Idle → Type 0
 HasAllPasses callers passes = (k : ℕ) → 0 < k → k ≤ callers → HasPass k passes
 
--- One history leads to the log: each pass has seen a beginning of it with all that is its caller's own. No call lives after it, and
--- each caller's calls in the log are those of its pass, in their order and with their versions. The log is legal, and the values are
--- the one-thread machine's after it.
+-- The moves are the front of one of the passes.
+abbrev pub HasFront : List Move → List Idle → Type 0
+HasFront moves [] = ⊥
+HasFront moves (pass ∷ passes) = (pass.front ≡ moves) ⊎ HasFront moves passes
+
+-- One history leads to the log: each pass has seen a beginning of it with all that is its caller's own, and one of them has seen all
+-- of it, so it is the longest of their fronts. No call lives after it, and each caller's calls in the log are those of its pass, in
+-- their order and with their versions. The log is legal, and the values are the one-thread machine's after it.
 pub record Closes (graph : Graph) (callers limit : ℕ) (passes : List Idle) (log : List Logged) (values : List Value) : Type 0 where
   pub moves : List Move
   pub history : is_history graph callers limit moves ≡ true
   pub fronts : AllByRecursion (λ (p : Idle). IsLater graph callers limit p.caller p.front moves) passes
+  pub longest : HasFront moves passes
   pub none_live : (state graph callers limit moves).calls ≡ []
   pub log_is : log ≡ (state graph callers limit moves).log
   pub own_calls : AllByRecursion (λ (p : Idle). logged_of p.caller log ≡ begun_by p.caller p.front) passes

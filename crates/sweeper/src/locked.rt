@@ -1,6 +1,6 @@
 // What lies under the lock.
 
-ghost use Rattle.std.specs.Prelude.{◌≡◌, ◌<◌, ◌≤◌, ◌^◌, ◌++◌, ◌∷◌, ◌+◌, suc, [], length, true, false, None, Some, option_map};
+ghost use Rattle.std.specs.Prelude.{◌≡◌, ◌≢◌, ◌<◌, ◌≤◌, ◌^◌, ◌++◌, ◌∷◌, ◌+◌, suc, [], length, true, false, None, Some, option_map};
 ghost use Rattle.std.specs.Prelude.{replicate, vec_capacity, ℕ, IfOk, IfErr, OnOk, OnErr};
 ghost use Rattle.script_tree.specs.declared.limits.TheConstants.{NODES, THREADS, VERSIONS};
 ghost use Rattle.node_set.specs.Members.{no_members, first_from};
@@ -36,7 +36,8 @@ use crate::shared::Closed;
 use crate::token::{Advance, Begun, Ended, Live, Pass};
 use caller_fronts::laws::{
     beginnings_make_calls, ends_leave_callers_idle, histories_are_short, jobs_have_nodes,
-    keys_tell_fronts, own_calls_stay, steps_keep_calls, tokens_stay, turns_are_of_calls,
+    keys_tell_fronts, last_moves_are_seen, own_calls_stay, rests_are_at_ends, steps_keep_calls,
+    tokens_stay, turns_are_of_calls,
 };
 use chronicle::{Note, Writer};
 use flow_model::laws::{
@@ -120,6 +121,7 @@ impl<'g, J: Naming> Locked<'g, J> {
         requires new { (writer.list ≡ []) × (writer.out ≡ []) }
         ensures { IfOk result (λ locked. locked ≡ record { moves = []; out = []; rooms = 0 }) }
     {
+        rests_are_at_ends();
         let core = Core::new(alloc, graph, callers, versions)?;
         Ok(Locked {
             core,
@@ -217,14 +219,16 @@ impl<'g, J: Naming> Locked<'g, J> {
         self.writer.note(u64::from(caller))
     }
 
-    // Makes a step of a caller.
+    // Makes a step of a caller, while some call lives.
     fn make(&mut self, caller: u32, step: Step)
+        requires lives { (state J.graph J.callers J.limit self.old.moves).calls ≢ [] }
         requires allowed { allowed J.graph (state J.graph J.callers J.limit self.old.moves) step ≡ true }
         requires whose { caller_of (state J.graph J.callers J.limit self.old.moves) (Make step) ≡ key_for caller step }
         requires free { is_out caller self.old.out ≡ false }
         ensures { self.new ≡ record self.old { moves = self.old.moves ++ Make step ∷ [] } }
     {
         keys_tell_fronts();
+        rests_are_at_ends();
         histories_are_short();
         let made = Made {
             caller: Snapshot::of(&caller),
@@ -370,6 +374,7 @@ impl<'g, J: Naming> Locked<'g, J> {
     {
         beginnings_make_calls();
         keys_tell_fronts();
+        rests_are_at_ends();
         histories_are_short();
         let beginning = Beginning {
             caller: Snapshot::of(&caller),
@@ -565,8 +570,9 @@ impl<'g, J: Naming> Locked<'g, J> {
         self.live(met)
     }
 
-    // Makes the step of an answer.
+    // Makes the step of an answer, while some call lives.
     fn make_answer(&mut self, caller: u32, answer: Answer)
+        requires lives { (state J.graph J.callers J.limit self.old.moves).calls ≢ [] }
         requires allowed { allowed J.graph (state J.graph J.callers J.limit self.old.moves) (step_of answer) ≡ true }
         requires right { IsRight J.graph (state J.graph J.callers J.limit self.old.moves) answer }
         requires whose { caller_of (state J.graph J.callers J.limit self.old.moves) (Make (step_of answer)) ≡ caller }
@@ -574,6 +580,7 @@ impl<'g, J: Naming> Locked<'g, J> {
         ensures { self.new ≡ record self.old { moves = self.old.moves ++ Make (step_of answer) ∷ [] } }
     {
         keys_tell_fronts();
+        rests_are_at_ends();
         histories_are_short();
         let answered = Answered {
             caller: Snapshot::of(&caller),
@@ -680,6 +687,7 @@ impl<'g, J: Naming> Locked<'g, J> {
     {
         let _ = &self.core;
         ends_leave_callers_idle();
+        last_moves_are_seen();
         logs_have_all_calls();
         own_calls_stay();
         let mut locked = self;

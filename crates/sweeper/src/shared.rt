@@ -169,7 +169,7 @@ impl<'g, J: Naming> Sweeper<'g, J> {
         }
     }
 
-    /// Ends it: the log and the last values. The passes are those of all its callers. Takes no memory.
+    /// Ends it: the log and the last values after the longest front of the passes, which are those of all its callers. Takes no memory.
     pub fn close(self, passes: PassList<J>) -> Closed
         requires { HasAllPasses J.callers passes }
         ensures { Closes J.graph J.callers J.limit passes result.log.entries result.finals }

@@ -2,7 +2,8 @@ use Rattle.std.proofs.Common.{◌≡◌, true, List, [], sym, ap, ◌∙◌, sub
 use Rattle.signal_graph.specs.declared.log.Logged.{Logged}
 use Rattle.flow_model.specs.Machine.Histories.{Move, state, is_history}
 use Rattle.flow_model.specs.Follows.Callers.{begun_by, logged_of}
-use Rattle.sweeper.proofs.Closing.{settled-idle, settled-fronts, settled-calls}
+use Rattle.caller_fronts.specs.Fronts.{RestsAtEnds}
+use Rattle.sweeper.proofs.Closing.{settled-idle, settled-fronts, settled-calls, settled-longest}
 use Rattle.sweeper.proofs.locked.Locked.close.Goals as goal
 
 pub finish-requires : goal.finish-requires
@@ -21,10 +22,15 @@ returns g c =
     let history = subst (λ (ms : List Move). is_history j.graph j.callers j.limit ms ≡ true) (ap (λ h. h.moves) c.self.view_is) c.self.invariant.1.history in
     let none = c.ends_leave_callers_idle.ensures.none_live j.graph c.self.invariant.1.is_graph j.callers j.limit moves history
     (λ k some le. settled-idle j.graph j.callers j.limit c.args.passes moves c.settle.ensures.passes k (c.requires k some le)) in
+    let rests = subst (RestsAtEnds j.graph j.callers j.limit) (ap (λ h. h.moves) c.self.view_is) c.self.invariant.1.rests in
     let log = c.finish.ensures.log_is ∙ ap (λ (ms : List Move). (state j.graph j.callers j.limit ms).log) c.settle.ensures.after in record {
       moves = moves;
       history = history;
       fronts = settled-fronts j.graph j.callers j.limit c.args.passes moves c.settle.ensures.passes;
+      longest = settled-longest j.graph j.callers j.limit c.args.passes moves c.self.invariant.1.some c.requires c.settle.ensures.passes history
+          (λ caller front earlier move l mine. c.last_moves_are_seen.ensures.whole j.graph j.callers j.limit caller front earlier move l mine)
+          (λ version earlier h. c.last_moves_are_seen.ensures.one_of j.graph c.self.invariant.1.is_graph j.callers j.limit version earlier h)
+          (rests.last none);
       none_live = none;
       log_is = log;
       own_calls = settled-calls j.graph j.callers j.limit c.args.passes moves c.finish.result.log.entries c.settle.ensures.passes

@@ -5,9 +5,15 @@ use Rattle.flow_model.specs.Machine.Steps.{logged}
 use Rattle.flow_model.specs.Machine.Histories.{Move, Make, state}
 use Rattle.caller_fronts.specs.Tokens.{Idle, IsIdle}
 use Rattle.caller_fronts.proofs.KeysTell.{history-more}
+use Rattle.caller_fronts.proofs.Rests.{some-live}
 use Rattle.sweeper.specs.Tokens.{last_of}
 use Rattle.sweeper.proofs.LastReply.{last-more, last-reply, no-members}
 use Rattle.sweeper.proofs.locked.Locked.end_met.Goals as goal
+
+pub make-requires-clause-lives : goal.make-requires-clause-lives
+make-requires-clause-lives g c =
+    let j = g.J.Naming in
+    some-live (state j.graph j.callers j.limit c.args.self.now.moves) c.args.met.version c.requires.met.going.lives
 
 pub last_reply-reply-requires-clause-room : goal.last_reply-reply-requires-clause-room
 last_reply-reply-requires-clause-room g c =

@@ -5,8 +5,14 @@ use Rattle.flow_model.specs.Machine.Steps.{allowed}
 use Rattle.flow_model.specs.Machine.Histories.{state, Make}
 use Rattle.flow_state.specs.declared.outcome.Answer.{Answer}
 use Rattle.flow_state.specs.Answers.{step_of, IsRight}
+use Rattle.caller_fronts.proofs.Rests.{some-live}
 use Rattle.sweeper.proofs.Meets.{is_met, going-same, answer-no_job, answer-no_end}
 use Rattle.sweeper.proofs.locked.Locked.put_met.Goals as goal
+
+pub make_answer-requires-clause-lives : goal.make_answer-requires-clause-lives
+make_answer-requires-clause-lives g c =
+    let j = g.J.Naming in
+    some-live (state j.graph j.callers j.limit c.args.self.now.moves) c.args.met.version c.requires.met.going.lives
 
 pub remove-requires : goal.remove-requires
 remove-requires g c =

@@ -1,7 +1,13 @@
 use Rattle.std.proofs.Common.{[], ◌∷◌, ◌++◌, refl, ap, ◌∙◌, vec_capacity}
-use Rattle.flow_model.specs.Machine.Histories.{Make}
+use Rattle.flow_model.specs.Machine.Histories.{Make, state}
+use Rattle.caller_fronts.proofs.Rests.{some-live}
 use Rattle.sweeper.proofs.Meets.{is_met, going-same, plain-no_job}
 use Rattle.sweeper.proofs.locked.Locked.step.Goals as goal
+
+pub make-requires-clause-lives : goal.make-requires-clause-lives
+make-requires-clause-lives g c =
+    let j = g.J.Naming in
+    some-live (state j.graph j.callers j.limit c.args.self.now.moves) c.args.met.version c.requires.met.going.lives
 
 pub live-requires-clause-met : goal.live-requires-clause-met
 live-requires-clause-met g c =
