@@ -14,14 +14,14 @@ pub struct PassList<J: Naming> {
 }
 
 impl<J: Naming> Model for PassList<J> {
-    ghost use Rattle.std.specs.Prelude.{◌≤◌, List, vec_capacity};
+    ghost use Rattle.std.specs.Prelude.{◌≤◌, List, length, vec_capacity};
     ghost use Rattle.caller_fronts.specs.Tokens.{Idle};
 
     ghost Value = { List Idle };
 
     ghost view = { λ l. l.passes.items };
 
-    ghost invariant = { λ l. J.callers ≤ vec_capacity l.passes };
+    ghost invariant = { λ l. (J.callers ≤ vec_capacity l.passes) × (length l.passes.items ≤ J.callers) };
 }
 
 impl<J: Naming> PassList<J> {
@@ -34,9 +34,10 @@ impl<J: Naming> PassList<J> {
         Ok(PassList { passes })
     }
 
-    /// How many passes there are. Takes no memory.
+    /// How many passes there are, at most as many as callers. Takes no memory.
     pub fn len(&self) -> usize
-        ensures { result ≡ length self.now }
+        ensures len { result ≡ length self.now }
+        ensures few { length self.now ≤ J.callers }
     {
         self.passes.len()
     }
