@@ -1,0 +1,5 @@
+pub mod Begun
+pub mod Turns
+pub mod Tokens
+pub mod Making
+pub mod Finishing
