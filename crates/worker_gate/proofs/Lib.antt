@@ -3,3 +3,5 @@ pub mod Turns
 pub mod Tokens
 pub mod Making
 pub mod Finishing
+pub mod Seating
+mod Crossing

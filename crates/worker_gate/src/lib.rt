@@ -2,6 +2,8 @@
 #![tactic(auto)]
 
 mod gate;
+mod run;
 mod worker;
 
 pub use gate::{Gate, OpenGate};
+pub use run::run_over;
