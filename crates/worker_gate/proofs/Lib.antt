@@ -5,3 +5,4 @@ pub mod Making
 pub mod Finishing
 pub mod Seating
 mod Crossing
+pub mod Whole

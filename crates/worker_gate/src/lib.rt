@@ -3,7 +3,9 @@
 
 mod gate;
 mod run;
+mod scripts;
 mod worker;
 
 pub use gate::{Gate, OpenGate};
 pub use run::run_over;
+pub use scripts::run_scripts;
