@@ -85,8 +85,7 @@ module _ {J : Type 0} where
       → (pass.caller ≡ live.caller) × Sees live.caller live.front pass.front × (count_begins pass.front ≤ limit)
   ended-Sees graph callers limit live pass reply answer h is =
       let k : AfterEnd graph callers limit live (ended.Ended pass reply) = subst (AfterEnd graph callers limit live) is h in
-      let front : k.0 ++ Make (step.End live.version) ∷ [] ≡ pass.front = sym (ap (λ (t : Idle). t.front) k.2.2) in
-      (
+      let front : k.0 ++ Make (step.End live.version) ∷ [] ≡ pass.front = sym (ap (λ (t : Idle). t.front) k.2.2) in (
         ap (λ (t : Idle). t.caller) k.2.2,
         subst (λ (g : List Move). Sees live.caller live.front g) front (step-Sees graph callers limit live.caller live.front k.0 (step.End live.version) k.1),
         subst (λ (g : List Move). count_begins g ≤ limit) front (step-count graph callers limit live.caller live.front k.0 (step.End live.version) k.1),
@@ -124,8 +123,7 @@ module _ {J : Type 0} where
       → (new.caller ≡ pass.caller) × IsCallRefused graph limit pass.caller call pass.front new.front (why_of refusal)
   refused-Sees graph callers limit pass new call refusal answer h is =
       let k : AfterBegin graph callers limit pass call (begun.Refused new refusal) = subst (AfterBegin graph callers limit pass call) is h in
-      let front : k.0 ≡ new.front = sym (ap (λ (t : Idle). t.front) k.2.1) in
-      (
+      let front : k.0 ≡ new.front = sym (ap (λ (t : Idle). t.front) k.2.1) in (
         ap (λ (t : Idle). t.caller) k.2.1,
         record {
           sees = subst (λ (g : List Move). Sees pass.caller pass.front g) front (later-Sees graph callers limit pass.caller pass.front k.0 k.1);

@@ -23,11 +23,10 @@ returns-then-not-taken-clause-made g c =
 pub loop-index-preserved : goal.loop-index-preserved
 loop-index-preserved g c =
     let i = c.loop-index.invariant in
-    let taken = subst (λ b. MatchBool b (IsTaken g.J.Naming.graph g.J.Naming.limit c.loop-index.pass.caller (1 + c.loop-index.index) c.index-script-index.result c.loop-index.pass.front c.make_call-next.result.0.front c.loop-index.refused c.make_call-next.new.refused) (Sees c.loop-index.pass.caller c.loop-index.pass.front c.make_call-next.result.0.front)) c.if-not-taken.false c.make_call-next.ensures.taken in
-    (
+    let taken = subst (λ b. MatchBool b (IsTaken g.J.Naming.graph g.J.Naming.limit c.loop-index.pass.caller (1 + c.loop-index.index) c.index-script-index.result c.loop-index.pass.front c.make_call-next.result.0.front c.loop-index.refused c.make_call-next.new.refused) (Sees c.loop-index.pass.caller c.loop-index.pass.front c.make_call-next.result.0.front)) c.if-not-taken.false c.make_call-next.ensures.taken in (
       c.make_call-next.ensures.caller ∙ i.0,
       next-IsMade g.J.Naming.graph g.J.Naming.limit c.args.pass.caller c.loop-index.pass.caller (1 + c.loop-index.index) c.loop-index.index c.args.script.now c.loop-index.refused c.make_call-next.new.refused c.args.pass.front c.loop-index.pass.front c.make_call-next.result.0.front c.index-script-index.result i.1
-      i.0 refl c.index-script-index.is c.loop-index-test.true taken,
+          i.0 refl c.index-script-index.is c.loop-index-test.true taken,
     )
 
 pub returns-clause-caller : goal.returns-clause-caller
