@@ -65,6 +65,7 @@ verb_ascii verb.Run = refl
 verb_ascii verb.Replay = refl
 verb_ascii verb.Serial = refl
 verb_ascii verb.Print = refl
+verb_ascii verb.Check = refl
 
 pub line_text : (words : List Text) (command : Command) → AsksFor words command → All IsUtf8 words
 line_text words command a = subst (All IsUtf8) (sym a.words_are)
@@ -103,13 +104,15 @@ no_verb word rest none command a = none a.verb (ap first a.words_are)
 -- the command of a word
 abbrev verb_of : Text → Verb
 verb_of word = if bytes_eq word (codes "run") then verb.Run
-    else (if bytes_eq word (codes "replay") then verb.Replay else (if bytes_eq word (codes "serial") then verb.Serial else verb.Print))
+    else (if bytes_eq word (codes "replay") then verb.Replay else (if bytes_eq word (codes "serial") then verb.Serial
+    else (if bytes_eq word (codes "print") then verb.Print else verb.Check)))
 
 verb_read : (verb : Verb) → verb_of (word_of verb) ≡ verb
 verb_read verb.Run = refl
 verb_read verb.Replay = refl
 verb_read verb.Serial = refl
 verb_read verb.Print = refl
+verb_read verb.Check = refl
 
 pub one_verb : (a b : Verb) → word_of a ≡ word_of b → a ≡ b
 one_verb a b e = sym (verb_read a) ∙ ap verb_of e ∙ verb_read b
@@ -155,6 +158,7 @@ verb_few verb.Run versions json few = few
 verb_few verb.Replay versions json few = few
 verb_few verb.Serial versions json few = few
 verb_few verb.Print versions json few = tt
+verb_few verb.Check versions json few = few
 
 pub few_versions : (words : List Text) (command : Command) → AsksFor words command → HasFewVersions command
 few_versions words command a =

@@ -80,18 +80,21 @@ word_of verb.Run = codes "run"
 word_of verb.Replay = codes "replay"
 word_of verb.Serial = codes "serial"
 word_of verb.Print = codes "print"
+word_of verb.Check = codes "check"
 
 abbrev pub kinds_of : Verb → Kinds
 kinds_of verb.Run = record { json = true; versions = true }
 kinds_of verb.Replay = record { json = true; versions = true }
 kinds_of verb.Serial = record { json = true; versions = true }
 kinds_of verb.Print = record { json = false; versions = false }
+kinds_of verb.Check = record { json = false; versions = true }
 
 abbrev pub asked : Verb → ℕ → Bool → Command
 asked verb.Run versions json = command.Run versions json
 asked verb.Replay versions json = command.Replay versions json
 asked verb.Serial versions json = command.Serial versions json
 asked verb.Print versions json = command.Print
+asked verb.Check versions json = command.Check versions
 
 -- Words are the line of a command. (An operand of a command would stand between its word and its options.)
 pub record AsksFor (words : List (List ℕ)) (command : Command) : Type 0 where
@@ -108,6 +111,7 @@ HasFewVersions (command.Run versions json) = versions ≤ VERSIONS
 HasFewVersions (command.Replay versions json) = versions ≤ VERSIONS
 HasFewVersions (command.Serial versions json) = versions ≤ VERSIONS
 HasFewVersions command.Print = ⊤
+HasFewVersions (command.Check versions) = versions ≤ VERSIONS
 
 -- how words are read: as the command that they ask for, refused exactly where they ask for none, or not for want of memory
 abbrev pub ReadsWords : List (List ℕ) → Result Command WordsFault → Type 0

@@ -14,6 +14,8 @@ pub enum Command {
     Serial { versions: u32, json: bool },
     /// Write it in its canonical form.
     Print,
+    /// Tell whether the report behind it is that of a run of it with at most so many versions.
+    Check { versions: u32 },
 }
 
 /// Why words are not followed.

@@ -10,6 +10,7 @@ pub enum Verb {
     Replay,
     Serial,
     Print,
+    Check,
 }
 
 impl Verb {
@@ -27,6 +28,7 @@ impl Verb {
             "replay" => Some(Verb::Replay),
             "serial" => Some(Verb::Serial),
             "print" => Some(Verb::Print),
+            "check" => Some(Verb::Check),
             _ => None,
         }
     }
@@ -44,6 +46,10 @@ impl Verb {
                 json: false,
                 versions: false,
             },
+            Verb::Check => Kinds {
+                json: false,
+                versions: true,
+            },
         }
     }
 
@@ -56,6 +62,7 @@ impl Verb {
             Verb::Replay => Command::Replay { versions, json },
             Verb::Serial => Command::Serial { versions, json },
             Verb::Print => Command::Print,
+            Verb::Check => Command::Check { versions },
         }
     }
 }
