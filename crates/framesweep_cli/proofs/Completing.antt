@@ -13,6 +13,8 @@ use Rattle.deck_text.specs.declared.fault.DeckFault.TheVariants.{Memory}
 use Rattle.deck_text.specs.Decks.{Decked}
 use Rattle.deck_text.specs.Spelled.{SpellsDeck}
 use Rattle.deck_text.specs.Reasons.{IsDeckFault}
+use Rattle.report_text.specs.declared.data.Report.{Report}
+use Rattle.report_text.specs.Printed.{printed, IsReport, Stops}
 use Rattle.framesweep_cli.specs.declared.ending.Ending.{Ending}
 use Rattle.framesweep_cli.specs.declared.ending.Ending.TheVariants.{Done, Refused, ReadFailed, WriteFailed, OutOfMemory}
 use Rattle.framesweep_cli.specs.declared.fault.InputFault.{InputFault}
@@ -20,7 +22,7 @@ use Rattle.framesweep_cli.specs.declared.fault.InputFault.TheVariants as input
 use Rattle.framesweep_cli.specs.declared.input.Input.{Input}
 use Rattle.framesweep_cli.specs.declared.reading.Reading.{Reading}
 use Rattle.framesweep_cli.specs.declared.reading.Reading.TheVariants as reads
-use Rattle.framesweep_cli.specs.Inputs.{reading_of, most_bytes, Spells, IsFault, IsRefusedFor, IsValid, IsInvalid}
+use Rattle.framesweep_cli.specs.Inputs.{reading_of, most_bytes, behind_text, IsReportText, Spells, IsFault, IsRefusedFor, IsValid, IsInvalid}
 use Rattle.framesweep_cli.specs.Endings.{Makes}
 use Rattle.framesweep_cli.proofs.Judging.{holds_short}
 use Rattle.replay_run.specs.Input.{deck_text}
@@ -53,8 +55,17 @@ OneAnswer = (bytes : List ℕ) (deck : Decked) (fault : DeckFault) → SpellsDec
 abbrev pub OneDeck : Type 0
 OneDeck = (bytes : List ℕ) (a b : Decked) → SpellsDeck bytes a → SpellsDeck bytes b → a ≡ b
 
+-- the text of a report stops at no line to be one
+abbrev pub Whole : Type 0
+Whole = (report : Report) (line : ℕ) → IsReport report → ¬ Stops (printed report) line
+
 abbrev pub Answers : Type 0
-Answers = OneAnswer × OneDeck
+Answers = OneAnswer × OneDeck × Whole
+
+-- a text that is that of a report
+not_stopped : Whole → (text : List ℕ) (report : Option Report) (line : ℕ) → IsReportText text report → Stops text line → ⊥
+not_stopped whole text None line is stops = absurd is
+not_stopped whole text (Some report) line is stops = whole report line is.1 (subst (λ (t : List ℕ). Stops t line) is.0 stops)
 
 -- numbers that all name a thread, and of which one names none
 not_both : (a b : Input) (place : ℕ) → a.deck ≡ b.deck → a.schedule ≡ b.schedule → first_unnamed (length a.deck.scripts) a.schedule ≡ None
@@ -70,6 +81,13 @@ no_fault : Answers → (reading : Reading) (bytes : List ℕ) (said : Input) (fa
 no_fault one reads.Deck bytes said input.TooLong spells is = absurd is
 no_fault one reads.Deck bytes said (input.Deck f) spells is = is.1 (one.0 bytes said.deck f spells.holds.0 is.0)
 no_fault one reads.Deck bytes said (input.ScheduleNumber place) spells is = absurd is
+no_fault one reads.Deck bytes said (input.ReportLine line) spells is = absurd is
+no_fault one reads.Scheduled bytes said (input.ReportLine line) spells is = absurd is
+no_fault one reads.Reported bytes said input.TooLong spells is = absurd (omega (arith, is, spells.holds.0))
+no_fault one reads.Reported bytes said (input.Deck f) spells is = is.2 (one.0 (deck_text bytes) said.deck f spells.holds.1 is.1)
+no_fault one reads.Reported bytes said (input.ScheduleNumber place) spells is = absurd is
+no_fault one reads.Reported bytes said (input.ReportLine line) spells is =
+    not_stopped one.2 (behind_text bytes) said.report line spells.holds.3 is.3
 no_fault one reads.Scheduled bytes said input.TooLong spells is = absurd (omega (arith, is, spells.holds.0))
 no_fault one reads.Scheduled bytes said (input.Deck f) spells is = is.2 (one.0 (deck_text bytes) said.deck f spells.holds.1 is.1)
 no_fault one reads.Scheduled bytes said (input.ScheduleNumber place) spells is =

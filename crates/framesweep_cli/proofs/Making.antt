@@ -8,7 +8,7 @@ use Rattle.replay_run.specs.Schedule.{first_unnamed}
 use Rattle.framesweep_cli.specs.declared.fault.InputFault.TheVariants as fault
 use Rattle.framesweep_cli.specs.declared.input.Input.{Input}
 use Rattle.framesweep_cli.specs.declared.reading.Reading.{Reading}
-use Rattle.framesweep_cli.specs.declared.reading.Reading.TheVariants.{Deck, Scheduled}
+use Rattle.framesweep_cli.specs.declared.reading.Reading.TheVariants.{Deck, Scheduled, Reported}
 use Rattle.framesweep_cli.specs.declared.stop.Stop.{Stop}
 use Rattle.framesweep_cli.specs.declared.stop.Stop.TheVariants.{Read, Input as Refuses, Memory}
 use Rattle.framesweep_cli.specs.Devices.{SourceState}
@@ -41,7 +41,9 @@ pub unmade : (reading : Reading) (before after : SourceState) (input : Input) (s
 unmade reading before after input Read h unnamed = absurd unnamed
 unmade reading before after input (Refuses fault.TooLong) h unnamed = absurd unnamed
 unmade reading before after input (Refuses (fault.Deck f)) h unnamed = absurd unnamed
+unmade reading before after input (Refuses (fault.ReportLine line)) h unnamed = absurd unnamed
 unmade Deck before after input (Refuses (fault.ScheduleNumber place)) h unnamed = absurd (alone_named input place h.holds.1 unnamed)
+unmade Reported before after input (Refuses (fault.ScheduleNumber place)) h unnamed = absurd (alone_named input place h.holds.2 unnamed)
 unmade Scheduled before after input (Refuses (fault.ScheduleNumber place)) h unnamed = record {
   bytes = h.bytes;
   given = h.given;

@@ -1,5 +1,5 @@
 -- What each command makes of its input.
-use Rattle.std.specs.Prelude.{◌≡◌, ℕ, ◌≤◌, Bool, true, false, ⊤, List, Option}
+use Rattle.std.specs.Prelude.{◌≡◌, ◌↔◌, ℕ, ◌≤◌, Bool, true, false, ⊤, List, [], ◌∷◌, ◌++◌, codes, decimal, Option, Some}
 use Rattle.script_tree.specs.declared.limits.TheConstants.{VERSIONS}
 use Rattle.script_tree.specs.declared.value.Value.{Value}
 use Rattle.signal_graph.specs.declared.log.Logged.{Logged}
@@ -13,8 +13,14 @@ use Rattle.deck_text.specs.Decks.{Decked}
 use Rattle.deck_text.specs.Printed.{canonical}
 use Rattle.report_text.specs.Report.{report_of}
 use Rattle.report_text.specs.Json.{json_of}
+use Rattle.report_text.specs.declared.data.Report.{Report}
+use Rattle.report_text.specs.Printed.{printed}
+use Rattle.report_check.specs.declared.verdict.Verdict.{Verdict}
+use Rattle.report_check.specs.declared.verdict.Verdict.TheVariants.{Yes, Wrong}
+use Rattle.report_check.specs.Runs.{AreReportOfRun}
+use Rattle.report_check.specs.Verdicts.{IsVerdict}
 use Rattle.command_words.specs.declared.command.Command.{Command}
-use Rattle.command_words.specs.declared.command.Command.TheVariants.{Run, Replay, Serial, Print}
+use Rattle.command_words.specs.declared.command.Command.TheVariants.{Run, Replay, Serial, Print, Check}
 use Rattle.framesweep_cli.specs.declared.input.Input.{Input}
 use Rattle.framesweep_cli.specs.Inputs.{reading_of, IsReadAs}
 
@@ -52,12 +58,26 @@ pub record IsReplay (input : Input) (versions : ℕ) (log : List Logged) (refuse
   pub refused_are : refused ≡ all_refused (replayed input.deck.graph input.deck.scripts versions input.schedule).threads
   pub finals_are : finals input.deck.graph log ≡ last_values (replayed input.deck.graph input.deck.scripts versions input.schedule).core
 
+-- the line of a verdict
+abbrev pub verdict_line : Verdict → List ℕ
+verdict_line Yes = codes "yes\n"
+verdict_line (Wrong line) = codes "no: line " ++ (decimal line ++ 10 ∷ [])
+
+-- the line of the verdict on a report: yes exactly where its bytes are the report of a run of the deck, and else the first of its
+-- lines that isn't right by its place
+pub record IsCheck (deck : Decked) (versions : ℕ) (report : Report) (text : List ℕ) : Type 0 where
+  pub verdict : Verdict
+  pub yes : verdict ≡ Yes ↔ AreReportOfRun deck.graph deck.scripts versions (printed report)
+  pub first : IsVerdict deck.graph deck.scripts versions report verdict
+  pub bytes : text ≡ verdict_line verdict
+
 -- what a command writes for its input
 abbrev pub IsOutput : Command → Input → List ℕ → Type 0
 IsOutput (Run versions json) input text = IsReport input.deck versions json IsAnyRun text
 IsOutput (Replay versions json) input text = IsReport input.deck versions json (IsReplay input versions) text
 IsOutput (Serial versions json) input text = IsReport input.deck versions json (IsSerial input.deck versions) text
 IsOutput Print input text = text ≡ canonical input.deck
+IsOutput (Check versions) input text = (report : Report) × (input.report ≡ Some report) × IsCheck input.deck versions report text
 
 -- the text is what the command writes for the input that is read
 pub record Makes (command : Command) (left : Option (List ℕ)) (text : List ℕ) : Type 0 where
@@ -71,3 +91,4 @@ IsAlone (Run versions json) = ⊥
 IsAlone (Replay versions json) = versions ≤ VERSIONS
 IsAlone (Serial versions json) = versions ≤ VERSIONS
 IsAlone Print = ⊤
+IsAlone (Check versions) = versions ≤ VERSIONS

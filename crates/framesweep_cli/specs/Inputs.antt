@@ -4,14 +4,17 @@ use Rattle.script_tree.specs.declared.limits.TheConstants.{DECK_BYTES}
 use Rattle.deck_text.specs.declared.fault.DeckFault.TheVariants.{Memory}
 use Rattle.deck_text.specs.Reasons.{IsDeckFault}
 use Rattle.deck_text.specs.Spelled.{SpellsDeck}
+use Rattle.deck_text.specs.Decks.{Decked}
+use Rattle.report_text.specs.declared.data.Report.{Report}
+use Rattle.report_text.specs.Printed.{printed, IsReport, Stops}
 use Rattle.replay_run.specs.Input.{deck_text, schedule_text}
 use Rattle.replay_run.specs.Schedule.{schedule_of, first_unnamed}
 use Rattle.command_words.specs.declared.command.Command.{Command}
-use Rattle.command_words.specs.declared.command.Command.TheVariants.{Run, Replay, Serial, Print}
+use Rattle.command_words.specs.declared.command.Command.TheVariants.{Run, Replay, Serial, Print, Check}
 use Rattle.framesweep_cli.specs.declared.input.Input.{Input}
-use Rattle.framesweep_cli.specs.declared.limits.TheConstants.{SCHEDULED_BYTES}
+use Rattle.framesweep_cli.specs.declared.limits.TheConstants.{SCHEDULED_BYTES, REPORTED_BYTES}
 use Rattle.framesweep_cli.specs.declared.reading.Reading.{Reading}
-use Rattle.framesweep_cli.specs.declared.reading.Reading.TheVariants.{Deck, Scheduled}
+use Rattle.framesweep_cli.specs.declared.reading.Reading.TheVariants.{Deck, Scheduled, Reported}
 use Rattle.framesweep_cli.specs.declared.fault.InputFault.{InputFault}
 use Rattle.framesweep_cli.specs.declared.fault.InputFault.TheVariants as fault
 
@@ -21,11 +24,13 @@ reading_of (Run versions json) = Deck
 reading_of (Replay versions json) = Scheduled
 reading_of (Serial versions json) = Deck
 reading_of Print = Deck
+reading_of (Check versions) = Reported
 
 -- how many bytes that may have
 abbrev pub most_bytes : Reading → ℕ
 most_bytes Deck = DECK_BYTES
 most_bytes Scheduled = SCHEDULED_BYTES
+most_bytes Reported = REPORTED_BYTES
 
 -- the bytes are what the source had left, where it told that: all of it, or the first ones of an input that is too long
 abbrev pub IsInput : Reading → Option (List ℕ) → List ℕ → Type 0
@@ -36,16 +41,34 @@ IsInput reading (Some left) bytes = bytes ≡ take (most_bytes reading + 1) left
 abbrev pub IsNamed : Input → Type 0
 IsNamed input = first_unnamed (length input.deck.scripts) input.schedule ≡ None
 
--- bytes say a deck and numbers, whatever these name
+-- the text behind the line between a deck and what is read behind it
+abbrev pub behind_text : List ℕ → List ℕ
+behind_text bytes = schedule_text bytes
+
+-- a text is that of a report which is there
+abbrev pub IsReportText : List ℕ → Option Report → Type 0
+IsReportText text None = ⊥
+IsReportText text (Some report) = (text ≡ printed report) × IsReport report
+
+-- bytes say a deck, and behind it numbers, whatever these name, or a report
 abbrev pub Holds : Reading → List ℕ → Input → Type 0
 Holds Deck bytes input = SpellsDeck bytes input.deck × (input.schedule ≡ [])
 Holds Scheduled bytes input = (length bytes ≤ SCHEDULED_BYTES) × SpellsDeck (deck_text bytes) input.deck
     × (input.schedule ≡ schedule_of (schedule_text bytes))
+Holds Reported bytes input = (length bytes ≤ REPORTED_BYTES) × SpellsDeck (deck_text bytes) input.deck
+    × (input.schedule ≡ []) × IsReportText (behind_text bytes) input.report
 
--- A command that reads so may have this input: there are few numbers, and none where a deck alone is read.
+-- a report is there that bytes can be, and they are few enough for each of its lines to have a number
+abbrev pub HasReport : Option Report → Type 0
+HasReport None = ⊥
+HasReport (Some report) = IsReport report × (length (printed report) ≤ REPORTED_BYTES)
+
+-- A command that reads so may have this input: there are few numbers, none but where a schedule is read, and a report where one is
+-- read.
 pub record Suits (reading : Reading) (input : Input) : Type 0 where
   pub few : length input.schedule < 2 ^ 32
-  pub none : reading ≡ Deck → input.schedule ≡ []
+  pub none : reading ≢ Scheduled → input.schedule ≡ []
+  pub report : reading ≡ Reported → HasReport input.report
 
 -- bytes say an input
 pub record Spells (reading : Reading) (bytes : List ℕ) (input : Input) : Type 0 where
@@ -53,18 +76,25 @@ pub record Spells (reading : Reading) (bytes : List ℕ) (input : Input) : Type 
   pub named : IsNamed input
 
 -- Bytes are refused, for this fault. Of several the first one is named: they are too many, the deck has a fault, the schedule has
--- a number that names no thread. A deck that is read alone and has too many bytes is refused by the line that holds the first of
+-- a number that names no thread or the report a line that stands in none. A deck that is read alone and has too many bytes is refused by the line that holds the first of
 -- these.
 abbrev pub IsFault : Reading → List ℕ → InputFault → Type 0
 IsFault Deck bytes fault.TooLong = ⊥
 IsFault Deck bytes (fault.Deck f) = IsDeckFault bytes f × (f ≢ Memory)
 IsFault Deck bytes (fault.ScheduleNumber place) = ⊥
+IsFault Deck bytes (fault.ReportLine line) = ⊥
 IsFault Scheduled bytes fault.TooLong = SCHEDULED_BYTES < length bytes
 IsFault Scheduled bytes (fault.Deck f) = (length bytes ≤ SCHEDULED_BYTES) × IsDeckFault (deck_text bytes) f × (f ≢ Memory)
 IsFault Scheduled bytes (fault.ScheduleNumber place) =
     (input : Input) × Holds Scheduled bytes input × (first_unnamed (length input.deck.scripts) input.schedule ≡ Some place)
+IsFault Scheduled bytes (fault.ReportLine line) = ⊥
+IsFault Reported bytes fault.TooLong = REPORTED_BYTES < length bytes
+IsFault Reported bytes (fault.Deck f) = (length bytes ≤ REPORTED_BYTES) × IsDeckFault (deck_text bytes) f × (f ≢ Memory)
+IsFault Reported bytes (fault.ScheduleNumber place) = ⊥
+IsFault Reported bytes (fault.ReportLine line) =
+    (length bytes ≤ REPORTED_BYTES) × (deck : Decked) × SpellsDeck (deck_text bytes) deck × Stops (behind_text bytes) line
 
--- the input is read, and says a deck and numbers, whatever these name
+-- the input is read, and says a deck and what stands behind it, whatever numbers name
 pub record HoldsInput (reading : Reading) (left : Option (List ℕ)) (input : Input) : Type 0 where
   pub bytes : List ℕ
   pub given : IsInput reading left bytes

@@ -49,3 +49,4 @@ abbrev pub input_line : InputFault → List ℕ
 input_line input.TooLong = codes "framesweep: input too long\n"
 input_line (input.Deck fault) = fault_line fault
 input_line (input.ScheduleNumber place) = codes "framesweep: schedule number " ++ (decimal place ++ 10 ∷ [])
+input_line (input.ReportLine line) = codes "framesweep: report line " ++ (decimal line ++ codes ": syntax\n")

@@ -6,6 +6,7 @@ use Rattle.fs_io.specs.Count.{Rose}
 use Rattle.command_words.specs.declared.command.Command.{Command}
 use Rattle.deck_text.specs.declared.fault.DeckFault.TheVariants as deck
 use Rattle.deck_text.specs.Reasons.{IsDeckFault}
+use Rattle.report_text.specs.Printed.{Stops}
 use Rattle.replay_run.specs.Schedule.{first_unnamed}
 use Rattle.framesweep_cli.specs.declared.ending.Ending.{Ending}
 use Rattle.framesweep_cli.specs.declared.ending.Ending.TheVariants.{Done, Refused, ReadFailed, WriteFailed, OutOfMemory}
@@ -24,7 +25,17 @@ IsBadDeck bytes Read = ⊥
 IsBadDeck bytes (Refuses fault.TooLong) = ⊥
 IsBadDeck bytes (Refuses (fault.Deck f)) = IsDeckFault bytes f × (f ≢ deck.Memory)
 IsBadDeck bytes (Refuses (fault.ScheduleNumber place)) = ⊥
+IsBadDeck bytes (Refuses (fault.ReportLine line)) = ⊥
 IsBadDeck bytes Memory = ⊤
+
+-- why bytes are not read as a report: they stop to be one, or there was no memory
+abbrev pub IsBadReport : List ℕ → Stop → Type 0
+IsBadReport bytes Read = ⊥
+IsBadReport bytes (Refuses fault.TooLong) = ⊥
+IsBadReport bytes (Refuses (fault.Deck f)) = ⊥
+IsBadReport bytes (Refuses (fault.ScheduleNumber place)) = ⊥
+IsBadReport bytes (Refuses (fault.ReportLine line)) = Stops bytes line
+IsBadReport bytes Memory = ⊤
 
 -- why bytes say nothing that is read: they are refused, or there was no memory
 abbrev pub IsRefused : Reading → List ℕ → Stop → Type 0
@@ -44,6 +55,7 @@ IsUnnamed input Read = ⊥
 IsUnnamed input (Refuses fault.TooLong) = ⊥
 IsUnnamed input (Refuses (fault.Deck f)) = ⊥
 IsUnnamed input (Refuses (fault.ScheduleNumber place)) = first_unnamed (length input.deck.scripts) input.schedule ≡ Some place
+IsUnnamed input (Refuses (fault.ReportLine line)) = ⊥
 IsUnnamed input Memory = ⊤
 
 -- why nothing is made of the input

@@ -7,10 +7,12 @@ ghost use Rattle.deck_text.specs.Reasons.{ReadsDeck};
 ghost use Rattle.framesweep_cli.specs.Devices.{source_state};
 ghost use Rattle.framesweep_cli.specs.declared.reading.Reading.TheVariants as reading;
 ghost use Rattle.framesweep_cli.specs.Inputs.{most_bytes, IsInput, Holds, HoldsInput};
-ghost use Rattle.framesweep_cli.specs.Stops.{IsRefused, IsUnread, IsStopped, IsBadDeck};
+ghost use Rattle.framesweep_cli.specs.Stops.{IsRefused, IsUnread, IsStopped, IsBadDeck, IsBadReport};
+ghost use Rattle.framesweep_cli.specs.declared.limits.TheConstants.{REPORTED_BYTES};
+ghost use Rattle.report_text.specs.Printed.{printed, IsReport};
 
 use crate::fault::InputFault;
-use crate::limits::SCHEDULED_BYTES;
+use crate::limits::{REPORTED_BYTES, SCHEDULED_BYTES};
 use crate::reading::Reading;
 use crate::stop::Stop;
 use deck_text::{Deck, DeckFault, read_deck};
@@ -18,14 +20,18 @@ use fs_io::fault::ReadFault;
 use fs_io::source::Source;
 use fs_io::whole::read_all;
 use replay_run::{ScheduleList, read_schedule, split_input};
+use report_text::data::Report;
+use report_text::{ReportFault, read_report};
 use script_tree::items::Text;
 use std::alloc::Global;
 
-/// What an input says: a deck, and the numbers of the schedule behind it. It has none where a deck alone is read.
+/// What an input says: a deck, and what is read behind it, the numbers of a schedule or a report. Where no schedule is read
+/// there are no numbers.
 #[derive(Drop)]
 pub struct Input {
     pub deck: Deck,
     pub schedule: ScheduleList,
+    pub report: Option<Report>,
 }
 
 // All bytes of a source to the end of input, or one more than there may be.
@@ -64,6 +70,7 @@ fn judge_alone(alloc: Global, bytes: &[u8]) -> Result<Input, Stop>
         Ok(deck) => Ok(Input {
             deck,
             schedule: ScheduleList::new(alloc),
+            report: None,
         }),
         Err(stop) => Err(stop),
     }
@@ -84,8 +91,49 @@ fn judge_scheduled(alloc: Global, bytes: &[u8]) -> Result<Input, Stop>
         Err(stop) => return Err(stop),
     };
     match read_schedule(alloc, schedule_bytes) {
-        Ok(schedule) => Ok(Input { deck, schedule }),
+        Ok(schedule) => Ok(Input {
+            deck,
+            schedule,
+            report: None,
+        }),
         Err(_) => Err(Stop::Memory),
+    }
+}
+
+// The report that the bytes behind a deck are read as.
+fn judge_report(alloc: Global, bytes: &[u8]) -> Result<Report, Stop>
+    requires { length bytes.now ≤ REPORTED_BYTES }
+    ensures ok { IfOk result (λ report. (bytes.now ≡ printed report) × IsReport report) }
+    ensures err { IfErr result (IsBadReport bytes.now) }
+{
+    match read_report(alloc, bytes) {
+        Ok(report) => Ok(report),
+        Err(ReportFault::Memory) => Err(Stop::Memory),
+        Err(ReportFault::Syntax(line)) => Err(Stop::Input(InputFault::ReportLine(line))),
+    }
+}
+
+// A deck, and a report behind it.
+#[tactic(auto, using(crate::proofs::Judging::reported_laws))]
+fn judge_reported(alloc: Global, bytes: &[u8]) -> Result<Input, Stop>
+    ensures ok { IfOk result (Holds reading.Reported bytes.now) }
+    ensures err { IfErr result (IsRefused reading.Reported bytes.now) }
+{
+    if bytes.len() as u64 > REPORTED_BYTES {
+        return Err(Stop::Input(InputFault::TooLong));
+    }
+    let (deck_bytes, report_bytes) = split_input(bytes);
+    let deck = match judge_deck(alloc, deck_bytes) {
+        Ok(deck) => deck,
+        Err(stop) => return Err(stop),
+    };
+    match judge_report(alloc, report_bytes) {
+        Ok(report) => Ok(Input {
+            deck,
+            schedule: ScheduleList::new(alloc),
+            report: Some(report),
+        }),
+        Err(stop) => Err(stop),
     }
 }
 
@@ -97,6 +145,7 @@ fn judge(alloc: Global, reading: Reading, bytes: &[u8]) -> Result<Input, Stop>
     match reading {
         Reading::Deck => judge_alone(alloc, bytes),
         Reading::Scheduled => judge_scheduled(alloc, bytes),
+        Reading::Reported => judge_reported(alloc, bytes),
     }
 }
 

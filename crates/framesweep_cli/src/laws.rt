@@ -38,6 +38,7 @@ pub fn valid_input_is_served()
         → (Rose before.out.faults after.out.faults → ⊥) → (status ≡ 0) ⊎ (status ≡ 5) }
 {
     deck_text::laws::one_answer();
+    report_text::reports_are_told_apart();
     command_words::laws::words_ask_for_one_command();
 }
 
@@ -55,6 +56,7 @@ pub fn invalid_input_is_refused()
         → AsksFor words command → IsValid command before.source.left → status ≡ 2 → ⊥ }
 {
     deck_text::laws::one_answer();
+    report_text::reports_are_told_apart();
     command_words::laws::words_ask_for_one_command();
 }
 

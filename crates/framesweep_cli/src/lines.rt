@@ -78,6 +78,16 @@ fn schedule_number(alloc: Global, place: u32) -> Result<Text, OutOfMemory>
     Ok(text)
 }
 
+// The line of a report at which it stops to be one.
+fn report_line(alloc: Global, line: u32) -> Result<Text, OutOfMemory>
+    ensures { IfOk result (λ text. text ≡ input_line (InputFault.ReportLine line)) }
+{
+    let mut text = Text::from_slice(alloc, b"framesweep: report line ")?;
+    print_number(&mut text, line)?;
+    text.extend_from_slice(b": syntax\n")?;
+    Ok(text)
+}
+
 /// The line that names why input is refused. Takes memory.
 pub fn input_line(alloc: Global, fault: InputFault) -> Result<Text, OutOfMemory>
     ensures { IfOk result (λ text. text ≡ input_line fault) }
@@ -86,5 +96,6 @@ pub fn input_line(alloc: Global, fault: InputFault) -> Result<Text, OutOfMemory>
         InputFault::TooLong => Text::from_slice(alloc, b"framesweep: input too long\n"),
         InputFault::Deck(fault) => fault_line(alloc, fault),
         InputFault::ScheduleNumber(place) => schedule_number(alloc, place),
+        InputFault::ReportLine(line) => report_line(alloc, line),
     }
 }

@@ -1,6 +1,6 @@
 // What each command writes for its input.
 
-ghost use Rattle.std.specs.Prelude.{◌≡◌, ◌≤◌, length, IfOk, IfErr, OnOk};
+ghost use Rattle.std.specs.Prelude.{◌≡◌, ◌≤◌, length, Some, IfOk, IfErr, OnOk};
 ghost use Rattle.script_tree.specs.declared.limits.TheConstants.{VERSIONS};
 ghost use Rattle.signal_graph.specs.Legal.{Legal, finals};
 ghost use Rattle.call_log.specs.Merge.{Merge};
@@ -8,9 +8,9 @@ ghost use Rattle.deck_text.specs.Calls.{AreThreads};
 ghost use Rattle.report_text.specs.Report.{AreAnswered};
 ghost use Rattle.replay_run.specs.Faults.{place_of};
 ghost use Rattle.replay_run.specs.Schedule.{first_unnamed};
-ghost use Rattle.framesweep_cli.specs.Inputs.{reading_of, IsNamed, Suits};
+ghost use Rattle.framesweep_cli.specs.Inputs.{reading_of, HasReport, IsNamed, Suits};
 ghost use Rattle.framesweep_cli.specs.declared.reading.Reading.TheVariants.{Scheduled};
-ghost use Rattle.framesweep_cli.specs.Endings.{report_bytes, IsAlone, IsAnyRun, IsOutput, IsReplay, IsReport, IsSerial};
+ghost use Rattle.framesweep_cli.specs.Endings.{report_bytes, verdict_line, IsAlone, IsAnyRun, IsCheck, IsOutput, IsReplay, IsReport, IsSerial};
 ghost use Rattle.framesweep_cli.specs.Stops.{IsUnnamed};
 
 use crate::fault::InputFault;
@@ -20,9 +20,12 @@ use call_log::Finished;
 use command_words::Command;
 use deck_text::{Deck, print_deck};
 use replay_run::{ReplayFault, replay_owned};
+use report_check::{Verdict, check, reports_of_runs_by_their_bytes};
+use report_text::data::Report;
 use report_text::{report, report_json};
 use script_tree::items::Text;
 use script_tree::memory::OutOfMemory;
+use script_tree::print::print_number;
 use serial_machine::serial_owned;
 use signal_graph::call::Scripts;
 use signal_graph::graph::Graph;
@@ -100,7 +103,7 @@ fn replay_report(alloc: Global, input: Input, versions: u32, json: bool) -> Resu
     ensures named { OnOk result (IsNamed input) }
     ensures err { IfErr result (IsUnnamed input) }
 {
-    let Input { deck, schedule } = input;
+    let Input { deck, schedule, .. } = input;
     let (graph, scripts) = deck.into_parts();
     let finished = match replay_owned(alloc, &graph, scripts, &schedule, versions) {
         Ok(finished) => finished,
@@ -109,6 +112,49 @@ fn replay_report(alloc: Global, input: Input, versions: u32, json: bool) -> Resu
     match report_of(alloc, &graph, &finished, json) {
         Ok(text) => Ok(text),
         Err(_) => Err(Stop::Memory),
+    }
+}
+
+// The line of a verdict.
+fn verdict_line(alloc: Global, verdict: Verdict) -> Result<Text, OutOfMemory>
+    ensures { IfOk result (λ text. text ≡ verdict_line verdict) }
+{
+    match verdict {
+        Verdict::Yes => Text::from_slice(alloc, b"yes\n"),
+        Verdict::Wrong(line) => {
+            let mut text = Text::from_slice(alloc, b"no: line ")?;
+            print_number(&mut text, line)?;
+            text.extend_from_slice(b"\n")?;
+            Ok(text)
+        }
+    }
+}
+
+// The verdict on a report of a deck.
+#[tactic(auto, using(crate::proofs::Checking::few_lines))]
+fn check_report(
+    alloc: Global,
+    deck: &Deck,
+    report: &Report,
+    versions: u32,
+) -> Result<Text, OutOfMemory>
+    requires { HasReport (Some report.now) }
+    ensures { IfOk result (IsCheck deck.now versions report.now) }
+{
+    reports_of_runs_by_their_bytes();
+    let verdict = check(alloc, deck, report, versions)?;
+    verdict_line(alloc, verdict)
+}
+
+// The verdict on the report of an input.
+#[tactic(auto, using(crate::proofs::Checking::check_output))]
+fn check_input(alloc: Global, input: &Input, versions: u32) -> Result<Text, OutOfMemory>
+    requires { HasReport input.now.report }
+    ensures { IfOk result (IsOutput (Command.Check versions) input.now) }
+{
+    match &input.report {
+        Some(report) => check_report(alloc, &input.deck, report, versions),
+        None => unreachable!(),
     }
 }
 
@@ -125,9 +171,10 @@ pub fn output(alloc: Global, command: &Command, input: Input) -> Result<Text, St
         Command::Run { .. } => unreachable!(),
         Command::Replay { versions, json } => replay_report(alloc, input, *versions, *json),
         Command::Serial { versions, json } => {
-            let Input { deck, schedule: _ } = input;
+            let Input { deck, .. } = input;
             Ok(serial_report(alloc, deck, *versions, *json)?)
         }
         Command::Print => Ok(print_deck(alloc, &input.deck)?),
+        Command::Check { versions } => Ok(check_input(alloc, &input, *versions)?),
     }
 }

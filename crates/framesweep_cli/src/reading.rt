@@ -1,6 +1,6 @@
 // The table of what commands read.
 
-use crate::limits::SCHEDULED_BYTES;
+use crate::limits::{REPORTED_BYTES, SCHEDULED_BYTES};
 use command_words::Command;
 use script_tree::limits::DECK_BYTES;
 
@@ -11,6 +11,8 @@ pub enum Reading {
     Deck,
     /// A deck, and a schedule behind it.
     Scheduled,
+    /// A deck, and a report behind it.
+    Reported,
 }
 
 impl Reading {
@@ -24,6 +26,7 @@ impl Reading {
         match command {
             Command::Run { .. } | Command::Serial { .. } | Command::Print => Reading::Deck,
             Command::Replay { .. } => Reading::Scheduled,
+            Command::Check { .. } => Reading::Reported,
         }
     }
 
@@ -34,6 +37,7 @@ impl Reading {
         match self {
             Reading::Deck => DECK_BYTES,
             Reading::Scheduled => SCHEDULED_BYTES,
+            Reading::Reported => REPORTED_BYTES,
         }
     }
 }

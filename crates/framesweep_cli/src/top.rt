@@ -49,7 +49,7 @@ fn make_run<S: Source>(
         (source_state (S.left source.old) (S.faults source.old))
         (source_state (S.left source.new) (S.faults source.new)) result }
 {
-    let Input { deck, schedule: _ } = match input_of(alloc, Reading::Deck, source) {
+    let Input { deck, .. } = match input_of(alloc, Reading::Deck, source) {
         Ok(input) => input,
         Err(stop) => return Err(stop),
     };
@@ -130,7 +130,7 @@ fn finish<O: Sink, E: Sink>(
     }
 }
 
-/// Does what a command asks for, one of `replay`, `serial` and `print`: reads its input to the end, judges it, makes the
+/// Does what a command asks for, one of `replay`, `serial`, `print` and `check`: reads its input to the end, judges it, makes the
 /// run and the whole output, and writes it. Answers the status. Condition: the command is one of these, and its limit of
 /// versions is at most 4,000,000. It waits for nobody and always returns. Takes memory.
 ///
@@ -215,9 +215,8 @@ fn serve<S: Source, O: Sink, E: Sink>(
 {
     match command {
         Command::Run { versions, json } => serve_run(alloc, *versions, *json, source, out, err),
-        Command::Replay { .. } | Command::Serial { .. } | Command::Print => {
-            framesweep_alone(alloc, command, source, out, err)
-        }
+        Command::Replay { .. } | Command::Serial { .. } | Command::Print | Command::Check { .. } =>
+            framesweep_alone(alloc, command, source, out, err),
     }
 }
 
