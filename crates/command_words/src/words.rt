@@ -153,8 +153,8 @@ fn read_texts(alloc: Global, texts: &[&str]) -> Result<Command, WordsFault>
 ///
 /// `Refused`: they are no command line. A command line is a command's word and the options behind it: `run`, `replay` or
 /// `serial`, each with the options `--json` and `--versions N` (or `--versions=N`), `check` with the latter alone, or `print`, which
-/// has none. Each option stands at most once, in any order. N has 1 to 7 decimal digits and is at most 4,000,000, which is the limit of versions
-/// without the option.
+/// has none. Each option stands at most once, in any order. N has 1 to 7 decimal digits and is at most 4,000,000, which is the
+/// limit of versions without the option.
 #[tactic(auto, using(crate::proofs::Asked::no_text))]
 pub fn read_words(alloc: Global, words: &[Text]) -> Result<Command, WordsFault>
     ensures { ReadsWords words.now result }

@@ -22,7 +22,8 @@ use Rattle.framesweep_cli.specs.declared.fault.InputFault.TheVariants as input
 use Rattle.framesweep_cli.specs.declared.input.Input.{Input}
 use Rattle.framesweep_cli.specs.declared.reading.Reading.{Reading}
 use Rattle.framesweep_cli.specs.declared.reading.Reading.TheVariants as reads
-use Rattle.framesweep_cli.specs.Inputs.{reading_of, most_bytes, behind_text, IsReportText, Spells, IsFault, IsRefusedFor, IsValid, IsInvalid}
+use Rattle.framesweep_cli.specs.Inputs.{reading_of, most_bytes, behind_text, IsReportText, Spells, IsFault}
+use Rattle.framesweep_cli.specs.Inputs.{IsRefusedFor, IsValid, IsInvalid}
 use Rattle.framesweep_cli.specs.Endings.{Makes}
 use Rattle.framesweep_cli.proofs.Judging.{holds_short}
 use Rattle.replay_run.specs.Input.{deck_text}

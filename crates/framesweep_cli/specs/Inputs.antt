@@ -76,8 +76,8 @@ pub record Spells (reading : Reading) (bytes : List ℕ) (input : Input) : Type 
   pub named : IsNamed input
 
 -- Bytes are refused, for this fault. Of several the first one is named: they are too many, the deck has a fault, the schedule has
--- a number that names no thread or the report a line that stands in none. A deck that is read alone and has too many bytes is refused by the line that holds the first of
--- these.
+-- a number that names no thread or the report a line that stands in none. A deck that is read alone and has too many bytes is
+-- refused by the line that holds the first of these.
 abbrev pub IsFault : Reading → List ℕ → InputFault → Type 0
 IsFault Deck bytes fault.TooLong = ⊥
 IsFault Deck bytes (fault.Deck f) = IsDeckFault bytes f × (f ≢ Memory)

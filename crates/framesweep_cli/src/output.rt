@@ -10,7 +10,8 @@ ghost use Rattle.replay_run.specs.Faults.{place_of};
 ghost use Rattle.replay_run.specs.Schedule.{first_unnamed};
 ghost use Rattle.framesweep_cli.specs.Inputs.{reading_of, HasReport, IsNamed, Suits};
 ghost use Rattle.framesweep_cli.specs.declared.reading.Reading.TheVariants.{Scheduled};
-ghost use Rattle.framesweep_cli.specs.Endings.{report_bytes, verdict_line, IsAlone, IsAnyRun, IsCheck, IsOutput, IsReplay, IsReport, IsSerial};
+ghost use Rattle.framesweep_cli.specs.Endings.{report_bytes, verdict_line, IsAlone, IsAnyRun, IsCheck, IsOutput};
+ghost use Rattle.framesweep_cli.specs.Endings.{IsReplay, IsReport, IsSerial};
 ghost use Rattle.framesweep_cli.specs.Stops.{IsUnnamed};
 
 use crate::fault::InputFault;
