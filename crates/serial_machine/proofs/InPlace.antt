@@ -59,7 +59,7 @@ same_over_all graph is_graph n a b within e =
     (all_map (λ m. m < 0 + n) (λ m. at a m ≡ at b m) (λ m h. e m (omega arith)) (inputs_of (node_at graph n)) (earlier_inputs graph.names (0 + n) (node_at graph n) is))
 
 -- what holds below a number and at it holds below the next
-at_next : (P : ℕ → Type 0) (n : ℕ) → ((m : ℕ) → m < n → P m) → P n → (m : ℕ) → m < n + 1 → P m
+pub at_next : (P : ℕ → Type 0) (n : ℕ) → ((m : ℕ) → m < n → P m) → P n → (m : ℕ) → m < n + 1 → P m
 at_next P zero f p zero h = p
 at_next P zero f p (suc m) h = absurd (omega arith)
 at_next P (suc n) f p zero h = f zero (omega arith)

@@ -3,6 +3,9 @@ pub mod Counting
 pub mod OnePass
 pub mod Resting
 pub mod InPlace
+pub mod Reaching
+pub mod MarkLaws
+pub mod ChooserLists
 pub mod Runs
 pub mod Merging
 pub mod Moving

@@ -26,7 +26,7 @@ new_stay before set (node ∷ rest) earlier k h =
     new_stay before set rest (earlier ++ v ∷ []) k (omega (arith, length-append earlier (v ∷ [])))
     ∙ get_or_append_left earlier (v ∷ []) (Faulty NoChoice) k h
 
-all_append : (P : ℕ → Type 0) (xs ys : List ℕ) → AllByRecursion P xs → AllByRecursion P ys → AllByRecursion P (xs ++ ys)
+pub all_append : (P : ℕ → Type 0) (xs ys : List ℕ) → AllByRecursion P xs → AllByRecursion P ys → AllByRecursion P (xs ++ ys)
 all_append P [] ys a b = b
 all_append P (x ∷ xs) ys a b = (a.0, all_append P xs ys a.1 b)
 
@@ -41,24 +41,25 @@ earlier_in_all names n [] h = tt
 earlier_in_all names n (selector ∷ rest) h =
     all_append (λ m. m < n) selector.inputs (inputs_of_all rest) h.0.inputs_earlier (earlier_in_all names n rest h.1)
 
-earlier_candidate : (n : ℕ) (candidates : List ℕ) (i : ℕ) (rest : List (Option ℕ)) → AllByRecursion (λ m. m < n) candidates → AllByRecursion (λ m. m < n) (nodes_in rest) → AllByRecursion (λ m. m < n) (nodes_in (taken (candidate (slice_get candidates i)) ∷ rest))
-earlier_candidate n [] i rest h later = later
-earlier_candidate n (c ∷ cs) zero rest h later = (h.0, later)
-earlier_candidate n (c ∷ cs) (suc i) rest h later = earlier_candidate n cs i rest h.1 later
+picked_candidate : (P : ℕ → Type 0) (candidates : List ℕ) (i : ℕ) (rest : List (Option ℕ)) → AllByRecursion P candidates → AllByRecursion P (nodes_in rest) → AllByRecursion P (nodes_in (taken (candidate (slice_get candidates i)) ∷ rest))
+picked_candidate P [] i rest h later = later
+picked_candidate P (c ∷ cs) zero rest h later = (h.0, later)
+picked_candidate P (c ∷ cs) (suc i) rest h later = picked_candidate P cs i rest h.1 later
 
-earlier_pick : (n : ℕ) (value : Value) (candidates : List ℕ) (rest : List (Option ℕ)) → AllByRecursion (λ m. m < n) candidates → AllByRecursion (λ m. m < n) (nodes_in rest) → AllByRecursion (λ m. m < n) (nodes_in (taken (select value candidates) ∷ rest))
-earlier_pick n (Int (pos i)) candidates rest h later = earlier_candidate n candidates i rest h later
-earlier_pick n (Int (negsuc i)) candidates rest h later = later
-earlier_pick n (Truth b) candidates rest h later = later
-earlier_pick n (Faulty f) candidates rest h later = later
+-- what holds of candidates holds of the one that is picked
+pub picked : (P : ℕ → Type 0) (value : Value) (candidates : List ℕ) (rest : List (Option ℕ)) → AllByRecursion P candidates → AllByRecursion P (nodes_in rest) → AllByRecursion P (nodes_in (taken (select value candidates) ∷ rest))
+picked P (Int (pos i)) candidates rest h later = picked_candidate P candidates i rest h later
+picked P (Int (negsuc i)) candidates rest h later = later
+picked P (Truth b) candidates rest h later = later
+picked P (Faulty f) candidates rest h later = later
 
 earlier_picks : (names : List (List ℕ)) (n : ℕ) (all : Values) (selectors : List Selector) → AllByRecursion (IsSelector names n) selectors → AllByRecursion (λ m. m < n) (nodes_in (map (λ s. taken (selected all s)) selectors))
 earlier_picks names n all [] h = tt
 earlier_picks names n all (s ∷ rest) h =
-    earlier_pick n (run s.script s.inputs all (Faulty Kind)) s.candidates (map (λ r. taken (selected all r)) rest) h.0.candidates_earlier (earlier_picks names n all rest h.1)
+    picked (λ m. m < n) (run s.script s.inputs all (Faulty Kind)) s.candidates (map (λ r. taken (selected all r)) rest) h.0.candidates_earlier (earlier_picks names n all rest h.1)
 
 -- a node rests on earlier nodes alone
-earlier_deps : (names : List (List ℕ)) (n : ℕ) (node : Node) (all : Values) → IsNode names n node → AllByRecursion (λ m. m < n) (inputs_of node ++ nodes_in (picks_of node all))
+pub earlier_deps : (names : List (List ℕ)) (n : ℕ) (node : Node) (all : Values) → IsNode names n node → AllByRecursion (λ m. m < n) (inputs_of node ++ nodes_in (picks_of node all))
 earlier_deps names n (Source start) all h = tt
 earlier_deps names n (Signal script inputs) all h = all_append (λ m. m < n) inputs [] h.3 tt
 earlier_deps names n (Fold start script inputs) all h = all_append (λ m. m < n) inputs [] h.3 tt

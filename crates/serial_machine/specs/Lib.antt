@@ -1,3 +1,5 @@
+pub mod Marking
+pub mod Reading
 pub mod State
 pub mod Between
 pub mod Progress

@@ -1,8 +1,9 @@
 -- What contracts see of a machine.
-use Rattle.std.specs.Prelude.{◌≡◌, ℕ, ◌<◌, List, [], length, Option, slice_index_or}
+use Rattle.std.specs.Prelude.{◌≡◌, ℕ, ◌<◌, Bool, List, [], length, Option, slice_index_or}
 use Rattle.script_tree.specs.declared.value.Value.{Value}
 use Rattle.signal_graph.specs.Graph.{Graph, node_at}
 use Rattle.signal_graph.specs.Values.{Values, values, picks_of}
+use Rattle.serial_machine.specs.Reading.{AreChoosers}
 
 -- the graph, and the values of all its nodes
 pub record State : Type 0 where
@@ -25,3 +26,10 @@ pub record IsKept (graph : Graph) (all : Values) (picked : List (List (Option �
   pub follow : values graph all ≡ all
   pub as_many : length all ≡ length graph.nodes
   pub picks : ArePicks graph all picked
+
+-- and what stands beside that for the next fire: the same values, the chooses of each node, and room for a mark of each
+pub record IsReady (graph : Graph) (all : Values) (picked : List (List (Option ℕ))) (before : Values) (choosers : List (List ℕ)) (marks : List Bool) : Type 0 where
+  pub kept : IsKept graph all picked
+  pub copied : before ≡ all
+  pub reached : AreChoosers graph choosers
+  pub marked : length marks ≡ length graph.nodes

@@ -13,7 +13,8 @@ use signal_graph::compare::is_same;
 use signal_graph::evaluate::value_at;
 use signal_graph::node::Node;
 
-fn differs(before: &[Value], now: &[Value], node: u32) -> bool
+/// Whether a node has another value than before.
+pub fn differs(before: &[Value], now: &[Value], node: u32) -> bool
     ensures { result ≡ differs before.now now.now node }
 {
     !is_same(value_at(before, node), value_at(now, node))

@@ -1,10 +1,12 @@
 //! The plain one-thread machine, and the run of all scripts on it.
 #![tactic(auto)]
 
+mod choosers;
 mod compare;
 mod count;
 pub mod laws;
 mod machine;
+mod marks;
 mod pass;
 mod run;
 

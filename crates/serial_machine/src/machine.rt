@@ -1,6 +1,6 @@
 // The machine.
 
-ghost use Rattle.std.specs.Prelude.{◌≡◌, ℕ, ◌<◌, ◌≤◌, [], List, length, map, take, slice_set, vec_capacity, vec_len, None, IfOk, OnOk, OnErr, MatchResult};
+ghost use Rattle.std.specs.Prelude.{◌≡◌, ℕ, false, ◌<◌, ◌≤◌, [], List, length, map, take, slice_set, vec_capacity, vec_len, None, IfOk, OnOk, OnErr, MatchResult};
 ghost use Rattle.script_tree.specs.declared.limits.TheConstants.{SETS, LOOKS};
 ghost use Rattle.script_tree.specs.declared.value.Value.{Value};
 ghost use Rattle.signal_graph.specs.Graph.{Graph, IsGraph, number_of};
@@ -9,8 +9,11 @@ ghost use Rattle.signal_graph.specs.Machine.{with_sets, sets_of, looks_of, misna
 ghost use Rattle.signal_graph.specs.Named.{numbers_in};
 ghost use Rattle.signal_graph.specs.OnePass.{after_call};
 ghost use Rattle.serial_machine.specs.State.{IsAt};
+ghost use Rattle.serial_machine.specs.Marking.{is_marked};
 ghost use Rattle.serial_machine.specs.Between.{count_changed, count_evaluated, reply_between};
 
+use crate::choosers::choosers;
+use crate::marks::Marks;
 use crate::pass::renew_all;
 use script_tree::items::Items;
 use script_tree::memory::OutOfMemory;
@@ -25,8 +28,9 @@ use std::alloc::Global;
 use std::marker::Model;
 
 /// A graph and the values of all its nodes in one state, which follow from the values of its sources and folds. Beside
-/// them stand the picks of each choose, so that a fire evaluates only what rests on a change. Contracts see the graph
-/// and the values.
+/// them stand the picks of each choose, so that a fire evaluates only what rests on a change, and the same values once
+/// more, which a fire finds as those before it: it goes to the nodes alone that a change can reach. Contracts see the
+/// graph and the values.
 #[derive(Drop)]
 pub struct Machine<'g> {
     alloc: Global,
@@ -34,12 +38,14 @@ pub struct Machine<'g> {
     values: Vec<Value>,
     picks: Vec<Picks>,
     before: Vec<Value>,
+    choosers: Vec<Items<u32>>,
+    marks: Marks,
 }
 
 impl<'g> Model for Machine<'g> {
     ghost use Rattle.script_tree.specs.TreeCode.{tree_code};
     ghost use Rattle.std.specs.Coded.{codes};
-    ghost use Rattle.serial_machine.specs.State.{State, IsKept};
+    ghost use Rattle.serial_machine.specs.State.{State, IsReady};
 
     ghost Value = { State };
 
@@ -47,7 +53,7 @@ impl<'g> Model for Machine<'g> {
 
     ghost view = { λ m. record { graph = m.graph.now; all = m.values.items } };
 
-    ghost invariant = { λ m. IsKept m.graph.now m.values.items m.picks.items };
+    ghost invariant = { λ m. IsReady m.graph.now m.values.items m.picks.items m.before.items m.choosers.items m.marks };
 }
 
 /// The values of nodes, in the room that a list has.
@@ -63,17 +69,21 @@ fn look(nodes: &[u32], values: &[Value], room: Vec<Value>) -> ValueList
     Items::from_vec(seen)
 }
 
-/// Puts what is set in the place of what the sources have, one set after the other.
+/// Puts what is set in the place of what the sources have, one set after the other, and marks these.
 #[tactic(auto, using(crate::proofs::Counting::sets_step, crate::proofs::Counting::set_beyond))]
-fn apply(sets: &[(Name, Value)], nodes: &[u32], values: &mut Vec<Value>)
-    requires { length nodes.now ≡ length sets.now }
+fn apply(sets: &[(Name, Value)], nodes: &[u32], values: &mut Vec<Value>, marks: &mut Marks)
+    requires as_many { length nodes.now ≡ length sets.now }
+    requires size { length marks.old ≡ length values.old.items }
     ensures size { length values.new.items ≡ length values.old.items }
+    ensures marks { length marks.new ≡ length marks.old }
+    ensures marked { (n : ℕ) → is_marked marks.new n ≡ false → at values.new.items n ≡ at values.old.items n }
     ensures sets { (graph : Graph) → nodes.now ≡ map (λ s. number_of graph s.0) sets.now → values.new.items ≡ with_sets graph values.old.items sets.now }
 {
     for (index, set) in sets.iter().enumerate() {
         let node = nodes[index] as usize;
         if node < values.len() {
             values[node] = set.1;
+            marks.add(nodes[index]);
         }
     }
 }
@@ -116,12 +126,17 @@ impl<'g> Machine<'g> {
             values.push(graph.start_value(node))?;
             picks.push(graph.start_picks(node))?;
         }
+        let before = Vec::from_slice(alloc, values.as_slice())?;
+        let choosers = choosers(alloc, graph)?;
+        let marks = Marks::new(alloc, graph.len())?;
         Ok(Machine {
             alloc,
             graph,
             values,
             picks,
-            before: Vec::new(alloc),
+            before,
+            choosers,
+            marks,
         })
     }
 
@@ -192,6 +207,7 @@ impl<'g> Machine<'g> {
     }
 
     /// Makes a fire that sets and looks at these nodes.
+    #[tactic(auto, using(crate::proofs::Reaching::ready_after))]
     fn fire(
         &mut self,
         sets: &[(Name, Value)],
@@ -205,15 +221,16 @@ impl<'g> Machine<'g> {
         ensures err { OnErr result (self.new ≡ self.old) }
     {
         let room = Vec::with_capacity(self.alloc, looks.len())?;
-        self.before.clear();
-        self.before.extend_from_slice(self.values.as_slice())?;
-        apply(sets, nodes, &mut self.values);
+        apply(sets, nodes, &mut self.values, &mut self.marks);
         let counts = renew_all(
             self.graph,
+            self.choosers.as_slice(),
             self.before.as_slice(),
             &mut self.values,
             &mut self.picks,
+            &mut self.marks,
         );
+        self.marks.settle(&mut self.before, self.values.as_slice());
         Ok(Reply::Fire {
             changed: counts.changed,
             evaluated: counts.evaluated,

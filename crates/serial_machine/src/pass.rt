@@ -1,19 +1,22 @@
 // All values after a fire, in one pass over the nodes.
 
-ghost use Rattle.std.specs.Prelude.{◌≡◌, ◌+◌, ◌<◌, ◌^◌, [], true, length, take, slice_set, slice_index_or};
+ghost use Rattle.std.specs.Prelude.{◌≡◌, ℕ, ◌+◌, ◌<◌, ◌^◌, [], true, false, length, take, slice_set, slice_index_or};
 ghost use Rattle.script_tree.specs.declared.value.Value.{Value};
-ghost use Rattle.signal_graph.specs.Graph.{IsGraph, node_at};
+ghost use Rattle.signal_graph.specs.Graph.{IsGraph, node_at, is_in};
 ghost use Rattle.signal_graph.specs.Values.{Values, at, values, run, node_value, picks_of};
 ghost use Rattle.signal_graph.specs.Machine.{differs};
 ghost use Rattle.signal_graph.specs.Evaluation.{CanEvaluate};
 ghost use Rattle.signal_graph.specs.OnePass.{new_value, new_from};
 ghost use Rattle.serial_machine.specs.State.{ArePicks};
+ghost use Rattle.serial_machine.specs.Marking.{is_marked, AreMore};
+ghost use Rattle.serial_machine.specs.Reading.{reads, AreChoosers};
 ghost use Rattle.serial_machine.specs.Between.{one_if, is_evaluated, count_changed, count_evaluated};
 
-use crate::compare::is_evaluated;
+use crate::compare::{differs, is_evaluated};
+use crate::marks::Marks;
+use script_tree::items::Items;
 use script_tree::picks::Picks;
 use script_tree::value::Value;
-use signal_graph::compare::is_same;
 use signal_graph::evaluate::{Evaluated, run, value_at};
 use signal_graph::graph::Graph;
 use signal_graph::node::Node;
@@ -87,31 +90,71 @@ fn renew(
     true
 }
 
+// Marks all nodes that can rest on one, where its value is another than before.
+#[tactic(auto, using(crate::proofs::ChooserLists::told))]
+fn tell(graph: &Graph, choosers: &[Items<u32>], number: u32, moved: bool, marks: &mut Marks)
+    requires known { number < length graph.now.nodes }
+    requires choosers { AreChoosers graph.now choosers.now }
+    requires size { length marks.old ≡ length graph.now.nodes }
+    ensures size { length marks.new ≡ length marks.old }
+    ensures more { AreMore marks.old marks.new }
+    ensures told { moved ≡ true → (n : ℕ) → n < length graph.now.nodes → reads (node_at graph.now n) number ≡ true → is_marked marks.new n ≡ true }
+{
+    if moved {
+        add_all(graph.static_outs(number), marks);
+        add_all(choosers[number as usize].as_slice(), marks);
+    }
+}
+
+fn add_all(nodes: &[u32], marks: &mut Marks)
+    ensures size { length marks.new ≡ length marks.old }
+    ensures more { AreMore marks.old marks.new }
+    ensures added { (n : ℕ) → n < length marks.old → is_in n nodes.now ≡ true → is_marked marks.new n ≡ true }
+{
+    for node in nodes {
+        marks.add(*node);
+    }
+}
+
 /// Brings the values of all nodes and their picks from before a fire, where `now` has what is set, to after it, and
-/// counts what the fire did. When the pass comes to a node, all nodes that it rests on have their new values. Each node
-/// is evaluated at most once. Takes no memory.
-#[tactic(auto, using(crate::proofs::InPlace::begins, crate::proofs::InPlace::ends))]
+/// counts what the fire did. It goes from marked node to marked node, of which each one that has another value marks the
+/// nodes that can rest on it: at first those are marked that are set. When the pass comes to a node, all nodes that it
+/// rests on have their new values. Each node is evaluated at most once. Takes no memory.
 pub fn renew_all(
     graph: &Graph,
+    choosers: &[Items<u32>],
     before: &[Value],
     now: &mut Vec<Value>,
     picks: &mut Vec<Picks>,
+    marks: &mut Marks,
 ) -> Counts
     requires follow { values graph.now before.now ≡ before.now }
     requires fits { length now.old.items ≡ length graph.now.nodes }
     requires picked { ArePicks graph.now before.now picks.old.items }
+    requires choosers { AreChoosers graph.now choosers.now }
+    requires size { length marks.old ≡ length graph.now.nodes }
+    requires set { (n : ℕ) → is_marked marks.old n ≡ false → at now.old.items n ≡ at before.now n }
+    ensures fits { length now.new.items ≡ length graph.now.nodes }
     ensures values { now.new.items ≡ new_from before.now now.old.items [] graph.now.nodes }
     ensures picked { ArePicks graph.now now.new.items picks.new.items }
     ensures changed { result.changed ≡ count_changed graph.now before.now now.new.items }
     ensures evaluated { result.evaluated ≡ count_evaluated graph.now before.now now.new.items }
+    ensures size { length marks.new ≡ length marks.old }
+    ensures agree { (n : ℕ) → is_marked marks.new n ≡ false → at before.now n ≡ at now.new.items n }
 {
     let mut changed = 0;
     let mut evaluated = 0;
-    for number in 0..graph.len() {
+    let mut from = 0;
+    for _ in 0..graph.len() {
+        let Some(number) = marks.next_from(from) else {
+            return Counts { changed, evaluated };
+        };
         let touched = renew(graph, number, before, now, picks);
-        let same = is_same(value_at(before, number), value_at(now.as_slice(), number));
-        changed = counted(changed, !same);
+        let moved = differs(before, now.as_slice(), number);
+        tell(graph, choosers, number, moved, marks);
+        changed = counted(changed, moved);
         evaluated = counted(evaluated, touched);
+        from = number + 1;
     }
     Counts { changed, evaluated }
 }

@@ -1,26 +1,35 @@
-use Rattle.std.proofs.Common.{◌≡◌, ◌+◌, ◌<◌, length, sym, ap, ◌∙◌, subst, arith}
-use Rattle.std.specs.Prelude.{not}
-use Rattle.signal_graph.specs.Values.{at}
-use Rattle.signal_graph.specs.Machine.{same}
-use Rattle.serial_machine.specs.Between.{one_if}
-use Rattle.serial_machine.proofs.InPlace.{Comes, next}
+use Rattle.std.proofs.Common.{refl, ap, ◌∙◌}
+use Rattle.signal_graph.specs.Machine.{differs}
+use Rattle.serial_machine.proofs.Reaching.{HasReached, reached, visits_next}
 use Rattle.serial_machine.proofs.pass.renew_all.Goals as goal
 
-pub loop-number-preserved : goal.loop-number-preserved
-loop-number-preserved c =
-    let graph = c.args.graph.now in
+pub loop-preserved : goal.loop-preserved
+loop-preserved c =
     let before = c.args.before.now in
-    let set = c.args.now.now.items in
-    let n = c.loop-number.number in
-    let more = c.renew-touched.new.now.items in
-    let renewed = c.renew-touched.new.picks.items in
-    let differing = not c.is_same-same.result in
-    let touched = c.renew-touched.result in
-    let within : n < length graph.nodes = omega arith in
-    let by_change : differing ≡ not (same (at before n) (at more n)) =
-    ap not (c.is_same-same.ensures ∙ ap (λ u. same u c.value_at-in-loop-number.result) c.value_at.ensures
-    ∙ ap (same (at before n)) (c.value_at-in-loop-number.ensures ∙ ap (λ vs. at vs n) c.as_slice.ensures.value)) in
-    let comes = next graph before set n c.loop-number.now.items more c.loop-number.picks.items renewed c.loop-number.changed c.loop-number.evaluated differing touched
-    c.len-number-end.ensures.kept within c.renew-touched.ensures.evaluated c.renew-touched.ensures.value c.renew-touched.ensures.picks by_change c.loop-number.invariant in
-    subst (λ k. Comes graph before set (n + 1) more renewed k c.counted-evaluated.result) (sym c.counted-changed.ensures)
-    (subst (λ k. Comes graph before set (n + 1) more renewed (c.loop-number.changed + one_if differing) k) (sym c.counted-evaluated.ensures) comes)
+    let n = c.in-Some.number in
+    visits_next c.args.graph.now before c.args.now.now.items c.loop.counter _ c.loop.from _ n c.loop.now.items c.renew-touched.new.now.items c.loop.picks.items c.renew-touched.new.picks.items
+    c.loop.marks c.tell.new.marks c.loop.changed c.loop.evaluated c.counted-changed.result c.counted-evaluated.result c.differs-moved.result c.renew-touched.result
+    c.len-end.ensures.kept c.requires.follow c.in-Some.ensures.some refl refl c.renew-touched.ensures.evaluated c.renew-touched.ensures.value c.renew-touched.ensures.picks
+    (c.differs-moved.ensures ∙ ap (λ vs. differs before vs n) c.as_slice.ensures.value)
+    c.tell.ensures.size c.tell.ensures.more c.tell.ensures.told c.counted-changed.ensures c.counted-evaluated.ensures c.loop.invariant
+
+-- no mark is left
+done : (c : goal.In_default) → HasReached c.args.graph.now c.args.before.now c.args.now.now.items c.loop.now.items c.loop.picks.items c.loop.marks c.loop.changed c.loop.evaluated
+done c =
+    reached c.args.graph.now c.args.before.now c.args.now.now.items c.loop.counter c.loop.from c.loop.now.items c.loop.picks.items c.loop.marks c.loop.changed c.loop.evaluated
+    c.len-end.ensures.kept c.requires.follow c.in_default.ensures.none c.loop.invariant
+
+pub returns-in_default-clause-values : goal.returns-in_default-clause-values
+returns-in_default-clause-values c = (done c).values
+
+pub returns-in_default-clause-picked : goal.returns-in_default-clause-picked
+returns-in_default-clause-picked c = (done c).picks
+
+pub returns-in_default-clause-changed : goal.returns-in_default-clause-changed
+returns-in_default-clause-changed c = (done c).changes
+
+pub returns-in_default-clause-evaluated : goal.returns-in_default-clause-evaluated
+returns-in_default-clause-evaluated c = (done c).evaluates
+
+pub returns-in_default-clause-agree : goal.returns-in_default-clause-agree
+returns-in_default-clause-agree c = (done c).agree

@@ -1,5 +1,5 @@
-use Rattle.serial_machine.proofs.InPlace.{Comes}
+use Rattle.serial_machine.proofs.Reaching.{Visits}
 use Rattle.serial_machine.proofs.pass.renew_all.Given as goal
 
-abbrev pub invariant-loop-number : goal.invariant-loop-number
-invariant-loop-number l = Comes l.graph l.before l.fn.now.items l.number l.now.items l.picks.items l.changed l.evaluated
+abbrev pub invariant-loop : goal.invariant-loop
+invariant-loop l = Visits l.graph l.before l.fn.now.items l.counter l.from l.now.items l.picks.items l.marks l.changed l.evaluated

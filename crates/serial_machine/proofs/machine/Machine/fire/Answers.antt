@@ -17,7 +17,4 @@ returns-clause-replies c names numbers =
     let n : c.renew_all-counts.new.now.items ≡ after_call graph all (Fire c.args.sets.now names) = first_of (search rules, grind (arith, common_steps)) in
     fired_is c.self.inside.graph.now graph c.as_slice-2.result.now all c.renew_all-counts.new.now.items (after_call graph all (Fire c.args.sets.now names)) c.args.looks.now names
     c.renew_all-counts.result.changed c.renew_all-counts.result.evaluated c.look.result c.renew_all-counts.ensures.changed c.renew_all-counts.ensures.evaluated
-    (c.look.ensures ∙ ap (λ vs. map (at vs) c.args.looks.now) c.as_slice-3.ensures.value) numbers g b n
-
-pub invariant_of-self-2 : goal.invariant_of-self-2
-invariant_of-self-2 c = kept_after _ _ _ _ _ c.renew_all-counts.ensures.values c.renew_all-counts.ensures.picked
+    (c.look.ensures ∙ ap (λ vs. map (at vs) c.args.looks.now) c.as_slice-4.ensures.value) numbers g b n
