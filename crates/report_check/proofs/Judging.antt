@@ -1,5 +1,5 @@
 -- Which line is the first wrong one, from where lines of calls stop and where the lines behind them differ.
-use Rattle.std.proofs.Common.{◌≡◌, ◌≢◌, ℕ, zero, suc, ◌+◌, ◌-◌, ◌<◌, ◌≤◌, Bool, true, false, List, [], ◌∷◌, ◌++◌, length, take, map, refl, sym, ap, ◌∙◌, subst, arith}
+use Rattle.std.proofs.Common.{◌≡◌, ◌≢◌, ℕ, zero, suc, ◌+◌, ◌-◌, ◌<◌, ◌≤◌, Bool, true, false, List, [], ◌∷◌, ◌++◌, length, take, map, refl, sym, ap, ◌∙◌, subst, arith, length-append}
 use Rattle.std.specs.Prelude.{slice_get, nat_lt, Option, Some, None}
 use Rattle.std.proofs.lemmas.Bool.Decides.{nat_tests}
 use Rattle.std.specs.List.{zip}
@@ -356,6 +356,14 @@ pub behind_size : (refused : List Refused) (last : List (List ℕ × Value)) (ac
 behind_size [] [] accepted refusals = omega arith
 behind_size [] (x ∷ last) accepted refusals = let rest = behind_size [] last accepted refusals in omega (arith, rest)
 behind_size (x ∷ refused) last accepted refusals = let rest = behind_size refused last accepted refusals in omega (arith, rest)
+
+-- the number of a line behind those of calls and of refusals, up to the last line
+pub number_within : (report : Report) (made count place : ℕ) → length report.calls ≡ made → count ≡ length report.refused → place ≤ length report.finals → made + (count + place) + 1 ≤ length (lines_of report)
+number_within report made count place size is low =
+    let calls = size_of OfCall report.calls in
+    let behind = behind_size report.refused report.finals report.accepted report.refusals in
+    let all = length-append (map OfCall report.calls) (lines_behind report.refused report.finals report.accepted report.refusals) in
+    omega (arith, all, behind, calls, size, is, low)
 
 pub refused_wrong : (graph : Graph) (scripts : List (List Call)) (limit : ℕ) (report : Report) (made : ℕ) (due : List Refused) (place : ℕ) → IsPassed graph scripts limit report made → due ≡ left_out graph limit (log_of graph scripts report.calls) scripts → DifferFirst due report.refused place → IsFirstWrong graph scripts limit report (made + place + 1)
 refused_wrong graph scripts limit report made due place passed due_is differ =

@@ -1,9 +1,9 @@
-use Rattle.std.proofs.Common.{◌+◌, sym, ap, ◌∙◌, subst, true≢false, length}
+use Rattle.std.proofs.Common.{◌+◌, ◌≤◌, sym, ap, ◌∙◌, subst, true≢false, length, arith}
 use Rattle.std.specs.List.{zip}
 use Rattle.signal_graph.specs.Graph.{Graph}
 use Rattle.report_check.specs.Differing.{DifferFirst}
 use Rattle.report_check.specs.Right.{log_of, IsFirstWrong}
-use Rattle.report_check.proofs.Judging.{IsPassed, due_is, last_is, refused_wrong, finals_wrong, counts_wrong, right_whole}
+use Rattle.report_check.proofs.Judging.{IsPassed, due_is, last_is, refused_wrong, finals_wrong, counts_wrong, right_whole, number_within}
 use Rattle.report_check.proofs.checking.check_behind.Goals as goal
 
 pub returns-in-Some : goal.returns-in-Some
@@ -17,6 +17,27 @@ returns-in-Some c =
     let due = due_is graph c.graph-graph.result.now scripts c.scripts.result.now c.args.versions log c.args.pass.seats.items c.as_slice.result.now c.in_ok-due.due c.graph-graph.ensures.value c.scripts.ensures.value c.as_slice.ensures.value c.in_ok-due.ensures c.requires.stands.seated in
     let differ = subst (λ g. DifferFirst c.in_ok-due.due g c.in-Some.place) c.as_slice-3.ensures (subst (λ d. DifferFirst d c.as_slice-3.result.now c.in-Some.place) c.as_slice-2.ensures c.in-Some.ensures.some) in
     refused_wrong graph scripts c.args.versions report made c.in_ok-due.due c.in-Some.place passed due differ
+
+pub overflow_cast-result-in-Some-first_other_final : goal.overflow_cast-result-in-Some-first_other_final
+overflow_cast-result-in-Some-first_other_final c =
+    let low = subst (λ given. c.in-Some-first_other_final.place ≤ length given) c.as_slice-5.ensures c.in-Some-first_other_final.ensures.some.in_given in
+    let number = number_within c.args.report.now c.args.pass.made c.len.result c.in-Some-first_other_final.place c.requires.size c.len.ensures low in
+    let few = c.requires.few in
+    omega (arith, number, few)
+
+pub overflow_add-result-in-Some-first_other_final-2 : goal.overflow_add-result-in-Some-first_other_final-2
+overflow_add-result-in-Some-first_other_final-2 c =
+    let low = subst (λ given. c.in-Some-first_other_final.place ≤ length given) c.as_slice-5.ensures c.in-Some-first_other_final.ensures.some.in_given in
+    let number = number_within c.args.report.now c.args.pass.made c.len.result c.in-Some-first_other_final.place c.requires.size c.len.ensures low in
+    let few = c.requires.few in
+    omega (arith, number, few)
+
+pub overflow_add-result-in-Some-first_other_final-3 : goal.overflow_add-result-in-Some-first_other_final-3
+overflow_add-result-in-Some-first_other_final-3 c =
+    let low = subst (λ given. c.in-Some-first_other_final.place ≤ length given) c.as_slice-5.ensures c.in-Some-first_other_final.ensures.some.in_given in
+    let number = number_within c.args.report.now c.args.pass.made c.len.result c.in-Some-first_other_final.place c.requires.size c.len.ensures low in
+    let few = c.requires.few in
+    omega (arith, number, few)
 
 pub returns-in-Some-first_other_final : goal.returns-in-Some-first_other_final
 returns-in-Some-first_other_final c =
