@@ -1,11 +1,11 @@
 -- From options to the answer.
 use Rattle.std.proofs.Common.{◌≡◌, ℕ, zero, suc, ◌≤◌, Bool, true, false, List, [], ◌∷◌, refl, sym, ap, subst, ◌∙◌, inl, inr, codes, arith, true≢false}
-use Rattle.std.specs.Prelude.{◌<◌, ◌&&◌, length, All, nat_lt, Err, slice_index_or, if◌then◌else◌}
+use Rattle.std.specs.Prelude.{◌<◌, ◌&&◌, ◌++◌, length, All, nat_lt, Result, Ok, Err, slice_index_or, if◌then◌else◌}
 use Rattle.std.specs.List.{list_all}
 use Rattle.std.specs.Str.{bytes_eq}
 use Rattle.script_tree.specs.declared.limits.TheConstants.{VERSIONS}
 use Rattle.std.specs.Str.{IsUtf8, IsAscii}
-use Rattle.std.specs.Str.Parse.{AllDigits}
+use Rattle.std.specs.Str.Parse.{AllDigits, digits_value}
 use Rattle.std.specs.Char.{digit_value}
 use Rattle.std.proofs.lemmas.Str.{IsUtf8-from_ascii}
 use Rattle.std.proofs.lemmas.Bool.Decides.{nat_tests}
@@ -16,9 +16,9 @@ use Rattle.command_words.specs.declared.command.WordsFault.TheVariants.{Refused,
 use Rattle.command_words.specs.declared.kinds.Kinds.{Kinds}
 use Rattle.command_words.specs.declared.verb.Verb.{Verb}
 use Rattle.command_words.specs.declared.verb.Verb.TheVariants as verb
-use Rattle.command_words.specs.Words.{Given, Json, Versions, IsBlock, AreBlocks, AreOptions, AreNoOptions, AsksFor, ReadsWords, word_of}
-use Rattle.command_words.specs.Words.{kinds_of, asked, versions_in, json_in, HasFewVersions}
-use Rattle.command_words.specs.Blocks.{Gives}
+use Rattle.command_words.specs.Words.{Given, Json, Versions, IsBlock, AreBlocks, AreOptions, AreNoOptions, IsNumber, IsOperand, AsksFor}
+use Rattle.command_words.specs.Words.{ReadsWords, word_of, takes_number, kinds_of, asked, versions_in, json_in, HasFewVersions}
+use Rattle.command_words.specs.Blocks.{Gives, AsksByOptions, ReadsOptions}
 use Rattle.command_words.proofs.Limits.{both}
 use Rattle.command_words.proofs.Blocks.{Text, first, tail, one_given}
 
@@ -66,10 +66,17 @@ verb_ascii verb.Replay = refl
 verb_ascii verb.Serial = refl
 verb_ascii verb.Print = refl
 verb_ascii verb.Check = refl
+verb_ascii verb.Make = refl
+
+operand_ascii : (takes : Bool) (words : List Text) (number : ℕ) → IsOperand takes words number → list_all is_ascii words ≡ true
+operand_ascii false words number is = subst (λ ws. list_all is_ascii ws ≡ true) (sym is.0) refl
+operand_ascii true words number is = subst (λ ws. list_all is_ascii ws ≡ true) (sym is.1) (rw (digits_ascii is.0 is.2.digits.1) refl)
 
 pub line_text : (words : List Text) (command : Command) → AsksFor words command → All IsUtf8 words
-line_text words command a = subst (All IsUtf8) (sym a.words_are)
-    (all_text (word_of a.verb ∷ a.options) (rw (verb_ascii a.verb, blocks_ascii a.given a.options a.are.blocks) refl))
+line_text words command a =
+    let behind = list_all-append is_ascii a.operand a.options
+    ∙ rw (operand_ascii (takes_number a.verb) a.operand a.number a.takes, blocks_ascii a.given a.options a.are.blocks) refl in
+    subst (All IsUtf8) (sym a.words_are) (all_text (word_of a.verb ∷ (a.operand ++ a.options)) (rw (verb_ascii a.verb, behind) refl))
 
 -- not all are, where one isn't
 pub one_not : (words : List Text) (k : ℕ) (d : Text) → k < length words → (IsUtf8 (slice_index_or words k d) → ⊥) → All IsUtf8 words → ⊥
@@ -105,7 +112,7 @@ no_verb word rest none command a = none a.verb (ap first a.words_are)
 abbrev verb_of : Text → Verb
 verb_of word = if bytes_eq word (codes "run") then verb.Run
     else (if bytes_eq word (codes "replay") then verb.Replay else (if bytes_eq word (codes "serial") then verb.Serial
-    else (if bytes_eq word (codes "print") then verb.Print else verb.Check)))
+    else (if bytes_eq word (codes "print") then verb.Print else (if bytes_eq word (codes "check") then verb.Check else verb.Make))))
 
 verb_read : (verb : Verb) → verb_of (word_of verb) ≡ verb
 verb_read verb.Run = refl
@@ -113,28 +120,103 @@ verb_read verb.Replay = refl
 verb_read verb.Serial = refl
 verb_read verb.Print = refl
 verb_read verb.Check = refl
+verb_read verb.Make = refl
 
 pub one_verb : (a b : Verb) → word_of a ≡ word_of b → a ≡ b
 one_verb a b e = sym (verb_read a) ∙ ap verb_of e ∙ verb_read b
 
-pub asks : (verb : Verb) (word : Text) (options : List Text) (versions : ℕ) (json : Bool) → word ≡ word_of verb
-    → Gives (kinds_of verb) options versions json → AsksFor (word ∷ options) (asked verb versions json)
-asks verb word options versions json is gives = record {
-  verb = verb;
-  options = options;
+-- ---- options
+
+pub options_given : (verb : Verb) (number : ℕ) (options : List Text) (versions : ℕ) (json : Bool)
+    → Gives (kinds_of verb) options versions json → AsksByOptions verb number options (asked verb number versions json)
+options_given verb number options versions json gives = record {
   given = gives.given;
-  words_are = ap (λ w. w ∷ options) is;
   are = gives.are;
-  command_is = ap (λ n. asked verb n json) gives.versions_are ∙ ap (asked verb (versions_in gives.given)) gives.json_is;
+  command_is = ap (λ n. asked verb number n json) gives.versions_are ∙ ap (asked verb number (versions_in gives.given)) gives.json_is;
 }
 
-pub asks_none : (verb : Verb) (word : Text) (options : List Text) (fault : WordsFault) → word ≡ word_of verb
-    → (fault ≡ Refused → AreNoOptions (kinds_of verb) options) → ReadsWords (word ∷ options) (Err fault)
-asks_none verb word options Memory is none = tt
-asks_none verb word options Refused is none = λ command a.
-    let same = one_verb a.verb verb (sym (ap first a.words_are) ∙ is) in
+pub options_denied : (verb : Verb) (number : ℕ) (options : List Text) (fault : WordsFault)
+    → (fault ≡ Refused → AreNoOptions (kinds_of verb) options) → ReadsOptions verb number options (Err fault)
+options_denied verb number options Refused none = none refl
+options_denied verb number options Memory none = tt
+
+pub ruleset options_asked = (options_given, options_denied)
+
+-- ---- the operand and the options behind a command's word
+
+same_behind : (takes : Bool) (xs ys before after : List Text) (m n : ℕ) → IsOperand takes xs m → IsOperand takes ys n
+    → xs ++ before ≡ ys ++ after → (m ≡ n) × (before ≡ after)
+same_behind false xs ys before after m n f g e =
+    (f.1 ∙ sym g.1, ap (λ ws. ws ++ before) (sym f.0) ∙ e ∙ ap (λ ws. ws ++ after) g.0)
+same_behind true xs ys before after m n f g e =
+    let same : f.0 ∷ before ≡ g.0 ∷ after = ap (λ ws. ws ++ before) (sym f.1) ∙ e ∙ ap (λ ws. ws ++ after) g.1 in
+    (f.3 ∙ ap (digits_value 10) (ap first same) ∙ sym g.3, ap tail same)
+
+asks : (verb : Verb) (operand options : List Text) (number : ℕ) (command : Command) → IsOperand (takes_number verb) operand number
+    → AsksByOptions verb number options command → AsksFor (word_of verb ∷ (operand ++ options)) command
+asks verb operand options number command takes by = record {
+  verb = verb;
+  operand = operand;
+  number = number;
+  options = options;
+  given = by.given;
+  words_are = refl;
+  takes = takes;
+  are = by.are;
+  command_is = by.command_is;
+}
+
+asks_none : (verb : Verb) (operand options : List Text) (number : ℕ) (command : Command) → IsOperand (takes_number verb) operand number
+    → AreNoOptions (kinds_of verb) options → AsksFor (word_of verb ∷ (operand ++ options)) command → ⊥
+asks_none verb operand options number command takes none a =
+    let same = one_verb a.verb verb (sym (ap first a.words_are)) in
+    let operands = subst (λ v. IsOperand (takes_number v) a.operand a.number) same a.takes in
+    let behind = (same_behind (takes_number verb) operand a.operand options a.options number a.number takes operands
+    (ap tail a.words_are)).1 in
     let are = subst (λ v. AreOptions (kinds_of v) a.given a.options) same a.are in
-    (none refl).none a.given (subst (AreOptions (kinds_of verb) a.given) (sym (ap tail a.words_are)) are)
+    none.none a.given (subst (AreOptions (kinds_of verb) a.given) (sym behind) are)
+
+reads_words : (verb : Verb) (operand options : List Text) (number : ℕ) (r : Result Command WordsFault)
+    → IsOperand (takes_number verb) operand number → ReadsOptions verb number options r → ReadsWords (word_of verb ∷ (operand ++ options)) r
+reads_words verb operand options number (Ok command) takes read = asks verb operand options number command takes read
+reads_words verb operand options number (Err Refused) takes read = λ command. asks_none verb operand options number command takes read
+reads_words verb operand options number (Err Memory) takes read = tt
+
+-- a command without a number
+pub plain_read : (verb : Verb) (word : Text) (options : List Text) (r : Result Command WordsFault) → word ≡ word_of verb
+    → takes_number verb ≡ false → ReadsOptions verb 0 options r → ReadsWords (word ∷ options) r
+plain_read verb word options r is takes read = subst (λ (w : Text). ReadsWords (w ∷ options) r) (sym is)
+    (reads_words verb [] options 0 r (subst (λ t. IsOperand t [] 0) (sym takes) (refl, refl)) read)
+
+pub named_read : (verb : Verb) (word : Text) (behind : List Text) (r : Result Command WordsFault) → word ≡ word_of verb
+    → ReadsWords (word_of verb ∷ behind) r → ReadsWords (word ∷ behind) r
+named_read verb word behind r is read = subst (λ (w : Text). ReadsWords (w ∷ behind) r) (sym is) read
+
+pub ruleset command_laws = (no_verb, plain_read, named_read)
+
+-- a command with a number
+pub numbered_read : (verb : Verb) (text : Text) (options : List Text) (number : ℕ) (r : Result Command WordsFault)
+    → takes_number verb ≡ true → IsNumber text → number ≡ digits_value 10 text → ReadsOptions verb number options r → ReadsWords (word_of verb ∷ text ∷ options) r
+numbered_read verb text options number r takes is same read =
+    reads_words verb (text ∷ []) options number r (subst (λ t. IsOperand t (text ∷ []) number) (sym takes) (text, refl, is, same)) read
+
+-- what stands behind the word of a command that takes a number begins with one
+has_number : (verb : Verb) (behind : List Text) (command : Command) → takes_number verb ≡ true → AsksFor (word_of verb ∷ behind) command
+    → (text : Text) × (rest : List Text) × IsNumber text × (behind ≡ text ∷ rest)
+has_number verb behind command takes a =
+    let same = one_verb a.verb verb (sym (ap first a.words_are)) in
+    let operand = subst (λ t. IsOperand t a.operand a.number) (ap takes_number same ∙ takes) a.takes in
+    (operand.0, a.options, operand.2, ap tail a.words_are ∙ ap (λ ws. ws ++ a.options) operand.1)
+
+pub none_behind : (verb : Verb) (command : Command) → takes_number verb ≡ true → AsksFor (word_of verb ∷ []) command → ⊥
+none_behind verb command takes a = let h = has_number verb [] command takes a in absurd (omega (arith, ap length h.3))
+
+pub not_number : (verb : Verb) (text : Text) (options : List Text) (command : Command) → takes_number verb ≡ true → (IsNumber text → ⊥)
+    → AsksFor (word_of verb ∷ text ∷ options) command → ⊥
+not_number verb text options command takes none a =
+    let h = has_number verb (text ∷ options) command takes a in none (subst IsNumber (sym (ap first h.3)) h.2)
+
+pub ruleset numbered_laws = (numbered_read, none_behind, not_number)
 
 -- ---- words ask for one command alone
 
@@ -142,9 +224,13 @@ pub one_command : (words : List Text) (a b : Command) → AsksFor words a → As
 one_command words a b x y =
     let words_same = sym x.words_are ∙ y.words_are in
     let same = one_verb x.verb y.verb (ap first words_same) in
-    let given = one_given x.given y.given x.options x.are.blocks (subst (AreBlocks y.given) (sym (ap tail words_same)) y.are.blocks) in
-    x.command_is ∙ ap (λ v. asked v (versions_in x.given) (json_in x.given)) same
-    ∙ ap (λ g. asked y.verb (versions_in g) (json_in g)) given ∙ sym y.command_is
+    let operands = subst (λ v. IsOperand (takes_number v) x.operand x.number) same x.takes in
+    let behind = same_behind (takes_number y.verb) x.operand y.operand x.options y.options x.number y.number operands y.takes
+    (ap tail words_same) in
+    let given = one_given x.given y.given x.options x.are.blocks (subst (AreBlocks y.given) (sym behind.1) y.are.blocks) in
+    x.command_is ∙ ap (λ v. asked v x.number (versions_in x.given) (json_in x.given)) same
+    ∙ ap (λ n. asked y.verb n (versions_in x.given) (json_in x.given)) behind.0
+    ∙ ap (λ g. asked y.verb y.number (versions_in g) (json_in g)) given ∙ sym y.command_is
 
 -- ---- limits
 
@@ -153,13 +239,14 @@ given_few [] words blocks = omega arith
 given_few (Json ∷ given) words blocks = given_few given blocks.1 blocks.4
 given_few (Versions text ∷ given) words blocks = blocks.3.0.within
 
-verb_few : (verb : Verb) (versions : ℕ) (json : Bool) → versions ≤ VERSIONS → HasFewVersions (asked verb versions json)
-verb_few verb.Run versions json few = few
-verb_few verb.Replay versions json few = few
-verb_few verb.Serial versions json few = few
-verb_few verb.Print versions json few = tt
-verb_few verb.Check versions json few = few
+verb_few : (verb : Verb) (number versions : ℕ) (json : Bool) → versions ≤ VERSIONS → HasFewVersions (asked verb number versions json)
+verb_few verb.Run number versions json few = few
+verb_few verb.Replay number versions json few = few
+verb_few verb.Serial number versions json few = few
+verb_few verb.Print number versions json few = tt
+verb_few verb.Check number versions json few = few
+verb_few verb.Make number versions json few = tt
 
 pub few_versions : (words : List Text) (command : Command) → AsksFor words command → HasFewVersions command
-few_versions words command a =
-    subst HasFewVersions (sym a.command_is) (verb_few a.verb (versions_in a.given) (json_in a.given) (given_few a.given a.options a.are.blocks))
+few_versions words command a = subst HasFewVersions (sym a.command_is)
+    (verb_few a.verb a.number (versions_in a.given) (json_in a.given) (given_few a.given a.options a.are.blocks))

@@ -1,4 +1,5 @@
 pub mod Limits
+pub mod Numbers
 pub mod Among
 pub mod Blocks
 mod DigitCases

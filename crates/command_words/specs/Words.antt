@@ -1,5 +1,7 @@
--- The command lines, and what each asks for: the word of a command, and behind it options in any order, none twice.
-use Rattle.std.specs.Prelude.{◌≡◌, ◌≢◌, ℕ, ◌≤◌, Bool, true, false, IsTrue, ⊤, ◌⊎◌, List, [], ◌∷◌, ◌++◌, codes, length, map, Result, Ok, Err}
+-- The command lines, and what each asks for: the word of a command, behind it its operand where it takes one, and behind that options in
+-- any order, none twice.
+use Rattle.std.specs.Prelude.{◌≡◌, ◌≢◌, ℕ, ◌<◌, ◌≤◌, ◌^◌, Bool, true, false, IsTrue, ⊤, ◌⊎◌}
+use Rattle.std.specs.Prelude.{List, [], ◌∷◌, ◌++◌, codes, length, map, Result, Ok, Err}
 use Rattle.std.specs.List.{AllByRecursion}
 use Rattle.std.specs.Str.Parse.{IsNumeral, digits_value}
 use Rattle.script_tree.specs.declared.limits.TheConstants.{VERSIONS}
@@ -73,7 +75,21 @@ json_in [] = false
 json_in (Json ∷ given) = true
 json_in (Versions text ∷ given) = json_in given
 
--- ---- commands: for each its word, the kinds of options that it has, and what it is with the options that are given
+-- ---- operands
+
+-- 1 to 20 decimal digits that write a number of 64 bits
+pub record IsNumber (text : List ℕ) : Type 0 where
+  pub digits : IsNumeral 10 text
+  pub few : length text ≤ 20
+  pub within : digits_value 10 text < 2 ^ 64
+
+-- words are the operand of a command, which says this number: one word where the command takes a number; else none, and 0 stands for none
+abbrev pub IsOperand : Bool → List (List ℕ) → ℕ → Type 0
+IsOperand false words number = (words ≡ []) × (number ≡ 0)
+IsOperand true words number = (text : List ℕ) × (words ≡ text ∷ []) × IsNumber text × (number ≡ digits_value 10 text)
+
+-- ---- commands: for each its word, whether it takes a number, the kinds of options that it has, and what it is with the number and the
+-- options that are given
 
 abbrev pub word_of : Verb → List ℕ
 word_of verb.Run = codes "run"
@@ -81,6 +97,15 @@ word_of verb.Replay = codes "replay"
 word_of verb.Serial = codes "serial"
 word_of verb.Print = codes "print"
 word_of verb.Check = codes "check"
+word_of verb.Make = codes "make"
+
+abbrev pub takes_number : Verb → Bool
+takes_number verb.Run = false
+takes_number verb.Replay = false
+takes_number verb.Serial = false
+takes_number verb.Print = false
+takes_number verb.Check = false
+takes_number verb.Make = true
 
 abbrev pub kinds_of : Verb → Kinds
 kinds_of verb.Run = record { json = true; versions = true }
@@ -88,22 +113,27 @@ kinds_of verb.Replay = record { json = true; versions = true }
 kinds_of verb.Serial = record { json = true; versions = true }
 kinds_of verb.Print = record { json = false; versions = false }
 kinds_of verb.Check = record { json = false; versions = true }
+kinds_of verb.Make = record { json = false; versions = false }
 
-abbrev pub asked : Verb → ℕ → Bool → Command
-asked verb.Run versions json = command.Run versions json
-asked verb.Replay versions json = command.Replay versions json
-asked verb.Serial versions json = command.Serial versions json
-asked verb.Print versions json = command.Print
-asked verb.Check versions json = command.Check versions
+abbrev pub asked : Verb → ℕ → ℕ → Bool → Command
+asked verb.Run number versions json = command.Run versions json
+asked verb.Replay number versions json = command.Replay versions json
+asked verb.Serial number versions json = command.Serial versions json
+asked verb.Print number versions json = command.Print
+asked verb.Check number versions json = command.Check versions
+asked verb.Make number versions json = command.Make number
 
--- Words are the line of a command. (An operand of a command would stand between its word and its options.)
+-- words are the line of a command
 pub record AsksFor (words : List (List ℕ)) (command : Command) : Type 0 where
   pub verb : Verb
+  pub operand : List (List ℕ)
+  pub number : ℕ
   pub options : List (List ℕ)
   pub given : List Given
-  pub words_are : words ≡ word_of verb ∷ options
+  pub words_are : words ≡ word_of verb ∷ (operand ++ options)
+  pub takes : IsOperand (takes_number verb) operand number
   pub are : AreOptions (kinds_of verb) given options
-  pub command_is : command ≡ asked verb (versions_in given) (json_in given)
+  pub command_is : command ≡ asked verb number (versions_in given) (json_in given)
 
 -- the limit of versions of a command, where it has one, is at most the greatest one
 abbrev pub HasFewVersions : Command → Type 0
@@ -112,6 +142,7 @@ HasFewVersions (command.Replay versions json) = versions ≤ VERSIONS
 HasFewVersions (command.Serial versions json) = versions ≤ VERSIONS
 HasFewVersions command.Print = ⊤
 HasFewVersions (command.Check versions) = versions ≤ VERSIONS
+HasFewVersions (command.Make number) = ⊤
 
 -- how words are read: as the command that they ask for, refused exactly where they ask for none, or not for want of memory
 abbrev pub ReadsWords : List (List ℕ) → Result Command WordsFault → Type 0

@@ -3,7 +3,7 @@
 use std::alloc::AllocError;
 use thiserror::Error;
 
-/// What the program is asked to do with the deck that it reads.
+/// What the program is asked to do, with the deck that it reads, or with one that it makes.
 #[derive(Clone, Copy, Debug, PartialEq, Eq)]
 pub enum Command {
     /// Run it, with at most so many versions, and write the report, as text or as JSON.
@@ -16,6 +16,8 @@ pub enum Command {
     Print,
     /// Tell whether the report behind it is that of a run of it with at most so many versions.
     Check { versions: u32 },
+    /// Make the workload's deck of a number, run it, and write the summary of the run. Nothing is read.
+    Make { number: u64 },
 }
 
 /// Why words are not followed.

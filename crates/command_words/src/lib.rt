@@ -4,6 +4,7 @@
 mod command;
 mod kinds;
 pub mod laws;
+mod operand;
 mod options;
 mod verb;
 mod words;

@@ -16,7 +16,8 @@ use script_tree::limits::VERSIONS;
 /// How many digits a limit of versions has at most.
 const DIGITS: usize = 7;
 
-fn are_digits(text: &[u8]) -> bool
+/// Whether a text is decimal digits alone.
+pub fn are_digits(text: &[u8]) -> bool
     ensures { result ≡ list_all is_ascii_digit text.now }
 {
     text.iter().all(|byte| byte.is_ascii_digit())

@@ -1,4 +1,4 @@
-// The table of commands: the word of each, the kinds of options that it has, and the command that they make.
+// The table of commands: the word of each, whether it takes a number, the kinds of options that it has, and the command that they make.
 
 use crate::command::Command;
 use crate::kinds::Kinds;
@@ -11,12 +11,13 @@ pub enum Verb {
     Serial,
     Print,
     Check,
+    Make,
 }
 
 impl Verb {
     ghost use Rattle.std.specs.Prelude.{◌≡◌, IfSome, IfNone};
     ghost use Rattle.command_words.specs.declared.verb.Verb.{Verb};
-    ghost use Rattle.command_words.specs.Words.{word_of, kinds_of, asked};
+    ghost use Rattle.command_words.specs.Words.{word_of, takes_number, kinds_of, asked};
 
     /// The command whose word this is.
     pub fn of(word: &str) -> Option<Verb>
@@ -29,7 +30,18 @@ impl Verb {
             "serial" => Some(Verb::Serial),
             "print" => Some(Verb::Print),
             "check" => Some(Verb::Check),
+            "make" => Some(Verb::Make),
             _ => None,
+        }
+    }
+
+    /// Whether a number stands between a command's word and its options.
+    pub fn takes_number(self) -> bool
+        ensures { result ≡ takes_number self }
+    {
+        match self {
+            Verb::Run | Verb::Replay | Verb::Serial | Verb::Print | Verb::Check => false,
+            Verb::Make => true,
         }
     }
 
@@ -42,7 +54,7 @@ impl Verb {
                 json: true,
                 versions: true,
             },
-            Verb::Print => Kinds {
+            Verb::Print | Verb::Make => Kinds {
                 json: false,
                 versions: false,
             },
@@ -53,9 +65,9 @@ impl Verb {
         }
     }
 
-    /// The command with the values of its options. One without such an option passes over the value.
-    pub fn command(self, versions: u32, json: bool) -> Command
-        ensures { result ≡ asked self versions json }
+    /// The command with its number and the values of its options. One without a number, or without such an option, passes over it.
+    pub fn command(self, number: u64, versions: u32, json: bool) -> Command
+        ensures { result ≡ asked self number versions json }
     {
         match self {
             Verb::Run => Command::Run { versions, json },
@@ -63,6 +75,7 @@ impl Verb {
             Verb::Serial => Command::Serial { versions, json },
             Verb::Print => Command::Print,
             Verb::Check => Command::Check { versions },
+            Verb::Make => Command::Make { number },
         }
     }
 }

@@ -1,6 +1,6 @@
 // From words to a command.
 
-ghost use Rattle.std.specs.Prelude.{◌≡◌, ◌∷◌, map, All, IfOk, IfErr, IfSome, IfNone};
+ghost use Rattle.std.specs.Prelude.{◌≡◌, ◌∷◌, true, map, All, IfOk, IfErr, IfSome, IfNone};
 ghost use Rattle.std.specs.Str.{IsUtf8};
 ghost use Rattle.std.specs.Str.Parse.{digits_value};
 ghost use Rattle.command_words.specs.declared.command.WordsFault.TheVariants.{Memory, Refused};
@@ -9,11 +9,12 @@ ghost use Rattle.clap.specs.Values.{kind_of};
 ghost use Rattle.clap.specs.declared.error.ErrorKind.TheVariants.{OutOfMemory};
 ghost use Rattle.script_tree.specs.declared.limits.TheConstants.{VERSIONS as MOST};
 ghost use Rattle.command_words.specs.Parser.{app};
-ghost use Rattle.command_words.specs.Words.{AreNoOptions, IsLimit, ReadsWords};
-ghost use Rattle.command_words.specs.Blocks.{AreSome, Gives};
+ghost use Rattle.command_words.specs.Words.{AreNoOptions, IsLimit, ReadsWords, word_of, takes_number};
+ghost use Rattle.command_words.specs.Blocks.{AreSome, Gives, ReadsOptions};
 
 use crate::command::{Command, WordsFault};
 use crate::kinds::Kinds;
+use crate::operand::number_of;
 use crate::options::{are_options, limit_of};
 use crate::verb::Verb;
 use clap::error::ErrorKind;
@@ -125,18 +126,49 @@ fn values_of(alloc: Global, kinds: Kinds, options: &[&str]) -> Result<Values, Wo
     parsed(alloc, kinds, options)
 }
 
-// The command whose word is the first one, with the options behind it.
-#[tactic(auto, using(crate::proofs::Asked::asks_none))]
-fn command_of(alloc: Global, first: &str, options: &[&str]) -> Result<Command, WordsFault>
-    ensures { ReadsWords (first.now ∷ map (λ s. s.now) options.now) result }
+// A command with its number, and with the options behind that.
+#[tactic(auto, using(crate::proofs::Asked::options_asked))]
+fn command_with(
+    alloc: Global,
+    verb: Verb,
+    number: u64,
+    options: &[&str],
+) -> Result<Command, WordsFault>
+    ensures { ReadsOptions verb number (map (λ s. s.now) options.now) result }
+{
+    match values_of(alloc, verb.kinds(), options) {
+        Ok(Values { versions, json }) => Ok(verb.command(number, versions, json)),
+        Err(fault) => Err(fault),
+    }
+}
+
+// A command that takes a number, with what stands behind its word.
+#[tactic(auto, using(crate::proofs::Asked::numbered_laws))]
+fn command_numbered(alloc: Global, verb: Verb, behind: &[&str]) -> Result<Command, WordsFault>
+    requires { takes_number verb ≡ true }
+    ensures { ReadsWords (word_of verb ∷ map (λ s. s.now) behind.now) result }
+{
+    match behind {
+        [] => Err(WordsFault::Refused),
+        [text, options @ ..] => match number_of(text) {
+            Some(number) => command_with(alloc, verb, number, options),
+            None => Err(WordsFault::Refused),
+        },
+    }
+}
+
+// The command whose word is the first one, with what stands behind it.
+#[tactic(auto, using(crate::proofs::Asked::command_laws))]
+fn command_of(alloc: Global, first: &str, behind: &[&str]) -> Result<Command, WordsFault>
+    ensures { ReadsWords (first.now ∷ map (λ s. s.now) behind.now) result }
 {
     let Some(verb) = Verb::of(first) else {
         return Err(WordsFault::Refused)
     };
-    match values_of(alloc, verb.kinds(), options) {
-        Ok(Values { versions, json }) => Ok(verb.command(versions, json)),
-        Err(fault) => Err(fault),
+    if verb.takes_number() {
+        return command_numbered(alloc, verb, behind);
     }
+    command_with(alloc, verb, 0, behind)
 }
 
 #[tactic(auto, using(crate::proofs::Asked::none_asked))]
@@ -145,7 +177,7 @@ fn read_texts(alloc: Global, texts: &[&str]) -> Result<Command, WordsFault>
 {
     match texts {
         [] => Err(WordsFault::Refused),
-        [first, options @ ..] => command_of(alloc, first, options),
+        [first, behind @ ..] => command_of(alloc, first, behind),
     }
 }
 
@@ -153,8 +185,8 @@ fn read_texts(alloc: Global, texts: &[&str]) -> Result<Command, WordsFault>
 ///
 /// `Refused`: they are no command line. A command line is a command's word and the options behind it: `run`, `replay` or
 /// `serial`, each with the options `--json` and `--versions N` (or `--versions=N`), `check` with the latter alone, or `print`, which
-/// has none. Each option stands at most once, in any order. N has 1 to 7 decimal digits and is at most 4,000,000, which is the
-/// limit of versions without the option.
+/// has none; or it is `make` and a number alone, which has 1 to 20 decimal digits and at most 64 bits. Each option stands at most
+/// once, in any order. N has 1 to 7 decimal digits and is at most 4,000,000, which is the limit of versions without the option.
 #[tactic(auto, using(crate::proofs::Asked::no_text))]
 pub fn read_words(alloc: Global, words: &[Text]) -> Result<Command, WordsFault>
     ensures { ReadsWords words.now result }
