@@ -1,12 +1,16 @@
 //! Threads over one core: callers begin calls and make their steps one at a time, each step under one short lock.
 #![tactic(auto)]
 
+mod callers;
 mod list;
 mod locked;
+mod moment;
 mod moves;
 mod naming;
+mod parking;
 mod shared;
 mod token;
+mod weight;
 
 pub use interleave_core::Refusal;
 pub use list::PassList;

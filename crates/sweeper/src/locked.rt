@@ -29,9 +29,12 @@ ghost use Rattle.caller_fronts.specs.Keys.{key_for};
 ghost use Rattle.caller_fronts.specs.Tokens.{IsIdle, IsTurnOf};
 ghost use Rattle.sweeper.specs.Tokens.{HasLastReply, IsMet, met_at, last_of};
 
+use crate::callers::CallerSet;
 use crate::list::PassList;
+use crate::moment::Moment;
 use crate::moves::{Answered, Beginning, Made, Move};
 use crate::naming::Naming;
+use crate::parking::Parking;
 use crate::shared::Closed;
 use crate::token::{Advance, Begun, Ended, Live, Pass};
 use caller_fronts::laws::{
@@ -62,8 +65,8 @@ use std::snapshot::Snapshot;
 pub(crate) struct Locked<'g, J: Naming> {
     core: Core<'g>,
     writer: Writer<Move>,
-    // How many callers wait for a move.
-    waiting: u32,
+    // Which callers wait, and for what.
+    parking: Parking,
     of: PhantomData<J>,
 }
 
@@ -122,11 +125,12 @@ impl<'g, J: Naming> Locked<'g, J> {
         ensures { IfOk result (λ locked. locked ≡ record { moves = []; out = []; rooms = 0 }) }
     {
         rests_are_at_ends();
+        let parking = Parking::new(alloc, callers)?;
         let core = Core::new(alloc, graph, callers, versions)?;
         Ok(Locked {
             core,
             writer,
-            waiting: 0,
+            parking,
             of: PhantomData,
         })
     }
@@ -179,23 +183,78 @@ impl<'g, J: Naming> Locked<'g, J> {
         self.writer.len()
     }
 
-    /// A caller waits for a move from now on.
-    pub(crate) fn wait(&mut self)
+    /// The caller will sleep until what was noted to be in the way of its call is over. Where nothing was, or that is over already, it
+    /// sleeps until there are more moves than it knows of.
+    pub(crate) fn park(&mut self, caller: u32, known: u64)
         ensures { self.new ≡ self.old }
     {
-        self.waiting = self.waiting.saturating_add(1);
+        if !self.parking.waits(caller) && self.writer.len() <= known {
+            self.parking.wait_for_any(caller);
+        }
     }
 
-    /// A caller waits no more.
-    pub(crate) fn wait_no_more(&mut self)
+    /// Whether the caller sleeps on: there are no more moves than it knows of, or something is in the way of its call.
+    pub(crate) fn sleeps(&self, caller: u32, known: u64) -> bool
+        ensures { result ≡ false → known < length self.now.moves }
+    {
+        if self.writer.len() <= known {
+            return true;
+        }
+        self.parking.waits(caller)
+    }
+
+    /// Those that the last move lets go on, where there are any.
+    pub(crate) fn take_freed(&mut self) -> Option<CallerSet>
         ensures { self.new ≡ self.old }
     {
-        self.waiting = self.waiting.saturating_sub(1);
+        self.parking.take_freed()
     }
 
-    /// Whether any caller waits for a move.
-    pub(crate) fn is_awaited(&self) -> bool {
-        self.waiting > 0
+    // Notes what is in the way of a caller's call, which there is no step for or which can't end.
+    fn note_cause(&mut self, caller: u32, version: u32, cause: Cause)
+        ensures { self.new ≡ self.old }
+    {
+        match cause {
+            Cause::FramingBefore(before) => self.note_call(caller, before, Moment::Start),
+            Cause::OpenBefore {
+                node,
+                version: first,
+            } => {
+                let before = self.nearest_frame(version, node).unwrap_or(first);
+                self.note_call(caller, before, Moment::Done(node));
+            }
+            Cause::Before(before) => self.note_call(caller, before, Moment::End),
+            _ => self.parking.forget(caller),
+        }
+    }
+
+    // Notes that a call is in the way until it comes to this.
+    fn note_call(&mut self, caller: u32, version: u32, what: Moment)
+        ensures { self.new ≡ self.old }
+    {
+        let book = self.core.book();
+        if book.live(version) {
+            let whom = book.caller(version);
+            self.parking.wait_for(caller, whom, what);
+        } else {
+            self.parking.forget(caller);
+        }
+    }
+
+    // The call whose Frame is the nearest before a call's own entry at a node. Once that one is finished there, so are all before it.
+    fn nearest_frame(&self, version: u32, node: u32) -> Option<u32> {
+        if node >= self.core.book().nodes() {
+            return None;
+        }
+        let list = self.core.list(node);
+        let own = list.entry_of(version)?;
+        for back in 0..own {
+            let entry = list.get(own - 1 - back);
+            if entry.state.is_frame() {
+                return Some(entry.version);
+            }
+        }
+        None
     }
 
     // Takes a note back: what it has not seen are moves that are not its caller's own.
@@ -236,6 +295,7 @@ impl<'g, J: Naming> Locked<'g, J> {
         };
         self.core.apply(step);
         self.writer.append(made);
+        self.parking.moved(caller, Moment::of(step));
     }
 
     /// Begins a call of an idle caller, of which a copy and room for the looks are made already, if there was memory.
@@ -382,6 +442,7 @@ impl<'g, J: Naming> Locked<'g, J> {
         };
         let version = self.core.begin(caller, call, room);
         self.writer.append(beginning);
+        self.parking.moved(caller, Moment::Move);
         version
     }
 
@@ -466,9 +527,19 @@ impl<'g, J: Naming> Locked<'g, J> {
     {
         match turn {
             Turn::Step(step) => self.take_step(met, step),
-            Turn::NotYet(cause) => Advance::NotYet(self.live(met), cause),
+            Turn::NotYet(cause) => self.take_cause(met, cause),
             Turn::Ready => Advance::Ready(self.live(met)),
         }
+    }
+
+    // What it comes to that there is no step now.
+    fn take_cause(&mut self, met: Met, cause: Cause) -> Advance<'g, J>
+        requires met { IsMet J.graph J.callers J.limit met self.old.moves }
+        requires free { is_out met.caller self.old.out ≡ false }
+        ensures { Takes J.graph J.callers J.limit (met_at J.graph J.callers J.limit met self.old.moves) (turns.NotYet cause) result }
+    {
+        self.note_cause(met.caller, met.version, cause);
+        Advance::NotYet(self.live(met), cause)
     }
 
     // What a step that comes next comes to.
@@ -588,6 +659,7 @@ impl<'g, J: Naming> Locked<'g, J> {
         };
         self.core.put(answer);
         self.writer.append(answered);
+        self.parking.moved(caller, Moment::Move);
     }
 
     /// The least node at or above one that is open for a live call.
@@ -619,7 +691,10 @@ impl<'g, J: Naming> Locked<'g, J> {
         causes_are_exact();
         let met = self.meet(live);
         match step_rules::why_not_ended(self.core.book(), met.version) {
-            Some(cause) => Ended::NotYet(self.live(met), cause),
+            Some(cause) => {
+                self.note_cause(met.caller, met.version, cause);
+                Ended::NotYet(self.live(met), cause)
+            }
             None => self.end_met(met),
         }
     }

@@ -12,25 +12,32 @@ ghost use Rattle.sweeper.specs.Ends.{Closes, HasAllPasses, fresh};
 ghost use Rattle.caller_fronts.specs.Fronts.{IsLater};
 ghost use Rattle.caller_fronts.specs.Jobs.{job_of};
 
+use crate::callers::{Beds, CallerSet};
 use crate::list::PassList;
 use crate::locked::{Locked, Prepared};
 use crate::moves::Move;
 use crate::naming::Naming;
 use crate::token::{Advance, Begun, Ended, Live, Pass};
+use crate::weight::heavy_nodes;
 use call_log::Log;
 use chronicle::Writer;
 use flow_state::Answer;
+use node_set::NodeSet;
 use script_tree::memory::OutOfMemory;
 use signal_graph::call::{Call, ValueList};
 use signal_graph::graph::Graph;
 use std::alloc::Global;
-use std::sync::{Condvar, Mutex, Wait};
+use std::sync::{Mutex, Wait};
 
 /// A graph's machine of interleaved calls, under one lock. Each of its calls that takes a pass or a live call locks once, and makes
 /// at most one move; scripts are evaluated with no lock held. All moves are one history. What a call promises holds if it returns.
 pub struct Sweeper<'g, J: Naming> {
     locked: Mutex<Locked<'g, J>>,
-    moved: Condvar,
+    beds: Beds,
+    // The nodes whose evaluation takes long.
+    heavy: NodeSet,
+    // A lock that guards nothing, by which callers may take turns of many steps.
+    turnstile: Mutex<()>,
 }
 
 /// What a sweeper is closed with: the calls that were made, in the order of their effect, and the values of all nodes afterwards.
@@ -56,11 +63,21 @@ pub fn open_sweeper<'g, J: Naming>(
     requires new { (writer.list ≡ []) × (writer.out ≡ []) }
     ensures { IfOk result (λ opened. opened.1 ≡ fresh 1 callers) }
 {
+    let heavy = heavy_nodes(alloc, graph)?;
+    let beds = Beds::new(alloc, callers)?;
     let mut locked = Locked::new(alloc, graph, writer, callers, versions)?;
     let passes = locked.first_passes(alloc, graph.len(), callers)?;
     let locked = Mutex::new(locked);
-    let moved = Condvar::new();
-    Ok((Sweeper { locked, moved }, passes))
+    let turnstile = Mutex::new(());
+    Ok((
+        Sweeper {
+            locked,
+            beds,
+            heavy,
+            turnstile,
+        },
+        passes,
+    ))
 }
 
 impl<'g, J: Naming> Sweeper<'g, J> {
@@ -75,9 +92,9 @@ impl<'g, J: Naming> Sweeper<'g, J> {
         let prepared = Prepared::new(alloc, call);
         let mut locked = self.locked.lock(rt);
         let begun = locked.begin(alloc, pass, call, prepared);
-        let awaited = locked.is_awaited();
+        let freed = locked.take_freed();
         drop(locked);
-        self.tell(awaited);
+        self.wake(freed);
         begun
     }
 
@@ -89,9 +106,9 @@ impl<'g, J: Naming> Sweeper<'g, J> {
     {
         let mut locked = self.locked.lock(rt);
         let advance = locked.advance(live);
-        let awaited = locked.is_awaited();
+        let freed = locked.take_freed();
         drop(locked);
-        self.tell(awaited);
+        self.wake(freed);
         advance
     }
 
@@ -103,9 +120,9 @@ impl<'g, J: Naming> Sweeper<'g, J> {
     {
         let mut locked = self.locked.lock(rt);
         let advance = locked.advance_at(live, node);
-        let awaited = locked.is_awaited();
+        let freed = locked.take_freed();
         drop(locked);
-        self.tell(awaited);
+        self.wake(freed);
         advance
     }
 
@@ -128,9 +145,9 @@ impl<'g, J: Naming> Sweeper<'g, J> {
     {
         let mut locked = self.locked.lock(rt);
         let live = locked.put(live, answer);
-        let awaited = locked.is_awaited();
+        let freed = locked.take_freed();
         drop(locked);
-        self.tell(awaited);
+        self.wake(freed);
         live
     }
 
@@ -141,31 +158,47 @@ impl<'g, J: Naming> Sweeper<'g, J> {
     {
         let mut locked = self.locked.lock(rt);
         let ended = locked.end(live);
-        let awaited = locked.is_awaited();
+        let freed = locked.take_freed();
         drop(locked);
-        self.tell(awaited);
+        self.wake(freed);
         ended
     }
 
-    /// Waits until a move was made that this caller has not seen. Makes no step. Locks, and may wait for others. Takes no memory.
+    /// Whether the scripts of a node take long to evaluate, so that a thread had better hold up nobody meanwhile. It is a hint, on which
+    /// no answer rests; of a node that the graph does not have it is false. Takes no lock, and no memory.
+    pub fn is_heavy(&self, node: u32) -> bool {
+        node < self.heavy.size() && self.heavy.contains(node)
+    }
+
+    /// A lock that guards nothing. Callers in threads may pass it one at a time, each for a stretch of steps: then they don't ask for
+    /// the lock of each step at once, which would else go to another thread at each step. No call of a sweeper takes it.
+    pub fn turnstile(&self) -> &Mutex<()> {
+        &self.turnstile
+    }
+
+    /// Waits until a move was made that this caller has not seen. Where the caller's last `advance`, `advance_at` or `end` found another
+    /// call in the way, and no step of its own came since, it waits until that one is out of the way: it has started, has finished at the
+    /// node, or has ended. In a node's list that is the nearest call with a Frame before the caller's own entry. Makes no step. Locks,
+    /// and may wait for others. Takes no memory.
     pub fn wait_for_growth<R: Wait>(&self, rt: &R, live: Live<J>) -> Live<J>
         ensures { (f : List AnyMove) × IsLater J.graph J.callers J.limit live.caller live.front f
             × (result ≡ seen live f) × (length live.front < length f) }
     {
         let known = live.seen();
+        let caller = live.caller();
         let mut locked = self.locked.lock(rt);
-        locked.wait();
+        locked.park(caller, known);
         let mut locked = self
-            .moved
-            .wait_while(rt, locked, |locked| locked.len() <= known);
-        locked.wait_no_more();
+            .beds
+            .of(caller)
+            .wait_while(rt, locked, |locked| locked.sleeps(caller, known));
         locked.see(live)
     }
 
-    // Tells all that wait to look again, where any does.
-    fn tell(&self, awaited: bool) {
-        if awaited {
-            self.moved.notify_all();
+    // Wakes those that may go on. No lock is held, so none of them has to wait for it at once.
+    fn wake(&self, freed: Option<CallerSet>) {
+        if let Some(callers) = freed {
+            self.beds.wake(&callers);
         }
     }
 
@@ -174,7 +207,12 @@ impl<'g, J: Naming> Sweeper<'g, J> {
         requires { HasAllPasses J.callers passes }
         ensures { Closes J.graph J.callers J.limit passes result.log.entries result.finals }
     {
-        let Sweeper { locked, moved: _ } = self;
+        let Sweeper {
+            locked,
+            beds: _,
+            heavy: _,
+            turnstile: _,
+        } = self;
         locked.into_inner().close(passes)
     }
 }
