@@ -20,6 +20,7 @@ use Rattle.flow_state.proofs.book.Book.TheSendSync as book
 use Rattle.node_versions.proofs.list.NodeList.TheSendSync as list
 use Rattle.chronicle.proofs.writer.Writer.TheSendSync as writer
 use Rattle.interleave_core.specs.contracts.core_state.Core as Core
+use Rattle.node_set.proofs.node_set.NodeSet.TheSendSync as nodes
 use Rattle.sweeper.specs.declared.naming.Naming.{Ghosts}
 use Rattle.sweeper.specs.contracts.locked.Locked as Locked
 use Rattle.sweeper.specs.contracts.shared.Sweeper as Sweeper
@@ -44,4 +45,4 @@ module _ (κ : NamedLft) (J : RattleType) (j : Ghosts J.Denot) where
   locked_send s = search (core_send, writer.the_send, sendable, crosses) depth 40
 
   pub sweeper_sync : IsSend J → IsSync (Sweeper.the_row κ J j)
-  sweeper_sync s = search (locked_send, sendable, crosses) depth 40
+  sweeper_sync s = search (locked_send, nodes.the_sync, sendable, crosses) depth 40

@@ -4,6 +4,7 @@
 mod gate;
 mod run;
 mod scripts;
+mod turn;
 mod worker;
 
 pub use gate::{Gate, OpenGate};

@@ -7,6 +7,7 @@ ghost use Rattle.worker_gate.specs.Scripts.{AreMade, AreBegun};
 ghost use Rattle.worker_gate.specs.Seats.{seats_of, passes_of, lists_of, fronts_of, callers_of, all_enough, AllTaken, AreNumbered, IsServed};
 
 use crate::gate::Gate;
+use crate::turn::Turn;
 use crate::worker::make_script;
 use script_tree::items::Items;
 use script_tree::memory::OutOfMemory;
@@ -96,7 +97,9 @@ fn serve<J: Naming, G: Gate, R: Wait>(
         Some(pass) => {
             let script = script.as_slice();
             let refused = &mut seat.refused;
-            let (pass, enough) = make_script(rt, alloc, sweeper, pass, script, gate, refused);
+            let mut turn = Turn::new(sweeper.turnstile(), !gate.may_wait());
+            let turn = &mut turn;
+            let (pass, enough) = make_script(rt, alloc, sweeper, pass, script, gate, turn, refused);
             seat.enough = enough;
             let before = mem::replace(&mut seat.pass, Some(pass));
             let None = before else { unreachable!() };
@@ -162,7 +165,8 @@ fn run_vec<J: Naming + Send + Sync, G: Gate, R: Threads + Wait + Sync>(
 /// of callers and then of numbers. Where there was no memory each thread has finished its live call and stopped, so that the own
 /// calls of each have grown by the first of the well-named calls of its script.
 ///
-/// Before each evaluation a thread passes the gate, with no lock held. Takes memory. Locks, and may wait.
+/// Before each evaluation a thread passes the gate. It holds no lock of the sweeper there, and no turn where the gate may wait. Takes
+/// memory. Locks, and may wait.
 pub fn run_over<J: Naming + Send + Sync, G: Gate, R: Threads + Wait + Sync>(
     rt: &R,
     alloc: Global,

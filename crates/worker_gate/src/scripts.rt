@@ -27,8 +27,9 @@ use sweeper::{Closed, Move, Naming, open_sweeper};
 /// calls are made; and the rest is listed as refused, by caller and then number. The values are those after the log, by the nodes'
 /// numbers. Which merge it is rests on how the threads ran.
 ///
-/// Before each evaluation a thread passes the gate, with no lock held. Takes memory; where there was none at any point nothing of the
-/// run is handed out, and the graph and the scripts are as they were. Locks, and may wait.
+/// Before each evaluation a thread passes the gate. It holds no lock of the sweeper there, and no turn where the gate may wait. Takes
+/// memory; where there was none at any point nothing of the run is handed out, and the graph and the scripts are as they were. Locks,
+/// and may wait.
 pub fn run_scripts<G: Gate, R: Threads + Wait + Sync>(
     rt: &R,
     alloc: Global,

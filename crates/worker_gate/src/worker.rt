@@ -7,6 +7,7 @@ ghost use Rattle.worker_gate.specs.Scripts.{HasMadeIt};
 ghost use Rattle.worker_gate.specs.Calls.{Sees, HasGone, IsListed, IsTaken};
 
 use crate::gate::Gate;
+use crate::turn::Turn;
 use flow_model::Cause;
 use signal_graph::call::Call;
 use signal_graph::log::{Refused, RefusedList, Why};
@@ -22,12 +23,20 @@ pub enum Gone<J: Naming> {
 
 // Ends a call that has nothing left. Where another call has given it something to do meanwhile it goes on with that, and where a
 // call before it lives it waits.
-fn end<J: Naming, R: Wait>(rt: &R, sweeper: &Sweeper<'_, J>, live: Live<J>) -> Gone<J>
+fn end<J: Naming, R: Wait>(
+    rt: &R,
+    sweeper: &Sweeper<'_, J>,
+    live: Live<J>,
+    turn: &mut Turn<'_>,
+) -> Gone<J>
     ensures { HasGone J.limit live result }
 {
     match sweeper.end(rt, live) {
         Ended::Ended(pass, _) => Gone::Ended(pass),
-        Ended::NotYet(live, Cause::Before(_)) => Gone::On(sweeper.wait_for_growth(rt, live)),
+        Ended::NotYet(live, Cause::Before(_)) => {
+            turn.give_up();
+            Gone::On(sweeper.wait_for_growth(rt, live))
+        }
         Ended::NotYet(live, _) => Gone::On(live),
     }
 }
@@ -38,18 +47,24 @@ fn go_on<J: Naming, G: Gate, R: Wait>(
     sweeper: &Sweeper<'_, J>,
     live: Live<J>,
     gate: &G,
+    turn: &mut Turn<'_>,
 ) -> Gone<J>
     ensures { HasGone J.limit live result }
 {
+    turn.step(rt);
     match sweeper.advance(rt, live) {
         Advance::Stepped(live) => Gone::On(live),
         Advance::Evaluate(live, job) => {
+            turn.evaluate(sweeper.is_heavy(job.node()));
             gate.at(rt, live.caller(), job.node());
             let answer = job.evaluate();
             Gone::On(sweeper.put(rt, live, answer))
         }
-        Advance::NotYet(live, _) => Gone::On(sweeper.wait_for_growth(rt, live)),
-        Advance::Ready(live) => end(rt, sweeper, live),
+        Advance::NotYet(live, _) => {
+            turn.give_up();
+            Gone::On(sweeper.wait_for_growth(rt, live))
+        }
+        Advance::Ready(live) => end(rt, sweeper, live, turn),
     }
 }
 
@@ -59,6 +74,7 @@ fn finish<J: Naming, G: Gate, R: Wait>(
     sweeper: &Sweeper<'_, J>,
     live: Live<J>,
     gate: &G,
+    turn: &mut Turn<'_>,
 ) -> Pass<J>
     ensures caller { result.caller ≡ live.caller }
     ensures sees { Sees live.caller live.front result.front }
@@ -66,7 +82,7 @@ fn finish<J: Naming, G: Gate, R: Wait>(
 {
     let mut live = live;
     for _ in rt.forever() {
-        match go_on(rt, sweeper, live, gate) {
+        match go_on(rt, sweeper, live, gate, turn) {
             Gone::On(next) => live = next,
             Gone::Ended(pass) => return pass,
         }
@@ -83,6 +99,7 @@ fn make_call<J: Naming, G: Gate, R: Wait>(
     call: &Call,
     number: u32,
     gate: &G,
+    turn: &mut Turn<'_>,
     refused: &mut RefusedList,
 ) -> (Pass<J>, bool)
     requires { IsWithin call.now }
@@ -90,8 +107,9 @@ fn make_call<J: Naming, G: Gate, R: Wait>(
     ensures taken { MatchBool result.1 (IsTaken J.graph J.limit pass.caller number call.now pass.front result.0.front refused.old refused.new) (Sees pass.caller pass.front result.0.front) }
 {
     let caller = pass.caller();
+    turn.step(rt);
     match sweeper.begin(rt, alloc, pass, call) {
-        Begun::Live(live) => (finish(rt, sweeper, live, gate), true),
+        Begun::Live(live) => (finish(rt, sweeper, live, gate, turn), true),
         Begun::Refused(pass, refusal) => {
             let listed = list(refused, caller, number, refusal);
             (pass, listed)
@@ -135,6 +153,7 @@ pub(crate) fn make_script<J: Naming, G: Gate, R: Wait>(
     pass: Pass<J>,
     script: &[Call],
     gate: &G,
+    turn: &mut Turn<'_>,
     refused: &mut RefusedList,
 ) -> (Pass<J>, bool)
     requires few { length script.now < 2 ^ 32 }
@@ -146,7 +165,7 @@ pub(crate) fn make_script<J: Naming, G: Gate, R: Wait>(
     let mut pass = pass;
     for (index, call) in script.iter().enumerate() {
         let number = 1 + index as u32;
-        let (next, taken) = make_call(rt, alloc, sweeper, pass, call, number, gate, refused);
+        let (next, taken) = make_call(rt, alloc, sweeper, pass, call, number, gate, turn, refused);
         pass = next;
         if !taken {
             return (pass, false);
