@@ -9,6 +9,7 @@ use script_tree::memory::OutOfMemory;
 use std::process::ExitCode;
 use std::rt::Env;
 use std::{env, io};
+use worker_gate::OpenGate;
 
 /// The status where there is no memory.
 const NO_MEMORY: u8 = 5;
@@ -42,6 +43,14 @@ fn main(rt: HostRuntime) -> ExitCode {
     };
     let mut source = ReadSource::new(rt.stdin());
     let mut out = WriteSink::new(rt.stdout());
-    let status = framesweep(rt.alloc(), &words, &mut source, &mut out, &mut err);
+    let status = framesweep(
+        &rt,
+        rt.alloc(),
+        &words,
+        &mut source,
+        &mut out,
+        &mut err,
+        &OpenGate,
+    );
     ExitCode::from(status)
 }

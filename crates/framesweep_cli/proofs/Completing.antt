@@ -22,15 +22,15 @@ use Rattle.framesweep_cli.specs.declared.fault.InputFault.TheVariants as input
 use Rattle.framesweep_cli.specs.declared.input.Input.{Input}
 use Rattle.framesweep_cli.specs.declared.reading.Reading.{Reading}
 use Rattle.framesweep_cli.specs.declared.reading.Reading.TheVariants as reads
-use Rattle.framesweep_cli.specs.Inputs.{reading_of, most_bytes, behind_text, IsReportText, Spells, IsFault}
-use Rattle.framesweep_cli.specs.Inputs.{IsRefusedFor, IsValid, IsInvalid}
+use Rattle.framesweep_cli.specs.Inputs.{reading_of, most_bytes, behind_text, IsReportText, Spells, IsFault, IsGiven}
+use Rattle.framesweep_cli.specs.Inputs.{IsDenied, IsValid, IsInvalid}
 use Rattle.framesweep_cli.specs.Endings.{Makes}
 use Rattle.framesweep_cli.proofs.Judging.{holds_short}
 use Rattle.replay_run.specs.Input.{deck_text}
 use Rattle.replay_run.specs.Schedule.{first_unnamed}
-use Rattle.framesweep_cli.specs.Devices.{Devices}
+use Rattle.framesweep_cli.specs.Devices.{SourceState, Devices}
 use Rattle.framesweep_cli.specs.Lines.{memory_line}
-use Rattle.framesweep_cli.specs.Statuses.{status_of, Happened, Ends, Declines, Follows, Obeys}
+use Rattle.framesweep_cli.specs.Statuses.{status_of, IsReadInVain, Happened, Ends, Declines, Follows, Obeys}
 
 -- words ask for one command
 abbrev pub OneCommand : Type 0
@@ -101,31 +101,38 @@ whole : (reading : Reading) (left bytes : List ℕ) (said : Input) → Spells re
 whole reading left bytes said spells e = e
     ∙ take_all (most_bytes reading + 1) left (omega (arith, holds_short reading left said spells.holds))
 
-not_refused : Answers → (command : Command) (left : Option (List ℕ)) (fault : InputFault) → IsValid command left
-    → IsRefusedFor (reading_of command) left fault → ⊥
-not_refused one command None fault valid refused = absurd valid
-not_refused one command (Some left) fault valid refused =
-    no_fault one (reading_of command) left valid.0 fault valid.1
-    (subst (λ (bytes : List ℕ). IsFault (reading_of command) bytes fault)
-    (whole (reading_of command) left refused.bytes valid.0 valid.1 refused.given) refused.is)
+not_refused : Answers → (reading : Option Reading) (left : Option (List ℕ)) (fault : InputFault) → IsValid reading left
+    → IsDenied reading left fault → ⊥
+not_refused one None left fault valid refused = absurd refused
+not_refused one (Some reading) None fault valid refused = absurd valid
+not_refused one (Some reading) (Some left) fault valid refused =
+    no_fault one reading left valid.0 fault valid.1
+    (subst (λ (bytes : List ℕ). IsFault reading bytes fault) (whole reading left refused.bytes valid.0 valid.1 refused.given) refused.is)
+
+-- a read that failed is one that the count of faults shows
+vain_rose : (reading : Option Reading) (before after : SourceState) → IsReadInVain reading before after → Rose before.faults after.faults
+vain_rose None before after vain = absurd vain
+vain_rose (Some reading) before after vain = vain
 
 served : Answers → (command : Command) (before after : Devices) (ending : Ending) → Happened command before after ending
-    → IsValid command before.source.left → (Rose before.source.faults after.source.faults → ⊥)
+    → IsValid (reading_of command) before.source.left → (Rose before.source.faults after.source.faults → ⊥)
     → (Rose before.out.faults after.out.faults → ⊥) → (status_of ending ≡ 0) ⊎ (status_of ending ≡ 5)
 served one command before after Done h valid reads writes = inl refl
-served one command before after (Refused fault) h valid reads writes = absurd (not_refused one command before.source.left fault valid h.0)
-served one command before after ReadFailed h valid reads writes = absurd (reads h.0)
+served one command before after (Refused fault) h valid reads writes = absurd
+    (not_refused one (reading_of command) before.source.left fault valid h.0)
+served one command before after ReadFailed h valid reads writes = absurd
+    (reads (vain_rose (reading_of command) before.source after.source h.0))
 served one command before after WriteFailed h valid reads writes = absurd (writes h.0)
 served one command before after OutOfMemory h valid reads writes = inr refl
 
 pub ends_served : Answers → (command : Command) (before after : Devices) (status : ℕ) → Ends command before after status
-    → IsValid command before.source.left → (Rose before.source.faults after.source.faults → ⊥)
+    → IsValid (reading_of command) before.source.left → (Rose before.source.faults after.source.faults → ⊥)
     → (Rose before.out.faults after.out.faults → ⊥) → (status ≡ 0) ⊎ (status ≡ 5)
 ends_served one command before after status ends valid reads writes =
     subst (λ n. (n ≡ 0) ⊎ (n ≡ 5)) (sym ends.is) (served one command before after ends.ending ends.happened valid reads writes)
 
 pub is_served : Answers → OneCommand → (words : List (List ℕ)) (command : Command) (before after : Devices) (status : ℕ)
-    → Obeys words before after status → AsksFor words command → IsValid command before.source.left
+    → Obeys words before after status → AsksFor words command → IsValid (reading_of command) before.source.left
     → (Rose before.source.faults after.source.faults → ⊥) → (Rose before.out.faults after.out.faults → ⊥) → (status ≡ 0) ⊎ (status ≡ 5)
 is_served one only words command before after status o asks valid reads writes =
     ⊎_elim (λ ends. ends_served one command before after status ends valid reads writes) (λ declines. inr declines.is)
@@ -133,32 +140,38 @@ is_served one only words command before after status o asks valid reads writes =
 
 -- what was refused was not made
 
-not_made : Answers → (command : Command) (left : Option (List ℕ)) (fault : InputFault) (text : List ℕ) → IsInvalid command left fault
-    → Makes command left text → ⊥
-not_made one command None fault text invalid made = absurd invalid
-not_made one command (Some left) fault text invalid made =
-    no_fault one (reading_of command) made.given.bytes made.input fault made.given.spells
-    (subst (λ (bytes : List ℕ). IsFault (reading_of command) bytes fault) (sym made.given.given) invalid)
+not_given : Answers → (reading : Option Reading) (left : Option (List ℕ)) (fault : InputFault) (input : Input)
+    → IsInvalid reading left fault → IsGiven reading left input → ⊥
+not_given one None left fault input invalid given = absurd invalid
+not_given one (Some reading) None fault input invalid given = absurd invalid
+not_given one (Some reading) (Some left) fault input invalid given =
+    no_fault one reading given.bytes input fault given.spells
+    (subst (λ (bytes : List ℕ). IsFault reading bytes fault) (sym given.given) invalid)
+
+not_made : Answers → (command : Command) (left : Option (List ℕ)) (fault : InputFault) (text : List ℕ)
+    → IsInvalid (reading_of command) left fault → Makes command left text → ⊥
+not_made one command left fault text invalid made = not_given one (reading_of command) left fault made.input invalid made.given
 
 denied : Answers → (command : Command) (fault : InputFault) (before after : Devices) (ending : Ending)
-    → Happened command before after ending → IsInvalid command before.source.left fault
+    → Happened command before after ending → IsInvalid (reading_of command) before.source.left fault
     → (Rose before.source.faults after.source.faults → ⊥) → (status_of ending ≡ 2) ⊎ (status_of ending ≡ 5)
 denied one command fault before after Done h invalid reads = absurd (not_made one command before.source.left fault h.text invalid h.made)
 denied one command fault before after (Refused f) h invalid reads = inl refl
-denied one command fault before after ReadFailed h invalid reads = absurd (reads h.0)
+denied one command fault before after ReadFailed h invalid reads = absurd
+    (reads (vain_rose (reading_of command) before.source after.source h.0))
 denied one command fault before after WriteFailed h invalid reads = absurd
     (not_made one command before.source.left fault h.1.text invalid h.1.made)
 denied one command fault before after OutOfMemory h invalid reads = inr refl
 
 pub ends_denied : Answers → (command : Command) (fault : InputFault) (before after : Devices) (status : ℕ)
-    → Ends command before after status → IsInvalid command before.source.left fault → (Rose before.source.faults after.source.faults → ⊥)
-    → (status ≡ 2) ⊎ (status ≡ 5)
+    → Ends command before after status → IsInvalid (reading_of command) before.source.left fault
+    → (Rose before.source.faults after.source.faults → ⊥) → (status ≡ 2) ⊎ (status ≡ 5)
 ends_denied one command fault before after status ends invalid reads =
     subst (λ n. (n ≡ 2) ⊎ (n ≡ 5)) (sym ends.is) (denied one command fault before after ends.ending ends.happened invalid reads)
 
 pub is_denied : Answers → OneCommand
     → (words : List (List ℕ)) (command : Command) (fault : InputFault) (before after : Devices) (status : ℕ)
-    → Obeys words before after status → AsksFor words command → IsInvalid command before.source.left fault
+    → Obeys words before after status → AsksFor words command → IsInvalid (reading_of command) before.source.left fault
     → (Rose before.source.faults after.source.faults → ⊥) → (status ≡ 2) ⊎ (status ≡ 5)
 is_denied one only words command fault before after status o asks invalid reads =
     ⊎_elim (λ ends. ends_denied one command fault before after status ends invalid reads) (λ declines. inr declines.is)
@@ -167,21 +180,21 @@ is_denied one only words command fault before after status o asks invalid reads 
 -- status 2 comes for no valid input
 
 not_two : Answers → (command : Command) (before after : Devices) (ending : Ending) → Happened command before after ending
-    → IsValid command before.source.left → status_of ending ≡ 2 → ⊥
+    → IsValid (reading_of command) before.source.left → status_of ending ≡ 2 → ⊥
 not_two one command before after Done h valid e = absurd (omega (arith, e))
-not_two one command before after (Refused fault) h valid e = not_refused one command before.source.left fault valid h.0
+not_two one command before after (Refused fault) h valid e = not_refused one (reading_of command) before.source.left fault valid h.0
 not_two one command before after ReadFailed h valid e = absurd (omega (arith, e))
 not_two one command before after WriteFailed h valid e = absurd (omega (arith, e))
 not_two one command before after OutOfMemory h valid e = absurd (omega (arith, e))
 
 pub ends_not_two : Answers → (command : Command) (before after : Devices) (status : ℕ) → Ends command before after status
-    → IsValid command before.source.left → status ≡ 2 → ⊥
+    → IsValid (reading_of command) before.source.left → status ≡ 2 → ⊥
 ends_not_two one command before after status ends valid two = not_two one command before after ends.ending ends.happened valid (sym ends.is
     ∙ two)
 
 pub is_not_two : Answers → OneCommand → (words : List (List ℕ)) (command : Command) (before after : Devices) (status : ℕ)
     → Obeys words before after status → AsksFor words command
-    → IsValid command before.source.left → status ≡ 2 → ⊥
+    → IsValid (reading_of command) before.source.left → status ≡ 2 → ⊥
 is_not_two one only words command before after status o asks valid two =
     ⊎_elim (λ ends. ends_not_two one command before after status ends valid two) (λ declines. absurd (omega (arith, declines.is, two)))
     (is_done only words command before after status o asks)

@@ -76,14 +76,14 @@ report_bad text behind bytes deck stop same after short spells bad =
 
 -- input that was refused
 pub refused_stops : (reading : Reading) (before after : SourceState) (bytes : List ℕ) (stop : Stop) → IsInput reading before.left bytes
-    → IsRefused reading bytes stop → IsStopped reading before after stop
+    → IsRefused reading bytes stop → IsStopped (Some reading) before after stop
 refused_stops reading before after bytes Read given refused = absurd refused
 refused_stops reading before after bytes (Refuses f) given refused = record { bytes = bytes; given = given; is = refused }
 refused_stops reading before after bytes Memory given refused = tt
 
 -- input that was not read
 pub unread_stops : (reading : Reading) (before after : SourceState) (stop : Stop) → IsUnread before.faults after.faults stop
-    → IsStopped reading before after stop
+    → IsStopped (Some reading) before after stop
 unread_stops reading before after Read unread = unread
 unread_stops reading before after (Refuses f) unread = absurd unread
 unread_stops reading before after Memory unread = tt

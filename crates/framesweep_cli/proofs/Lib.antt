@@ -2,6 +2,7 @@ pub mod FirstBytes
 pub mod Judging
 pub mod Answered
 pub mod Threads
+pub mod Workloads
 pub mod Checking
 pub mod Making
 pub mod Stopping

@@ -8,9 +8,8 @@ use Rattle.deck_text.specs.Decks.{Decked}
 use Rattle.deck_text.specs.Printed.{canonical}
 use Rattle.deck_text.specs.Spelled.{Spell, SpellsDeck}
 use Rattle.framesweep_cli.specs.declared.input.Input.{Input}
-use Rattle.framesweep_cli.specs.declared.reading.Reading.{Reading}
 use Rattle.framesweep_cli.specs.declared.reading.Reading.TheVariants.{Deck}
-use Rattle.framesweep_cli.specs.Inputs.{reading_of, IsReadAs}
+use Rattle.framesweep_cli.specs.Inputs.{reading_of, IsReadAs, IsGiven}
 use Rattle.framesweep_cli.specs.Endings.{Makes}
 use Rattle.framesweep_cli.proofs.Completing.{OneDeck}
 
@@ -38,15 +37,15 @@ read_again one back left text printed input a is short b =
       };
     }
 
-pub made_again : OneDeck → ReadsBack → (command : Command) (left text output : List ℕ) → reading_of command ≡ Deck
+pub made_again : OneDeck → ReadsBack → (command : Command) (left text output : List ℕ) → reading_of command ≡ Some Deck
     → Makes Print (Some left) text → length text ≤ DECK_BYTES
     → Makes command (Some left) output → Makes command (Some text) output
 made_again one back command left text output reads printed short made =
-    let b = subst (λ (r : Reading). IsReadAs r (Some left) made.input) reads made.given in
+    let b = subst (λ r. IsGiven r (Some left) made.input) reads made.given in
     let again = read_again one back left text printed.input made.input printed.given printed.output short b in
     record {
       input = made.input;
-      given = subst (λ (r : Reading). IsReadAs r (Some text) made.input)
+      given = subst (λ r. IsGiven r (Some text) made.input)
           (sym reads) again;
       output = made.output;
     }

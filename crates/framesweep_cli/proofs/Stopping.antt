@@ -1,14 +1,22 @@
 -- From what was made to how it ended.
-use Rattle.std.proofs.Common.{◌≡◌, ℕ, List, Result, Ok, Err, sym, subst, inl, inr}
+use Rattle.std.proofs.Common.{◌≡◌, ℕ, List, Option, Some, None, Result, Ok, Err, sym, subst, inl, inr}
 use Rattle.command_words.specs.declared.command.Command.{Command}
 use Rattle.framesweep_cli.specs.declared.ending.Ending.{Ending}
 use Rattle.framesweep_cli.specs.declared.ending.Ending.TheVariants.{Done, Refused, ReadFailed, WriteFailed, OutOfMemory}
 use Rattle.framesweep_cli.specs.declared.stop.Stop.{Stop}
 use Rattle.framesweep_cli.specs.declared.stop.Stop.TheVariants.{Read, Input, Memory}
 use Rattle.framesweep_cli.specs.Devices.{SourceState, SinkState, Devices}
-use Rattle.framesweep_cli.specs.Inputs.{reading_of}
-use Rattle.framesweep_cli.specs.Statuses.{status_of, line_of, Tells, Happened, Ends}
+use Rattle.framesweep_cli.specs.declared.fault.InputFault.{InputFault}
+use Rattle.framesweep_cli.specs.declared.reading.Reading.{Reading}
+use Rattle.framesweep_cli.specs.Inputs.{reading_of, IsDenied}
+use Rattle.framesweep_cli.specs.Statuses.{MayBeRead, status_of, line_of, Tells, Happened, Ends}
 use Rattle.framesweep_cli.specs.Stops.{IsStopped, IsMade, IsWritten, EndsAs, Finishes}
+
+-- what is refused was read
+denied_read : (reading : Option Reading) (before after : SourceState) (fault : InputFault) → IsDenied reading before.left fault
+    → MayBeRead reading before after
+denied_read None before after fault denied = absurd denied
+denied_read (Some reading) before after fault denied = tt
 
 -- an ending without output
 stop_happened : (command : Command) (before after : Devices) (stop : Stop) (ending : Ending) → after.out ≡ before.out
@@ -19,10 +27,11 @@ stop_happened command before after Read ending alone stopped ends =
 stop_happened command before after (Input fault) ending alone stopped ends =
     elim ends [
       | inl refused ↦ subst (Happened command before after) (sym refused) (stopped, alone)
-      | inr memory ↦ subst (Happened command before after) (sym memory) alone
+      | inr memory ↦ subst (Happened command before after) (sym memory)
+          (denied_read (reading_of command) before.source after.source fault stopped, alone)
     ]
 stop_happened command before after Memory ending alone stopped ends =
-    subst (Happened command before after) (sym ends) alone
+    subst (Happened command before after) (sym ends) (stopped, alone)
 
 -- an ending with output
 written_happened : (command : Command) (before after : Devices) (text : List ℕ) (ending : Ending)
@@ -31,14 +40,14 @@ written_happened : (command : Command) (before after : Devices) (text : List ℕ
 written_happened command before after text Done made written = record {
   text = text;
   made = made.0;
-  emptied = made.1;
+  read = made.1;
   added = written.0;
   flushed = written.1;
 }
 written_happened command before after text (Refused fault) made written = absurd written
 written_happened command before after text ReadFailed made written = absurd written
 written_happened command before after text WriteFailed made written =
-    (written.0, record { text = text; made = made.0; emptied = made.1; added = written.1 })
+    (written.0, record { text = text; made = made.0; read = made.1; added = written.1 })
 written_happened command before after text OutOfMemory made written = absurd written
 
 happened : (command : Command) (before after : Devices) (made : Result (List ℕ) Stop) (ending : Ending)

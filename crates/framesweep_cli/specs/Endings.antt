@@ -20,9 +20,11 @@ use Rattle.report_check.specs.declared.verdict.Verdict.TheVariants.{Yes, Wrong}
 use Rattle.report_check.specs.Runs.{AreReportOfRun}
 use Rattle.report_check.specs.Verdicts.{IsVerdict}
 use Rattle.command_words.specs.declared.command.Command.{Command}
-use Rattle.command_words.specs.declared.command.Command.TheVariants.{Run, Replay, Serial, Print, Check}
+use Rattle.command_words.specs.declared.command.Command.TheVariants.{Run, Replay, Serial, Print, Check, Make}
 use Rattle.framesweep_cli.specs.declared.input.Input.{Input}
-use Rattle.framesweep_cli.specs.Inputs.{reading_of, IsReadAs}
+use Rattle.separate_decks.specs.Workload.{workload_graph, workload_scripts}
+use Rattle.deck_maker.specs.Summary.{summary_of}
+use Rattle.framesweep_cli.specs.Inputs.{reading_of, IsGiven}
 
 -- a report as text or as one line of JSON
 abbrev pub report_bytes : Bool → List Logged → List Refused → List (List ℕ) → List Value → List ℕ
@@ -71,18 +73,29 @@ pub record IsCheck (deck : Decked) (versions : ℕ) (report : Report) (text : Li
   pub first : IsVerdict deck.graph deck.scripts versions report verdict
   pub bytes : text ≡ verdict_line verdict
 
--- what a command writes for its input
+-- The summary of a run of the workload's deck of a number, which no order of the calls changes: it is that of each run of all of them,
+-- so that of the run of thread after thread too.
+pub record IsSummary (number : ℕ) (text : List ℕ) : Type 0 where
+  pub log : List Logged
+  pub refused : List Refused
+  pub legal : Legal (workload_graph number) log
+  pub merge : Merge (workload_graph number) (workload_scripts number) VERSIONS log refused
+  pub each : (other : List Logged) (left : List Refused) → Merge (workload_graph number) (workload_scripts number) VERSIONS other left
+      → text ≡ summary_of number 216 4000 (finals (workload_graph number) other)
+
+-- what a command writes for its input, or without any
 abbrev pub IsOutput : Command → Input → List ℕ → Type 0
 IsOutput (Run versions json) input text = IsReport input.deck versions json IsAnyRun text
 IsOutput (Replay versions json) input text = IsReport input.deck versions json (IsReplay input versions) text
 IsOutput (Serial versions json) input text = IsReport input.deck versions json (IsSerial input.deck versions) text
 IsOutput Print input text = text ≡ canonical input.deck
 IsOutput (Check versions) input text = (report : Report) × (input.report ≡ Some report) × IsCheck input.deck versions report text
+IsOutput (Make number) input text = IsSummary number text
 
--- the text is what the command writes for the input that is read
+-- the text is what the command writes for the input that is read, if any is
 pub record Makes (command : Command) (left : Option (List ℕ)) (text : List ℕ) : Type 0 where
   pub input : Input
-  pub given : IsReadAs (reading_of command) left input
+  pub given : IsGiven (reading_of command) left input
   pub output : IsOutput command input text
 
 -- the command waits for nobody, and its limit of versions is at most the greatest one
@@ -92,3 +105,4 @@ IsAlone (Replay versions json) = versions ≤ VERSIONS
 IsAlone (Serial versions json) = versions ≤ VERSIONS
 IsAlone Print = ⊤
 IsAlone (Check versions) = versions ≤ VERSIONS
+IsAlone (Make number) = ⊥

@@ -10,7 +10,7 @@ use Rattle.report_text.specs.Printed.{printed, IsReport, Stops}
 use Rattle.replay_run.specs.Input.{deck_text, schedule_text}
 use Rattle.replay_run.specs.Schedule.{schedule_of, first_unnamed}
 use Rattle.command_words.specs.declared.command.Command.{Command}
-use Rattle.command_words.specs.declared.command.Command.TheVariants.{Run, Replay, Serial, Print, Check}
+use Rattle.command_words.specs.declared.command.Command.TheVariants.{Run, Replay, Serial, Print, Check, Make}
 use Rattle.framesweep_cli.specs.declared.input.Input.{Input}
 use Rattle.framesweep_cli.specs.declared.limits.TheConstants.{SCHEDULED_BYTES, REPORTED_BYTES}
 use Rattle.framesweep_cli.specs.declared.reading.Reading.{Reading}
@@ -18,13 +18,14 @@ use Rattle.framesweep_cli.specs.declared.reading.Reading.TheVariants.{Deck, Sche
 use Rattle.framesweep_cli.specs.declared.fault.InputFault.{InputFault}
 use Rattle.framesweep_cli.specs.declared.fault.InputFault.TheVariants as fault
 
--- what a command reads
-abbrev pub reading_of : Command → Reading
-reading_of (Run versions json) = Deck
-reading_of (Replay versions json) = Scheduled
-reading_of (Serial versions json) = Deck
-reading_of Print = Deck
-reading_of (Check versions) = Reported
+-- what a command reads, if it reads anything
+abbrev pub reading_of : Command → Option Reading
+reading_of (Run versions json) = Some Deck
+reading_of (Replay versions json) = Some Scheduled
+reading_of (Serial versions json) = Some Deck
+reading_of Print = Some Deck
+reading_of (Check versions) = Some Reported
+reading_of (Make number) = None
 
 -- how many bytes that may have
 abbrev pub most_bytes : Reading → ℕ
@@ -112,12 +113,25 @@ pub record IsRefusedFor (reading : Reading) (left : Option (List ℕ)) (fault : 
   pub given : IsInput reading left bytes
   pub is : IsFault reading bytes fault
 
--- a source told what it had left, and that is valid for a command
-abbrev pub IsValid : Command → Option (List ℕ) → Type 0
-IsValid command None = ⊥
-IsValid command (Some left) = (input : Input) × Spells (reading_of command) left input
+-- what is read says this input; where nothing is read any input will do
+abbrev pub IsGiven : Option Reading → Option (List ℕ) → Input → Type 0
+IsGiven None left input = ⊤
+IsGiven (Some reading) left input = IsReadAs reading left input
 
--- a source told what it had left, and that is refused for this fault: all of it, or its first bytes where there are too many
-abbrev pub IsInvalid : Command → Option (List ℕ) → InputFault → Type 0
-IsInvalid command None fault = ⊥
-IsInvalid command (Some left) fault = IsFault (reading_of command) (take (most_bytes (reading_of command) + 1) left) fault
+-- what is read is refused for this fault
+abbrev pub IsDenied : Option Reading → Option (List ℕ) → InputFault → Type 0
+IsDenied None left fault = ⊥
+IsDenied (Some reading) left fault = IsRefusedFor reading left fault
+
+-- a source told what it had left, and that is valid where it is read so; where nothing is read all is valid
+abbrev pub IsValid : Option Reading → Option (List ℕ) → Type 0
+IsValid None left = ⊤
+IsValid (Some reading) None = ⊥
+IsValid (Some reading) (Some left) = (input : Input) × Spells reading left input
+
+-- a source told what it had left, and that is refused for this fault where it is read so: all of it, or its first bytes where there are
+-- too many
+abbrev pub IsInvalid : Option Reading → Option (List ℕ) → InputFault → Type 0
+IsInvalid None left fault = ⊥
+IsInvalid (Some reading) None fault = ⊥
+IsInvalid (Some reading) (Some left) fault = IsFault reading (take (most_bytes reading + 1) left) fault

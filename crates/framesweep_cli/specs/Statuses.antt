@@ -1,5 +1,5 @@
 -- How a run of the program ends: its status, and what it leaves on its devices.
-use Rattle.std.specs.Prelude.{◌≡◌, ℕ, IsTrue, ◌⊎◌, List, Option, Some, None, Result, Ok, Err}
+use Rattle.std.specs.Prelude.{◌≡◌, ℕ, IsTrue, ⊤, ◌⊎◌, List, Option, Some, None, Result, Ok, Err}
 use Rattle.fs_io.specs.Bytes as bytes
 use Rattle.fs_io.specs.Bytes.{Adds, AddsFirst}
 use Rattle.fs_io.specs.Count.{Rose}
@@ -8,8 +8,9 @@ use Rattle.command_words.specs.declared.command.WordsFault.{WordsFault}
 use Rattle.command_words.specs.declared.command.WordsFault.TheVariants as words
 use Rattle.framesweep_cli.specs.declared.ending.Ending.{Ending}
 use Rattle.framesweep_cli.specs.declared.ending.Ending.TheVariants.{Done, Refused, ReadFailed, WriteFailed, OutOfMemory}
-use Rattle.framesweep_cli.specs.Devices.{SinkState, Devices}
-use Rattle.framesweep_cli.specs.Inputs.{reading_of, IsRefusedFor}
+use Rattle.framesweep_cli.specs.declared.reading.Reading.{Reading}
+use Rattle.framesweep_cli.specs.Devices.{SourceState, SinkState, Devices}
+use Rattle.framesweep_cli.specs.Inputs.{reading_of, IsDenied}
 use Rattle.framesweep_cli.specs.Endings.{Makes}
 use Rattle.framesweep_cli.specs.Lines.{words_line, read_line, write_line, memory_line, input_line}
 use Rattle.command_words.specs.Words.{ReadsWords}
@@ -39,28 +40,43 @@ abbrev pub Tells : SinkState → SinkState → Option (List ℕ) → Type 0
 Tells before after None = after ≡ before
 Tells before after (Some line) = Says before after line
 
--- the output grew by what the command makes of the input, of which nothing is left, and was flushed
+-- nothing is left of what was read to its end; a source of which nothing is read was let alone
+abbrev pub IsReadWhole : Option Reading → SourceState → SourceState → Type 0
+IsReadWhole None before after = after ≡ before
+IsReadWhole (Some reading) before after = bytes.Ends before.left after.left
+
+-- something may have been read, but of a source of which nothing is read
+abbrev pub MayBeRead : Option Reading → SourceState → SourceState → Type 0
+MayBeRead None before after = after ≡ before
+MayBeRead (Some reading) before after = ⊤
+
+-- a read failed
+abbrev pub IsReadInVain : Option Reading → SourceState → SourceState → Type 0
+IsReadInVain None before after = ⊥
+IsReadInVain (Some reading) before after = Rose before.faults after.faults
+
+-- the output grew by what the command makes of the input, which was read whole, and was flushed
 pub record Writes (command : Command) (before after : Devices) : Type 0 where
   pub text : List ℕ
   pub made : Makes command before.source.left text
-  pub emptied : bytes.Ends before.source.left after.source.left
+  pub read : IsReadWhole (reading_of command) before.source after.source
   pub added : Adds before.out.held after.out.held text
   pub flushed : IsTrue after.out.clean
 
--- the output grew by the first bytes of what the command makes of the input, of which nothing is left, or by all of them
+-- the output grew by the first bytes of what the command makes of the input, which was read whole, or by all of them
 pub record WritesPart (command : Command) (before after : Devices) : Type 0 where
   pub text : List ℕ
   pub made : Makes command before.source.left text
-  pub emptied : bytes.Ends before.source.left after.source.left
+  pub read : IsReadWhole (reading_of command) before.source after.source
   pub added : AddsFirst before.out.held after.out.held text
 
 -- what each ending of a command means for the source and the output; where no output was begun it was let alone
 abbrev pub Happened : Command → Devices → Devices → Ending → Type 0
 Happened command before after Done = Writes command before after
-Happened command before after (Refused fault) = IsRefusedFor (reading_of command) before.source.left fault × (after.out ≡ before.out)
-Happened command before after ReadFailed = Rose before.source.faults after.source.faults × (after.out ≡ before.out)
+Happened command before after (Refused fault) = IsDenied (reading_of command) before.source.left fault × (after.out ≡ before.out)
+Happened command before after ReadFailed = IsReadInVain (reading_of command) before.source after.source × (after.out ≡ before.out)
 Happened command before after WriteFailed = Rose before.out.faults after.out.faults × WritesPart command before after
-Happened command before after OutOfMemory = after.out ≡ before.out
+Happened command before after OutOfMemory = MayBeRead (reading_of command) before.source after.source × (after.out ≡ before.out)
 
 -- a command ended with this status
 pub record Ends (command : Command) (before after : Devices) (status : ℕ) : Type 0 where

@@ -1,6 +1,5 @@
 -- Why there is no output, and how a command ends.
-use Rattle.std.specs.Prelude.{◌≡◌, ◌≢◌, ℕ, IsTrue, ⊤, ◌⊎◌, length, List, Some, Result, Ok, Err}
-use Rattle.fs_io.specs.Bytes as bytes
+use Rattle.std.specs.Prelude.{◌≡◌, ◌≢◌, ℕ, IsTrue, ⊤, ◌⊎◌, length, List, Option, Some, Result, Ok, Err}
 use Rattle.fs_io.specs.Bytes.{Adds, AddsFirst}
 use Rattle.fs_io.specs.Count.{Rose}
 use Rattle.command_words.specs.declared.command.Command.{Command}
@@ -16,8 +15,9 @@ use Rattle.framesweep_cli.specs.declared.stop.Stop.{Stop}
 use Rattle.framesweep_cli.specs.declared.stop.Stop.TheVariants.{Read, Input as Refuses, Memory}
 use Rattle.framesweep_cli.specs.Devices.{SourceState, SinkState}
 use Rattle.framesweep_cli.specs.declared.input.Input.{Input}
-use Rattle.framesweep_cli.specs.Inputs.{reading_of, IsFault, IsRefusedFor}
+use Rattle.framesweep_cli.specs.Inputs.{reading_of, IsFault, IsDenied}
 use Rattle.framesweep_cli.specs.Endings.{Makes}
+use Rattle.framesweep_cli.specs.Statuses.{IsReadWhole, MayBeRead, IsReadInVain}
 
 -- why bytes are not read as a deck: they are refused, or there was no memory
 abbrev pub IsBadDeck : List ℕ → Stop → Type 0
@@ -59,14 +59,14 @@ IsUnnamed input (Refuses (fault.ReportLine line)) = ⊥
 IsUnnamed input Memory = ⊤
 
 -- why nothing is made of the input
-abbrev pub IsStopped : Reading → SourceState → SourceState → Stop → Type 0
-IsStopped reading before after Read = Rose before.faults after.faults
-IsStopped reading before after (Refuses f) = IsRefusedFor reading before.left f
-IsStopped reading before after Memory = ⊤
+abbrev pub IsStopped : Option Reading → SourceState → SourceState → Stop → Type 0
+IsStopped reading before after Read = IsReadInVain reading before after
+IsStopped reading before after (Refuses f) = IsDenied reading before.left f
+IsStopped reading before after Memory = MayBeRead reading before after
 
--- what was made of the input, of which nothing is left, or why nothing was
+-- what was made of the input, which was read whole, or why nothing was
 abbrev pub IsMade : Command → SourceState → SourceState → Result (List ℕ) Stop → Type 0
-IsMade command before after (Ok text) = Makes command before.left text × bytes.Ends before.left after.left
+IsMade command before after (Ok text) = Makes command before.left text × IsReadWhole (reading_of command) before after
 IsMade command before after (Err stop) = IsStopped (reading_of command) before after stop
 
 -- how a stop ends; a fault's line takes memory

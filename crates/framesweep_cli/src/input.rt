@@ -1,6 +1,6 @@
 // From a source to what its bytes say.
 
-ghost use Rattle.std.specs.Prelude.{◌≡◌, ◌+◌, ◌≤◌, length, IfOk, IfErr, Ok};
+ghost use Rattle.std.specs.Prelude.{◌≡◌, ◌+◌, ◌≤◌, length, Some, IfOk, IfErr, Ok};
 ghost use Rattle.fs_io.specs.Bytes.{Ends};
 ghost use Rattle.deck_text.specs.declared.fault.DeckFault.TheVariants.{Memory as NoMemory};
 ghost use Rattle.deck_text.specs.Reasons.{ReadsDeck};
@@ -155,7 +155,7 @@ fn judge(alloc: Global, reading: Reading, bytes: &[u8]) -> Result<Input, Stop>
 pub fn input_of<S: Source>(alloc: Global, reading: Reading, source: &mut S) -> Result<Input, Stop>
     ensures ok { IfOk result (HoldsInput reading (S.left source.old)) }
     ensures emptied { IfOk result (λ input. Ends (S.left source.old) (S.left source.new)) }
-    ensures err { IfErr result (IsStopped reading
+    ensures err { IfErr result (IsStopped (Some reading)
         (source_state (S.left source.old) (S.faults source.old))
         (source_state (S.left source.new) (S.faults source.new))) }
 {

@@ -1,17 +1,14 @@
 // What each command writes for its input.
 
-ghost use Rattle.std.specs.Prelude.{◌≡◌, ◌≤◌, length, Some, IfOk, IfErr, OnOk};
-ghost use Rattle.script_tree.specs.declared.limits.TheConstants.{VERSIONS};
-ghost use Rattle.signal_graph.specs.Legal.{Legal, finals};
-ghost use Rattle.call_log.specs.Merge.{Merge};
-ghost use Rattle.deck_text.specs.Calls.{AreThreads};
+ghost use Rattle.std.specs.Prelude.{◌≡◌, ◌≤◌, length, Some, IfSome, IfOk, IfErr, OnOk};
+ghost use Rattle.script_tree.specs.declared.limits.TheConstants.{VERSIONS as MOST};
 ghost use Rattle.report_text.specs.Report.{AreAnswered};
 ghost use Rattle.replay_run.specs.Faults.{place_of};
 ghost use Rattle.replay_run.specs.Schedule.{first_unnamed};
 ghost use Rattle.framesweep_cli.specs.Inputs.{reading_of, HasReport, IsNamed, Suits};
 ghost use Rattle.framesweep_cli.specs.declared.reading.Reading.TheVariants.{Scheduled};
 ghost use Rattle.framesweep_cli.specs.Endings.{report_bytes, verdict_line, IsAlone, IsAnyRun, IsCheck, IsOutput};
-ghost use Rattle.framesweep_cli.specs.Endings.{IsReplay, IsReport, IsSerial};
+ghost use Rattle.framesweep_cli.specs.Endings.{IsReplay, IsReport, IsSerial, IsSummary};
 ghost use Rattle.framesweep_cli.specs.Stops.{IsUnnamed};
 
 use crate::fault::InputFault;
@@ -19,18 +16,23 @@ use crate::input::Input;
 use crate::stop::Stop;
 use call_log::Finished;
 use command_words::Command;
+use deck_maker::{make, summary};
 use deck_text::{Deck, print_deck};
 use replay_run::{ReplayFault, replay_owned};
 use report_check::{Verdict, check, reports_of_runs_by_their_bytes};
 use report_text::data::Report;
 use report_text::{report, report_json};
 use script_tree::items::Text;
+use script_tree::limits::VERSIONS;
 use script_tree::memory::OutOfMemory;
 use script_tree::print::print_number;
+use separate_decks::laws::{workload_ends_alike, workload_is_separate};
 use serial_machine::serial_owned;
-use signal_graph::call::Scripts;
 use signal_graph::graph::Graph;
 use std::alloc::Global;
+use std::sync::Wait;
+use std::thread::Threads;
+use worker_gate::{Gate, run_scripts};
 
 // The report of a run, as text or as JSON.
 fn report_of(
@@ -50,29 +52,42 @@ fn report_of(
     report(alloc, graph, finished)
 }
 
-// The run of threads, in some order: here thread after thread. Where threads are started to make it, this is the place.
-fn run(
+/// The report of a run of a deck's threads, each in a thread of its own; all have ended when this returns. Takes memory. Locks, and
+/// may wait.
+#[tactic(auto, using(crate::proofs::Threads::run_laws))]
+pub fn run_report<G: Gate, R: Threads + Wait + Sync>(
+    rt: &R,
     alloc: Global,
-    graph: &Graph,
-    scripts: Scripts,
+    deck: Deck,
     versions: u32,
-) -> Result<Finished, OutOfMemory>
-    requires { AreThreads scripts }
-    ensures legal { IfOk result (λ run. Legal graph.now run.log.entries) }
-    ensures merge { IfOk result (λ run. Merge graph.now scripts versions run.log.entries run.refused) }
-    ensures finals { IfOk result (λ run. run.finals ≡ finals graph.now run.log.entries) }
-{
-    serial_owned(alloc, graph, scripts, versions)
-}
-
-/// The report of a run of a deck's threads. Takes memory.
-#[tactic(auto, using(crate::proofs::Answered::report_laws))]
-pub fn run_report(alloc: Global, deck: Deck, versions: u32, json: bool) -> Result<Text, OutOfMemory>
+    json: bool,
+    gate: &G,
+) -> Result<Text, OutOfMemory>
+    requires { versions ≤ MOST }
     ensures { IfOk result (IsReport deck versions json IsAnyRun) }
 {
     let (graph, scripts) = deck.into_parts();
-    let finished = run(alloc, &graph, scripts, versions)?;
+    let finished = run_scripts(rt, alloc, &graph, &scripts, versions, gate)?;
     report_of(alloc, &graph, &finished, json)
+}
+
+/// The summary of a run of the workload's deck of a number, each thread's calls in a thread of its own; all have ended when this
+/// returns. Takes memory. Locks, and may wait.
+#[tactic(auto, using(crate::proofs::Threads::run_laws))]
+pub fn workload_summary<G: Gate, R: Threads + Wait + Sync>(
+    rt: &R,
+    alloc: Global,
+    number: u64,
+    gate: &G,
+) -> Result<Text, OutOfMemory>
+    ensures { IfOk result (IsSummary number) }
+{
+    workload_is_separate();
+    workload_ends_alike();
+    let deck = make(alloc, number)?;
+    let (graph, scripts) = deck.into_parts();
+    let finished = run_scripts(rt, alloc, &graph, &scripts, VERSIONS, gate)?;
+    summary(alloc, number, &graph, &finished)
 }
 
 // The report of the run of a deck, thread after thread.
@@ -98,7 +113,7 @@ fn unplayed(fault: ReplayFault) -> Stop
 // The report of the run that a schedule makes of a deck.
 #[tactic(auto, using(crate::proofs::Threads::replay_laws))]
 fn replay_report(alloc: Global, input: Input, versions: u32, json: bool) -> Result<Text, Stop>
-    requires few_versions { versions ≤ VERSIONS }
+    requires few_versions { versions ≤ MOST }
     requires suits { Suits Scheduled input }
     ensures ok { IfOk result (IsReport input.deck versions json (IsReplay input versions)) }
     ensures named { OnOk result (IsNamed input) }
@@ -163,13 +178,13 @@ fn check_input(alloc: Global, input: &Input, versions: u32) -> Result<Text, OutO
 /// memory.
 pub fn output(alloc: Global, command: &Command, input: Input) -> Result<Text, Stop>
     requires alone { IsAlone command.now }
-    requires suits { Suits (reading_of command.now) input }
+    requires suits { IfSome (reading_of command.now) (λ reading. Suits reading input) }
     ensures ok { IfOk result (IsOutput command.now input) }
     ensures named { OnOk result (IsNamed input) }
     ensures err { IfErr result (IsUnnamed input) }
 {
     match command {
-        Command::Run { .. } => unreachable!(),
+        Command::Run { .. } | Command::Make { .. } => unreachable!(),
         Command::Replay { versions, json } => replay_report(alloc, input, *versions, *json),
         Command::Serial { versions, json } => {
             let Input { deck, .. } = input;

@@ -19,14 +19,15 @@ impl Reading {
     ghost use Rattle.std.specs.Prelude.{◌≡◌};
     ghost use Rattle.framesweep_cli.specs.Inputs.{reading_of, most_bytes};
 
-    /// What a command reads.
-    pub fn of(command: &Command) -> Reading
+    /// What a command reads, if it reads anything.
+    pub fn of(command: &Command) -> Option<Reading>
         ensures { result ≡ reading_of command.now }
     {
         match command {
-            Command::Run { .. } | Command::Serial { .. } | Command::Print => Reading::Deck,
-            Command::Replay { .. } => Reading::Scheduled,
-            Command::Check { .. } => Reading::Reported,
+            Command::Run { .. } | Command::Serial { .. } | Command::Print => Some(Reading::Deck),
+            Command::Replay { .. } => Some(Reading::Scheduled),
+            Command::Check { .. } => Some(Reading::Reported),
+            Command::Make { .. } => None,
         }
     }
 

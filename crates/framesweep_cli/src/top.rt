@@ -1,9 +1,10 @@
 // The top call. The order of work: the words, reading to the end of input, judging the input, the run, the whole output,
 // writing it.
 
-ghost use Rattle.std.specs.Prelude.{◌≡◌, IfOk, IfErr};
+ghost use Rattle.std.specs.Prelude.{◌≡◌, ◌≤◌, IfOk, IfErr};
+ghost use Rattle.script_tree.specs.declared.limits.TheConstants.{VERSIONS};
 ghost use Rattle.command_words.specs.Words.{HasFewVersions};
-ghost use Rattle.framesweep_cli.specs.Devices.{source_state, sink_state};
+ghost use Rattle.framesweep_cli.specs.Devices.{SourceState, source_state, sink_state};
 ghost use Rattle.framesweep_cli.specs.Endings.{IsAlone};
 ghost use Rattle.framesweep_cli.specs.Statuses.{line_of, Says, Tells, Ends, Obeys};
 ghost use Rattle.framesweep_cli.specs.Stops.{IsMade, IsWritten, EndsAs, Finishes};
@@ -11,7 +12,7 @@ ghost use Rattle.framesweep_cli.specs.Stops.{IsMade, IsWritten, EndsAs, Finishes
 use crate::ending::Ending;
 use crate::input::{Input, input_of};
 use crate::lines::{MEMORY_LINE, READ_LINE, WORDS_LINE, WRITE_LINE, input_line};
-use crate::output::{output, run_report};
+use crate::output::{output, run_report, workload_summary};
 use crate::reading::Reading;
 use crate::stop::Stop;
 use command_words::laws::versions_are_few;
@@ -21,6 +22,9 @@ use fs_io::source::Source;
 use fs_io::whole::write_all;
 use script_tree::items::Text;
 use std::alloc::Global;
+use std::sync::Wait;
+use std::thread::Threads;
+use worker_gate::Gate;
 
 // What a command that waits for nobody makes of what it reads.
 #[tactic(auto, using(crate::proofs::Making::made_laws))]
@@ -30,7 +34,10 @@ fn make_alone<S: Source>(alloc: Global, command: &Command, source: &mut S) -> Re
         (source_state (S.left source.old) (S.faults source.old))
         (source_state (S.left source.new) (S.faults source.new)) result }
 {
-    let input = match input_of(alloc, Reading::of(command), source) {
+    let Some(reading) = Reading::of(command) else {
+        unreachable!()
+    };
+    let input = match input_of(alloc, reading, source) {
         Ok(input) => input,
         Err(stop) => return Err(stop),
     };
@@ -39,12 +46,15 @@ fn make_alone<S: Source>(alloc: Global, command: &Command, source: &mut S) -> Re
 
 // What `run` makes of what it reads.
 #[tactic(auto, using(crate::proofs::Making::made_laws))]
-fn make_run<S: Source>(
+fn make_run<S: Source, G: Gate, R: Threads + Wait + Sync>(
+    rt: &R,
     alloc: Global,
     versions: u32,
     json: bool,
     source: &mut S,
+    gate: &G,
 ) -> Result<Text, Stop>
+    requires { versions ≤ VERSIONS }
     ensures { IsMade (Command.Run versions json)
         (source_state (S.left source.old) (S.faults source.old))
         (source_state (S.left source.new) (S.faults source.new)) result }
@@ -53,7 +63,19 @@ fn make_run<S: Source>(
         Ok(input) => input,
         Err(stop) => return Err(stop),
     };
-    Ok(run_report(alloc, deck, versions, json)?)
+    Ok(run_report(rt, alloc, deck, versions, json, gate)?)
+}
+
+// What `make` makes. It reads nothing.
+fn make_workload<G: Gate, R: Threads + Wait + Sync>(
+    rt: &R,
+    alloc: Global,
+    number: u64,
+    gate: &G,
+) -> Result<Text, Stop>
+    ensures { (source : SourceState) → IsMade (Command.Make number) source source result }
+{
+    Ok(workload_summary(rt, alloc, number, gate)?)
 }
 
 // Gives standard error a line.
@@ -166,14 +188,17 @@ pub fn framesweep_alone<S: Source, O: Sink, E: Sink>(
 
 // Does what `run` asks for.
 #[tactic(auto, using(crate::proofs::Stopping::made_ends))]
-fn serve_run<S: Source, O: Sink, E: Sink>(
+fn serve_run<S: Source, O: Sink, E: Sink, G: Gate, R: Threads + Wait + Sync>(
+    rt: &R,
     alloc: Global,
     versions: u32,
     json: bool,
     source: &mut S,
     out: &mut O,
     err: &mut E,
+    gate: &G,
 ) -> u8
+    requires { versions ≤ VERSIONS }
     ensures { Ends (Command.Run versions json)
         (record {
           source = source_state (S.left source.old) (S.faults source.old);
@@ -187,17 +212,46 @@ fn serve_run<S: Source, O: Sink, E: Sink>(
         })
         result }
 {
-    let made = make_run(alloc, versions, json, source);
+    let made = make_run(rt, alloc, versions, json, source, gate);
+    finish(alloc, made, out, err).status()
+}
+
+// Does what `make` asks for.
+#[tactic(auto, using(crate::proofs::Stopping::made_ends))]
+fn serve_make<O: Sink, E: Sink, G: Gate, R: Threads + Wait + Sync>(
+    rt: &R,
+    alloc: Global,
+    number: u64,
+    out: &mut O,
+    err: &mut E,
+    gate: &G,
+) -> u8
+    ensures { (source : SourceState) → Ends (Command.Make number)
+        (record {
+          source = source;
+          out = sink_state (O.held out.old) (O.faults out.old) (O.clean out.old);
+          err = sink_state (E.held err.old) (E.faults err.old) (E.clean err.old);
+        })
+        (record {
+          source = source;
+          out = sink_state (O.held out.new) (O.faults out.new) (O.clean out.new);
+          err = sink_state (E.held err.new) (E.faults err.new) (E.clean err.new);
+        })
+        result }
+{
+    let made = make_workload(rt, alloc, number, gate);
     finish(alloc, made, out, err).status()
 }
 
 // Does what a command asks for.
-fn serve<S: Source, O: Sink, E: Sink>(
+fn serve<S: Source, O: Sink, E: Sink, G: Gate, R: Threads + Wait + Sync>(
+    rt: &R,
     alloc: Global,
     command: &Command,
     source: &mut S,
     out: &mut O,
     err: &mut E,
+    gate: &G,
 ) -> u8
     requires { HasFewVersions command.now }
     ensures { Ends command.now
@@ -214,23 +268,37 @@ fn serve<S: Source, O: Sink, E: Sink>(
         result }
 {
     match command {
-        Command::Run { versions, json } => serve_run(alloc, *versions, *json, source, out, err),
+        Command::Run { versions, json } => serve_run(
+            rt, alloc, *versions, *json, source, out, err, gate,
+        ),
+        Command::Make { number } => serve_make(rt, alloc, *number, out, err, gate),
         Command::Replay { .. } | Command::Serial { .. } | Command::Print | Command::Check { .. } =>
             framesweep_alone(alloc, command, source, out, err),
     }
 }
 
-/// Does what the words behind the program's name ask for, and answers the status. Takes memory.
+/// Does what the words behind the program's name ask for, and answers the status. Takes memory, and for `run` and `make`
+/// locks and may wait.
 ///
-/// `run` runs the deck's threads, here one after the other, and writes the report of one order of their calls. 1: the words
-/// are no command line; standard error says so, and nothing was done with `source` and `out`. So it is with 5 where there
-/// was no memory to read the words. The other statuses are those of `framesweep_alone`.
-pub fn framesweep<S: Source, O: Sink, E: Sink>(
+/// `run` makes the calls of each of the deck's threads in a thread of its own, all at once, and writes the report of one order of
+/// all accepted calls, each once and each thread's as it made them, in which every reply and final value is the one-thread
+/// machine's. Which of these orders it is rests on how the threads ran. It waits for all its threads; a thread that can't be
+/// started has its calls made by its caller. Before each evaluation a thread passes the gate.
+///
+/// `make` runs the workload's deck of a number in the same way and writes the summary of the run, which all orders of its calls
+/// share, so also that of one thread after the other. Nothing is done with `source`, whatever the status is.
+///
+/// 1: the words are no command line; standard error says so, and nothing was done with `source` and `out`. So it is with 5
+/// where there was no memory to read the words. The other statuses are those of `framesweep_alone`: where memory is refused in
+/// the middle of a run the status is 5, standard error has its line, and `out` nothing of that run.
+pub fn framesweep<S: Source, O: Sink, E: Sink, G: Gate, R: Threads + Wait + Sync>(
+    rt: &R,
     alloc: Global,
     words: &[Text],
     source: &mut S,
     out: &mut O,
     err: &mut E,
+    gate: &G,
 ) -> u8
     ensures { Obeys words.now
         (record {
@@ -248,7 +316,7 @@ pub fn framesweep<S: Source, O: Sink, E: Sink>(
     match read_words(alloc, words) {
         Ok(command) => {
             versions_are_few();
-            serve(alloc, &command, source, out, err)
+            serve(rt, alloc, &command, source, out, err, gate)
         }
         Err(WordsFault::Refused) => {
             say(err, WORDS_LINE);
