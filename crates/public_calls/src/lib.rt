@@ -5,9 +5,13 @@
 #![tactic(auto)]
 
 #[cfg(test)]
+mod callers;
+#[cfg(test)]
 mod cores;
 #[cfg(test)]
 mod devices;
+#[cfg(test)]
+mod gates;
 #[cfg(test)]
 mod histories;
 #[cfg(test)]
@@ -24,5 +28,7 @@ mod runs;
 mod scripts;
 #[cfg(test)]
 mod serial_runs;
+#[cfg(test)]
+mod thread_runs;
 #[cfg(test)]
 mod workloads;
