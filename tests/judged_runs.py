@@ -19,7 +19,7 @@ MOST_SHOWN = 3
 
 
 class Run(typing.NamedTuple):
-    """A program, a command, and a deck, behind which a command may have more input."""
+    """A program, the words of a command, and a deck, behind which a command may have more input."""
 
     program: str
     command: str
@@ -30,7 +30,7 @@ class Run(typing.NamedTuple):
 
     def words(self):
         limit = [] if self.versions == VERSIONS else ["--versions", str(self.versions)]
-        return [self.command] + limit + (["--json"] if self.as_json else [])
+        return self.command.split() + limit + (["--json"] if self.as_json else [])
 
 
 def output(run):
@@ -57,8 +57,9 @@ def judged(run):
 def judged_all(name, runs):
     """Makes all runs, says what is wrong with the first few that are, and answers for each what it wrote and whether it was
     right."""
-    if not all(os.access(run.program, os.X_OK) for run in runs):
-        sys.exit(f"{name}: the program is not built: run ./framesweep once")
+    for program in {run.program for run in runs}:
+        if not os.access(program, os.X_OK):
+            sys.exit(f"{name}: {program} is not built: run ./framesweep once, or the gate")
     with multiprocessing.Pool(os.cpu_count()) as pool:
         found = pool.map(judged, runs, 4)
     wrong = [(run, complaints) for run, (_, complaints) in zip(runs, found) if complaints]
