@@ -1,4 +1,5 @@
-"""Draws a graph as an SVG: layers by depth from left to right, each node in the shape of its kind, edges as smooth lines.
+"""Draws a graph as an SVG: layers by depth from left to right or downwards, each node in the shape of its kind, edges as smooth
+lines.
 
 An edge that goes over layers has a place in each of them, so it goes between the nodes there and not through them.
 """
@@ -7,6 +8,10 @@ import typing
 from xml.sax.saxutils import escape
 
 GAP, STEP, HALF, LETTER, MARGIN = 70, 58, 20, 7, 16
+# Between places of a row, and between rows.
+BESIDE, BELOW = 18, 34
+# How long the tip of an edge is.
+TIP = 7
 SWEEPS = 24
 STYLE = (
     "text{font:12px monospace;text-anchor:middle;fill:#1a1a1a}.small{font-size:10px;fill:#555}"
@@ -78,19 +83,35 @@ def width(node):
     return max(len(line) for line in node.lines) * LETTER + (40 if node.shape == "hexagon" else 26)
 
 
-def places(layers, nodes):
-    """Where each place is: the middle, and half of the width."""
+def halves(layers, nodes):
+    """Half of the width of each place: none where an edge only passes."""
     known = {node.name: node for node in nodes}
+    return {place: width(known[place]) // 2 if place in known else 0 for layer in layers for place in layer}
+
+
+def places_rightwards(layers, half):
+    """Where each place is, and how wide and high the picture is: a layer is a column."""
     tallest = max((len(layer) for layer in layers), default=1)
     found, left = {}, MARGIN
     for layer in layers:
-        wide = max((width(known[place]) for place in layer if place in known), default=0)
+        wide = 2 * max((half[place] for place in layer), default=0)
         top = MARGIN + HALF + (tallest - len(layer)) * STEP // 2
         for n, place in enumerate(layer):
-            half = width(known[place]) // 2 if place in known else 0
-            found[place] = (left + wide // 2, top + n * STEP, half)
+            found[place] = (left + wide // 2, top + n * STEP, half[place])
         left += wide + GAP
     return found, left - GAP + MARGIN, 2 * MARGIN + 2 * HALF + (tallest - 1) * STEP
+
+
+def places_downwards(layers, half):
+    """The same, where a layer is a row."""
+    wide = [sum(2 * half[place] + BESIDE for place in layer) - BESIDE for layer in layers]
+    widest, found = max(wide, default=0), {}
+    for row, layer in enumerate(layers):
+        left = MARGIN + (widest - wide[row]) // 2
+        for place in layer:
+            found[place] = (left + half[place], MARGIN + HALF + row * (2 * HALF + BELOW), half[place])
+            left += 2 * half[place] + BESIDE
+    return found, widest + 2 * MARGIN, 2 * MARGIN + len(layers) * (2 * HALF + BELOW) - BELOW
 
 
 def outline(shape, x, y, half):
@@ -112,32 +133,44 @@ def drawn_node(node, x, y, half):
     return outline(node.shape, x, y, half) + text + "".join(small)
 
 
-def drawn_edge(way, where, dashed):
-    points = [where[place] for place in way]
-    x, y, half = points[0]
-    x += half
-    path = f"M{x},{y}"
-    for n, (to_x, to_y, to_half) in enumerate(points[1:], 2):
-        end = to_x - (to_half + 7 if n == len(points) else 0)
-        bend = (end - x) // 2
-        path += f"C{x + bend},{y} {end - bend},{to_y} {end},{to_y}"
-        x, y = end, to_y
+def drawn_edge(way, where, dashed, down):
+    """An edge from side to side, or from below to above."""
+
+    def point(along, across):
+        return f"{across},{along}" if down else f"{along},{across}"
+
+    def on(place):
+        """Where a place is along the edge and across it, and how far it reaches along the edge: a row is as high everywhere."""
+        x, y, half = where[place]
+        return (y, x, HALF) if down else (x, y, half)
+
+    along, across, reach = on(way[0])
+    along += reach
+    path = f"M{point(along, across)}"
+    for n, place in enumerate(way[1:], 2):
+        to, over, reach = on(place)
+        end = to - (reach + TIP if n == len(way) else reach)
+        bend = (end - along) // 2
+        path += f"C{point(along + bend, across)} {point(end - bend, over)} {point(end, over)}"
+        if reach and n < len(way):
+            path += f"L{point(to + reach, over)}"
+        along, across = to + reach, over
     style = "edge dashed" if dashed else "edge"
     return f'<path class="{style}" d="{path}" marker-end="url(#tip)"/>'
 
 
-def svg(nodes, edges, title):
+def svg(nodes, edges, title, down=False):
     """The text of the picture. Nodes stand behind those that lead to them."""
     layers, ways = layered(nodes, edges)
     sort_layers(layers, ways)
-    where, wide, high = places(layers, nodes)
+    where, wide, high = (places_downwards if down else places_rightwards)(layers, halves(layers, nodes))
     tip = '<marker id="tip" viewBox="0 0 8 8" refX="1" refY="4" markerWidth="8" markerHeight="8" orient="auto">'
     lines = [
         f'<svg xmlns="http://www.w3.org/2000/svg" width="{wide}" height="{high}" viewBox="0 0 {wide} {high}">',
         f"<title>{escape(title)}</title>",
         f'<defs><style>{STYLE}</style>{tip}<path d="M0,0L8,4L0,8z" fill="#3a4a63"/></marker></defs>',
         f'<rect width="{wide}" height="{high}" fill="#ffffff"/>',
-        *[drawn_edge(way, where, edge.dashed) for edge, way in zip(edges, ways)],
+        *[drawn_edge(way, where, edge.dashed, down) for edge, way in zip(edges, ways)],
         *[drawn_node(node, *where[node.name]) for node in nodes],
         "</svg>",
     ]
