@@ -60,7 +60,13 @@ fn judge(
         crowded: _,
         within,
     } = selectors;
-    Ok(Line::Declares(name, DeclKind::Choose(Items::from_vec(within), over)))
+    Ok(Line::Declares(
+        name,
+        DeclKind::Choose {
+            selectors: Items::from_vec(within),
+            body: over,
+        },
+    ))
 }
 
 // The one selector of a choose without a body.

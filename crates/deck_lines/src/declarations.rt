@@ -30,7 +30,7 @@ pub fn source(text: &[u8], name: Name, pieces: &[Piece]) -> Result<Line, LineFau
     ensures kept { IfOk result IsKept }
 {
     match value(text, pieces) {
-        Some(start) => Ok(Line::Declares(name, DeclKind::Source(start))),
+        Some(start) => Ok(Line::Declares(name, DeclKind::Source { start })),
         None => Err(LineFault::Syntax),
     }
 }
@@ -43,7 +43,7 @@ pub fn signal(alloc: Global, text: &[u8], name: Name, pieces: &[Piece]) -> Resul
     ensures kept { IfOk result IsKept }
 {
     match script(alloc, text, pieces, false) {
-        Ok(script) => Ok(Line::Declares(name, DeclKind::Signal(script))),
+        Ok(script) => Ok(Line::Declares(name, DeclKind::Signal { script })),
         Err(fault) => Err(fault),
     }
 }
@@ -63,7 +63,7 @@ fn fold_from(
     ensures kept { IfOk result IsKept }
 {
     match script(alloc, text, pieces, true) {
-        Ok(script) => Ok(Line::Declares(name, DeclKind::Fold(start, script))),
+        Ok(script) => Ok(Line::Declares(name, DeclKind::Fold { start, script })),
         Err(fault) => Err(fault),
     }
 }

@@ -18,7 +18,9 @@ fn source(draws: &mut Draws) -> DeclKind
     ensures kind { result ≡ source (draw draws.old 1 100) }
     ensures state { draws.new ≡ skip 1 draws.old }
 {
-    DeclKind::Source(Value::Int(draws.draw(100) as i64))
+    DeclKind::Source {
+        start: Value::Int(draws.draw(100) as i64),
+    }
 }
 
 fn fold_over(alloc: Global, first: u32, other: u32) -> Result<DeclKind, OutOfMemory>
@@ -26,7 +28,10 @@ fn fold_over(alloc: Global, first: u32, other: u32) -> Result<DeclKind, OutOfMem
     requires other { other < 216 }
     ensures { IfOk result (λ kind. kind ≡ fold first other) }
 {
-    Ok(DeclKind::Fold(Value::Int(0), fold_script(alloc, first, other)?))
+    Ok(DeclKind::Fold {
+        start: Value::Int(0),
+        script: fold_script(alloc, first, other)?,
+    })
 }
 
 // A fold over two sources of a thread.
@@ -46,7 +51,9 @@ fn signal_over(alloc: Global, first: u32, other: u32, rule: u32) -> Result<DeclK
     requires other { other < 216 }
     ensures { IfOk result (λ kind. kind ≡ signal first other rule) }
 {
-    Ok(DeclKind::Signal(signal_script(alloc, first, other, rule)?))
+    Ok(DeclKind::Signal {
+        script: signal_script(alloc, first, other, rule)?,
+    })
 }
 
 // A signal over two of so many nodes.
@@ -104,7 +111,10 @@ fn choose_by(alloc: Global, node: u32, candidates: NameList) -> Result<DeclKind,
 {
     let mut parts = SelectList::new(alloc);
     parts.push((choice_script(alloc, node)?, candidates))?;
-    Ok(DeclKind::Choose(parts, None))
+    Ok(DeclKind::Choose {
+        selectors: parts,
+        body: None,
+    })
 }
 
 // A choose over five of so many nodes.

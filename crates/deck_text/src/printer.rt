@@ -313,12 +313,14 @@ fn push_declaration(
     ensures { OnOk result (text.new ≡ with_declaration graph.now text.old name.now node.now) }
 {
     match node {
-        Node::Source(start) => push_source(text, name, *start),
-        Node::Signal(script, _) => push_signal(alloc, text, name, script),
-        Node::Fold(start, script, _) => push_fold(alloc, text, name, *start, script),
-        Node::Choose(selectors, body, _) => {
-            push_choose(alloc, text, graph, name, selectors.as_slice(), body)
-        }
+        Node::Source { start } => push_source(text, name, *start),
+        Node::Signal { script, .. } => push_signal(alloc, text, name, script),
+        Node::Fold { start, script, .. } => push_fold(alloc, text, name, *start, script),
+        Node::Choose {
+            selectors,
+            body,
+            ..
+        } => { push_choose(alloc, text, graph, name, selectors.as_slice(), body) }
     }
 }
 

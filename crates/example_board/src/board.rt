@@ -33,12 +33,15 @@ fn add(board: &mut GraphBuilder, name: &str, kind: DeclKind) -> Result<()>
 /// input of its script, so one that counts has to name what it counts.
 pub fn two_rooms(alloc: Global) -> Result<Graph> {
     let mut board = GraphBuilder::new(alloc);
-    let mean = parse_script(alloc, "(hall + lab) / 2", false)?;
-    let count = parse_script(alloc, "acc + 1 + 0 * (hall + lab)", true)?;
-    add(&mut board, "hall", DeclKind::Source(Value::Int(19)))?;
-    add(&mut board, "lab", DeclKind::Source(Value::Int(23)))?;
-    add(&mut board, "mean", DeclKind::Signal(mean))?;
-    add(&mut board, "changes", DeclKind::Fold(Value::Int(0), count))?;
+    let start = Value::Int(19);
+    add(&mut board, "hall", DeclKind::Source { start })?;
+    let start = Value::Int(23);
+    add(&mut board, "lab", DeclKind::Source { start })?;
+    let script = parse_script(alloc, "(hall + lab) / 2", false)?;
+    add(&mut board, "mean", DeclKind::Signal { script })?;
+    let start = Value::Int(0);
+    let script = parse_script(alloc, "acc + 1 + 0 * (hall + lab)", true)?;
+    add(&mut board, "changes", DeclKind::Fold { start, script })?;
     Ok(board.build()?)
 }
 

@@ -207,17 +207,17 @@ fn evaluated(node: &Node, gathered: &[(u32, Value)], acc: Value) -> Outcome
     ensures { result ≡ outcome_in (finds node.now (read_from gathered.now) acc) }
 {
     match node {
-        Node::Source(start) => Outcome::Value(*start),
-        Node::Signal(script, inputs) => Outcome::Value(run(
+        Node::Source { start } => Outcome::Value(*start),
+        Node::Signal { script, inputs } => Outcome::Value(run(
             script,
             inputs.as_slice(),
             gathered,
             Value::Fault(Fault::Kind),
         )),
-        Node::Fold(_, script, inputs) => {
+        Node::Fold { script, inputs, .. } => {
             Outcome::Value(run(script, inputs.as_slice(), gathered, acc))
         }
-        Node::Choose(selectors, _, _) => {
+        Node::Choose { selectors, .. } => {
             Outcome::Found(select_all(selectors.as_slice(), gathered))
         }
     }

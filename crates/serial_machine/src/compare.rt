@@ -52,7 +52,7 @@ pub fn is_evaluated(node: &Node, picks: &Picks, before: &[Value], now: &[Value])
     requires { picks.now ≡ picks_of node.now before.now }
     ensures { result ≡ is_evaluated before.now now.now node.now }
 {
-    if let Node::Source(_) = node {
+    if let Node::Source { .. } = node {
         return false;
     }
     if any_differs(before, now, node.inputs()) {

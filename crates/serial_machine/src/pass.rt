@@ -46,12 +46,12 @@ fn step(node: &Node, old: Value, earlier: &[Value]) -> Evaluated
     ensures picks { result.picks ≡ picks_of node.now earlier.now }
 {
     match node {
-        Node::Fold(_, script, inputs) => {
+        Node::Fold { script, inputs, .. } => {
             Evaluated::without_picks(run(script, inputs.as_slice(), earlier, old))
         }
-        Node::Source(_) => node.evaluate(old, earlier),
-        Node::Signal(_, _) => node.evaluate(old, earlier),
-        Node::Choose(_, _, _) => node.evaluate(old, earlier),
+        Node::Source { .. } => node.evaluate(old, earlier),
+        Node::Signal { .. } => node.evaluate(old, earlier),
+        Node::Choose { .. } => node.evaluate(old, earlier),
     }
 }
 
@@ -76,7 +76,7 @@ fn renew(
 {
     let node = graph.node(number);
     let place = number as usize;
-    if let Node::Source(_) = node {
+    if let Node::Source { .. } = node {
         return false;
     }
     let earlier = &now[..place];

@@ -26,13 +26,23 @@ pub type SelectList = Items<(Script, NameList)>;
 #[derive(Debug, Drop)]
 pub enum DeclKind {
     /// A source with its start value.
-    Source(Value),
+    Source {
+        start: Value,
+    },
     /// A signal with its script.
-    Signal(Script),
+    Signal {
+        script: Script,
+    },
     /// A fold with its start value and its script.
-    Fold(Value, Script),
+    Fold {
+        start: Value,
+        script: Script,
+    },
     /// A choose with its selectors and perhaps a body over their picks.
-    Choose(SelectList, Option<Script>),
+    Choose {
+        selectors: SelectList,
+        body: Option<Script>,
+    },
 }
 
 /// Why a declaration was refused.
@@ -75,11 +85,11 @@ fn scripts_are_kept(kind: &DeclKind)
     ensures { AreKept kind.now }
 {
     match kind {
-        DeclKind::Source(_) => {}
-        DeclKind::Signal(script) => script.well_formed(),
-        DeclKind::Fold(_, script) => script.well_formed(),
-        DeclKind::Choose(parts, body) => {
-            parts_are_kept(parts.as_slice());
+        DeclKind::Source { .. } => {}
+        DeclKind::Signal { script } => script.well_formed(),
+        DeclKind::Fold { script, .. } => script.well_formed(),
+        DeclKind::Choose { selectors, body } => {
+            parts_are_kept(selectors.as_slice());
             body_is_kept(body);
         }
     }

@@ -167,8 +167,8 @@ impl Node {
         ensures { result ≡ start_value self.now }
     {
         match self {
-            Node::Source(start) => *start,
-            Node::Fold(start, _, _) => *start,
+            Node::Source { start } => *start,
+            Node::Fold { start, .. } => *start,
             _ => Value::Fault(Fault::Kind),
         }
     }
@@ -181,9 +181,9 @@ impl Node {
         ensures picks { result.picks ≡ picks_of self.now earlier.now }
     {
         match self {
-            Node::Source(_) => Evaluated::without_picks(kept),
-            Node::Fold(_, _, _) => Evaluated::without_picks(kept),
-            Node::Signal(script, inputs) => {
+            Node::Source { .. } => Evaluated::without_picks(kept),
+            Node::Fold { .. } => Evaluated::without_picks(kept),
+            Node::Signal { script, inputs } => {
                 let value = run(
                     script,
                     inputs.as_slice(),
@@ -192,7 +192,11 @@ impl Node {
                 );
                 Evaluated::without_picks(value)
             }
-            Node::Choose(selectors, body, _) => choose(selectors.as_slice(), body, earlier),
+            Node::Choose {
+                selectors,
+                body,
+                ..
+            } => choose(selectors.as_slice(), body, earlier),
         }
     }
 
@@ -203,7 +207,11 @@ impl Node {
         ensures { result ≡ picks_of self.now values.now }
     {
         match self {
-            Node::Choose(selectors, body, _) => choose(selectors.as_slice(), body, values).picks,
+            Node::Choose {
+                selectors,
+                body,
+                ..
+            } => choose(selectors.as_slice(), body, values).picks,
             _ => Picks::new(),
         }
     }

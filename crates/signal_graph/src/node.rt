@@ -30,15 +30,27 @@ pub struct Selector {
 /// script's names.
 #[derive(Debug, Drop)]
 pub enum Node {
-    /// Its start value.
-    Source(Value),
-    /// Its script and the script's inputs.
-    Signal(Script, Items<u32>),
-    /// Its start value, its script and the script's inputs.
-    Fold(Value, Script, Items<u32>),
-    /// Its selectors, perhaps a body over their picks, and the different inputs of all selectors in the order of first
-    /// appearance.
-    Choose(Items<Selector>, Option<Script>, Items<u32>),
+    /// It is set, and has its start value until then.
+    Source {
+        start: Value,
+    },
+    /// A script over its inputs.
+    Signal {
+        script: Script,
+        inputs: Items<u32>,
+    },
+    /// A script over its inputs and the node's own value before, at first its start value.
+    Fold {
+        start: Value,
+        script: Script,
+        inputs: Items<u32>,
+    },
+    /// Selectors, perhaps a body over their picks, and the different inputs of all selectors in the order of first appearance.
+    Choose {
+        selectors: Items<Selector>,
+        body: Option<Script>,
+        inputs: Items<u32>,
+    },
 }
 
 impl Node {
@@ -47,10 +59,10 @@ impl Node {
         ensures { result ≡ kind_of self.now }
     {
         match self {
-            Node::Source(_) => NodeKind::Source,
-            Node::Signal(_, _) => NodeKind::Signal,
-            Node::Fold(_, _, _) => NodeKind::Fold,
-            Node::Choose(_, _, _) => NodeKind::Choose,
+            Node::Source { .. } => NodeKind::Source,
+            Node::Signal { .. } => NodeKind::Signal,
+            Node::Fold { .. } => NodeKind::Fold,
+            Node::Choose { .. } => NodeKind::Choose,
         }
     }
 
@@ -59,10 +71,10 @@ impl Node {
         ensures { option_copied result ≡ script_of self.now }
     {
         match self {
-            Node::Source(_) => None,
-            Node::Signal(script, _) => Some(script),
-            Node::Fold(_, script, _) => Some(script),
-            Node::Choose(selectors, _, _) => first_script(selectors.as_slice()),
+            Node::Source { .. } => None,
+            Node::Signal { script, .. } => Some(script),
+            Node::Fold { script, .. } => Some(script),
+            Node::Choose { selectors, .. } => first_script(selectors.as_slice()),
         }
     }
 
@@ -71,10 +83,10 @@ impl Node {
         ensures { result.now ≡ inputs_of self.now }
     {
         match self {
-            Node::Source(_) => &[],
-            Node::Signal(_, inputs) => inputs.as_slice(),
-            Node::Fold(_, _, inputs) => inputs.as_slice(),
-            Node::Choose(_, _, inputs) => inputs.as_slice(),
+            Node::Source { .. } => &[],
+            Node::Signal { inputs, .. } => inputs.as_slice(),
+            Node::Fold { inputs, .. } => inputs.as_slice(),
+            Node::Choose { inputs, .. } => inputs.as_slice(),
         }
     }
 
@@ -83,7 +95,7 @@ impl Node {
         ensures { result.now ≡ selectors_of self.now }
     {
         match self {
-            Node::Choose(selectors, _, _) => selectors.as_slice(),
+            Node::Choose { selectors, .. } => selectors.as_slice(),
             _ => &[],
         }
     }
@@ -93,7 +105,7 @@ impl Node {
         ensures { option_copied result ≡ body_of self.now }
     {
         match self {
-            Node::Choose(_, body, _) => body.as_ref(),
+            Node::Choose { body, .. } => body.as_ref(),
             _ => None,
         }
     }

@@ -51,10 +51,10 @@ pub(crate) fn first_undeclared(table: &NameTable, kind: &DeclKind) -> Option<Nam
     ensures { result ≡ find (is_undeclared table.now) (names_of kind.now) }
 {
     match kind {
-        DeclKind::Source(_) => None,
-        DeclKind::Signal(script) => first_undeclared_of(table, script.inputs()),
-        DeclKind::Fold(_, script) => first_undeclared_of(table, script.inputs()),
-        DeclKind::Choose(parts, _) => first_undeclared_of_parts(table, parts),
+        DeclKind::Source { .. } => None,
+        DeclKind::Signal { script } => first_undeclared_of(table, script.inputs()),
+        DeclKind::Fold { script, .. } => first_undeclared_of(table, script.inputs()),
+        DeclKind::Choose { selectors, .. } => first_undeclared_of_parts(table, selectors),
     }
 }
 
@@ -133,20 +133,31 @@ pub(crate) fn resolve(alloc: Global, table: &NameTable, kind: DeclKind) -> Resul
     ensures { IfOk result (λ node. node ≡ node_of table.now kind) }
 {
     match kind {
-        DeclKind::Source(start) => Ok(Node::Source(start)),
-        DeclKind::Signal(script) => {
+        DeclKind::Source { start } => Ok(Node::Source { start }),
+        DeclKind::Signal { script } => {
             let inputs = numbers(alloc, table, script.inputs())?;
-            Ok(Node::Signal(script, inputs))
+            Ok(Node::Signal { script, inputs })
         }
-        DeclKind::Fold(start, script) => {
+        DeclKind::Fold { start, script } => {
             let inputs = numbers(alloc, table, script.inputs())?;
-            Ok(Node::Fold(start, script, inputs))
+            Ok(Node::Fold {
+                start,
+                script,
+                inputs,
+            })
         }
-        DeclKind::Choose(parts, body) => {
-            let selectors = selectors(alloc, table, parts)?;
+        DeclKind::Choose {
+            selectors: declared,
+            body,
+        } => {
+            let selectors = selectors(alloc, table, declared)?;
             let all = inputs_of_all(alloc, selectors.as_slice())?;
             let inputs = different(alloc, all.as_slice())?;
-            Ok(Node::Choose(selectors, body, inputs))
+            Ok(Node::Choose {
+                selectors,
+                body,
+                inputs,
+            })
         }
     }
 }

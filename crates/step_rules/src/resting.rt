@@ -37,7 +37,7 @@ pub(crate) fn is_touched(book: &Book, graph: &Graph, version: u32, node: u32, pi
     requires inside { AreBelow (node_count book.now) (rests_on graph.now node picks.now) }
     ensures { result ≡ is_touched graph.now book.now version node picks.now }
 {
-    if let Node::Source(_) = graph.node(node) {
+    if let Node::Source { .. } = graph.node(node) {
         return false;
     }
     if book.any_changed(version, graph.inputs(node)) {

@@ -19,7 +19,7 @@ pub(crate) fn is_source(graph: &Graph, node: u32) -> bool
     ensures { result ≡ is_source (node_at graph.now node) }
 {
     match graph.node(node) {
-        Node::Source(_) => true,
+        Node::Source { .. } => true,
         _ => false,
     }
 }

@@ -37,7 +37,7 @@ fn new_value(book: &Book, graph: &Graph, version: u32, node: u32) -> Value
     requires known { node < length graph.now.nodes }
     ensures { result ≡ new_value graph.now book.now version node }
 {
-    if let Node::Source(_) = graph.node(node) {
+    if let Node::Source { .. } = graph.node(node) {
         return book.set_value(version, node);
     }
     match graph.body(node) {

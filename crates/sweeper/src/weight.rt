@@ -30,10 +30,14 @@ pub(crate) fn heavy_nodes(alloc: Global, graph: &Graph) -> Result<NodeSet, OutOf
 // How many operators, numbers and names the scripts of a node have.
 fn weight(node: &Node) -> u64 {
     match node {
-        Node::Source(_) => 0,
-        Node::Signal(script, _) => size(script.tree()),
-        Node::Fold(_, script, _) => size(script.tree()),
-        Node::Choose(selectors, body, _) => {
+        Node::Source { .. } => 0,
+        Node::Signal { script, .. } => size(script.tree()),
+        Node::Fold { script, .. } => size(script.tree()),
+        Node::Choose {
+            selectors,
+            body,
+            ..
+        } => {
             let mut sum = match body {
                 Some(body) => size(body.tree()),
                 None => 0,
