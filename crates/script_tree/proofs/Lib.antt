@@ -1,1 +1,6 @@
+pub mod Truths
+pub mod Numbers
+pub mod Lists
+pub mod Texts
+pub mod BitLemmas
 pub mod NameText

@@ -4,3 +4,4 @@ pub mod Eval
 pub mod Names
 pub mod Scripts
 pub mod Printed
+pub mod Bits

@@ -1,5 +1,5 @@
--- What a name is.
-use Rattle.std.specs.Prelude.{ℕ, Bool, false, ◌&&◌, ◌||◌, not, nat_le, ◌==◌, List, [], ◌∷◌, length, codes}
+-- What a name is, and where it stands among others.
+use Rattle.std.specs.Prelude.{ℕ, Bool, false, ◌&&◌, ◌||◌, not, nat_le, ◌==◌, ◌+◌, if◌then◌else◌, List, [], ◌∷◌, length, codes}
 use Rattle.std.specs.List.{list_all, list_any}
 use Rattle.std.specs.Str.{bytes_eq}
 use Rattle.script_tree.specs.declared.limits.TheConstants.{NAME_BYTES}
@@ -31,3 +31,8 @@ starts_well (b ∷ bs) = not (is_ascii_digit b)
 -- a word of 1 to 32 bytes that begins with a letter or `_` and isn't reserved
 abbrev pub is_name : List ℕ → Bool
 is_name text = starts_well text && (list_all is_word text && (nat_le (length text) NAME_BYTES && not (is_reserved text)))
+
+-- the place of the first name that is this one, or the number of names
+abbrev pub place_in : List (List ℕ) → List ℕ → ℕ
+place_in [] name = 0
+place_in (other ∷ names) name = if bytes_eq other name then 0 else place_in names name + 1
