@@ -4,30 +4,22 @@ use Rattle.std.specs.Prelude.{◌==◌, Bool, true, false, pos, codes, All, leng
 use Rattle.std.proofs.lemmas.Bool.Decides.{nat_tests}
 use Rattle.std.specs.List.Sorted.{IsStrictlyIncreasing}
 use Rattle.script_tree.specs.declared.expr.Binary.TheVariants.{Add}
-use Rattle.script_tree.specs.declared.value.Value.{Value}
-use Rattle.script_tree.specs.declared.value.Value.TheVariants.{Int}
 use Rattle.script_tree.specs.Tree.{Number, Input, Join}
 use Rattle.signal_graph.specs.declared.node.Node.TheVariants.{Source, Signal}
 use Rattle.signal_graph.specs.declared.call.Call.{Call}
 use Rattle.signal_graph.specs.declared.call.Call.TheVariants.{Fire, Read}
-use Rattle.signal_graph.specs.declared.call.Reply.{Reply}
 use Rattle.signal_graph.specs.declared.call.Reply.TheVariants.{Fire as Fired, Read as Seen}
 use Rattle.signal_graph.specs.declared.log.Logged.{Logged}
 use Rattle.signal_graph.specs.declared.log.Why.{Why}
 use Rattle.signal_graph.specs.declared.log.Why.TheVariants.{UnknownName, VersionsUsedUp}
 use Rattle.signal_graph.specs.declared.log.Refused.{Refused}
 use Rattle.signal_graph.specs.Graph.{Graph}
+use Rattle.signal_graph.proofs.Rows.{num, entry}
 use Rattle.call_log.specs.Made.{entries_of, calls_in, versions_in, well_named, script_of, IsPrefix}
 use Rattle.call_log.specs.LeftOut.{left_out}
 use Rattle.call_log.specs.Merge.{IsOfCaller, Merge}
 
-abbrev num : ℕ → Value
-num n = Int (pos n)
-
-abbrev entry : ℕ → ℕ → Call → Reply → Logged
-entry caller version call reply = record { caller = caller; version = version; call = call; reply = reply }
-
-abbrev refused : ℕ → ℕ → Why → Refused
+abbrev pub refused : ℕ → ℕ → Why → Refused
 refused caller number why = record { caller = caller; number = number; why = why }
 
 -- a source and a signal

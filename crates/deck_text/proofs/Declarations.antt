@@ -6,6 +6,7 @@ use Rattle.std.proofs.lemmas.Bool.Decides.{nat_tests}
 use Rattle.std.proofs.lemmas.List.{get_or_append_left, map_push}
 use Rattle.std.proofs.lemmas.List.Elements.{All-head, All-tail, All-push, All-weaker, All-map}
 use Rattle.script_tree.specs.declared.limits.TheConstants.{NODES}
+use Rattle.script_tree.specs.Names.{place_in}
 use Rattle.signal_graph.specs.declared.builder.DeclKind.{DeclKind}
 use Rattle.signal_graph.specs.declared.builder.DeclKind.TheVariants as kind
 use Rattle.signal_graph.specs.declared.builder.GraphFault.TheVariants as fault
@@ -13,7 +14,7 @@ use Rattle.signal_graph.specs.declared.node.Node.{Node}
 use Rattle.signal_graph.specs.declared.node.Node.TheVariants as node
 use Rattle.signal_graph.specs.declared.node.Selector.{Selector}
 use Rattle.signal_graph.specs.Declarations.{Part, is_undeclared, names_of, names_of_part, names_of_parts, node_of, refusal, selector_of, unknown_input, with_declaration}
-use Rattle.signal_graph.specs.Graph.{Graph, name_at, place_in}
+use Rattle.signal_graph.specs.Graph.{Graph, name_at}
 use Rattle.signal_graph.specs.Tables.{is_declared}
 use Rattle.signal_graph.proofs.GraphNames.{name_at_place, place_within}
 use Rattle.deck_lines.specs.declared.line.Line.{Line}

@@ -11,9 +11,10 @@ use Rattle.signal_graph.specs.declared.builder.DeclKind.{DeclKind}
 use Rattle.signal_graph.specs.declared.builder.DeclKind.TheVariants as kinds
 use Rattle.signal_graph.specs.declared.builder.GraphFault.TheVariants.{DoubleName, TooManyNodes}
 use Rattle.script_tree.specs.declared.limits.TheConstants.{NODES}
+use Rattle.script_tree.specs.Names.{place_in}
 use Rattle.signal_graph.specs.Declarations.{Part, IsDeclaration, names_of, names_of_parts, names_of_part, is_undeclared, unknown_input, refusal, selector_of, choose_of, node_of}
 use Rattle.signal_graph.specs.Tables.{is_declared}
-use Rattle.signal_graph.specs.Graph.{place_in, IsSelector, IsNode, AreNodes, are_different}
+use Rattle.signal_graph.specs.Graph.{IsSelector, IsNode, AreNodes, are_different}
 use Rattle.separate_decks.specs.Workload.{all_names, all_kinds, named, declared, AreAccepted, no_nodes, workload_declarations, workload_graph}
 use Rattle.separate_decks.proofs.Naming.{length-all_names, all_different}
 use Rattle.separate_decks.proofs.Declaring.{Each, Fits, nodes_fit, are_nodes, made_graph, length-all_kinds}

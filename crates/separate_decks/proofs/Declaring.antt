@@ -10,13 +10,14 @@ use Rattle.script_tree.specs.declared.value.Value.TheVariants.{Int, Fault as Fau
 use Rattle.script_tree.specs.declared.expr.Binary.TheVariants.{Add, Subtract}
 use Rattle.script_tree.specs.Tree.{Input, Acc, Join}
 use Rattle.script_tree.specs.Scripts.{all_leaves, pick_below, is_not_acc}
+use Rattle.script_tree.specs.Names.{place_in}
 use Rattle.signal_graph.specs.declared.node.NodeKind.TheVariants as kind
 use Rattle.signal_graph.specs.declared.node.Node.{Node}
 use Rattle.signal_graph.specs.declared.node.Node.TheVariants.{Source, Signal, Fold, Choose}
 use Rattle.signal_graph.specs.declared.builder.DeclKind.{DeclKind}
 use Rattle.signal_graph.specs.declared.builder.DeclKind.TheVariants as kinds
 use Rattle.signal_graph.specs.Declarations.{IsDeclaration, choose_of, node_of}
-use Rattle.signal_graph.specs.Graph.{Graph, place_in, node_at, kind_of, is_source, is_in, inputs_of, IsNode, AreNodes, IsGraph}
+use Rattle.signal_graph.specs.Graph.{Graph, node_at, kind_of, is_source, is_in, inputs_of, IsNode, AreNodes, IsGraph}
 use Rattle.separate_decks.specs.Separate.{FoldsOver}
 use Rattle.separate_decks.specs.Draws.{skip, draw}
 use Rattle.separate_decks.specs.Workload.{all_names, name_of, two, second, over, fold, signal_tree, signal, choice_tree, choose, sources, folds, signals, rows, all_kinds}

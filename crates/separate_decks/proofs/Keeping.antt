@@ -7,10 +7,9 @@ use Rattle.std.specs.Str.{bytes_eq}
 use Rattle.std.proofs.lemmas.Slice.Eq.{bytes_eq-Decides}
 use Rattle.std.proofs.lemmas.Bool.Decides.{eqb_tells}
 use Rattle.script_tree.specs.declared.expr.Binary.TheVariants.{Add, Subtract}
-use Rattle.script_tree.specs.Names.{is_name}
+use Rattle.script_tree.specs.Names.{is_name, place_in}
 use Rattle.script_tree.specs.Tree.{Input, Acc, Join}
 use Rattle.script_tree.specs.Scripts.{WellFormed, different_names}
-use Rattle.signal_graph.specs.Graph.{place_in}
 use Rattle.separate_decks.specs.Workload.{all_names, name_of, two, second, signal_tree, choice_tree}
 use Rattle.separate_decks.proofs.Naming.{length-all_names, place_of_name, other_text, both}
 

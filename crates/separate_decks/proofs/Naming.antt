@@ -5,7 +5,8 @@ use Rattle.std.specs.List.{list_any}
 use Rattle.std.specs.Str.{bytes_eq}
 use Rattle.std.proofs.lemmas.Slice.Eq.{bytes_eq-Decides}
 use Rattle.std.proofs.lemmas.Fmt.{decimal_injective}
-use Rattle.signal_graph.specs.Graph.{place_in, are_different}
+use Rattle.script_tree.specs.Names.{place_in}
+use Rattle.signal_graph.specs.Graph.{are_different}
 use Rattle.separate_decks.specs.Workload.{row_of_names, names_of_rows, all_names, name_of}
 
 decide : (b : Bool) → (b ≡ true → ⊥) → b ≡ false

@@ -17,7 +17,7 @@ use Rattle.signal_graph.specs.Machine.{same, same_fault, differs}
 use Rattle.signal_graph.specs.OnePass.{new_value}
 use Rattle.signal_graph.proofs.GraphNodes.{node_is}
 use Rattle.signal_graph.proofs.Values.{values_are}
-use Rattle.signal_graph.proofs.OnePassLaws.{skips_node, same_picks, front}
+use Rattle.signal_graph.proofs.OnePassLaws.{skips_node, same_picks}
 use Rattle.serial_machine.specs.Between.{is_evaluated}
 use Rattle.serial_machine.proofs.OnePass.{fold_value}
 

@@ -8,12 +8,13 @@ use Rattle.std.proofs.lemmas.List.Elements.{recursion_from_All}
 use Rattle.std.proofs.lemmas.List.Folds.{list_any-append}
 use Rattle.std.proofs.lemmas.Bool.Decides.{eqb_tells, nat_tests}
 use Rattle.script_tree.specs.declared.limits.TheConstants.{NODES}
+use Rattle.script_tree.specs.Names.{place_in}
 use Rattle.signal_graph.specs.declared.node.Selector.{Selector}
 use Rattle.signal_graph.specs.declared.node.Node.{Node}
 use Rattle.signal_graph.specs.declared.node.Node.TheVariants as node
 use Rattle.signal_graph.specs.declared.builder.DeclKind.{DeclKind}
 use Rattle.signal_graph.specs.declared.builder.DeclKind.TheVariants.{Source, Signal, Fold, Choose}
-use Rattle.signal_graph.specs.Graph.{Graph, IsGraph, IsNode, AreNodes, IsSelector, Kept, are_different, place_in, is_in, different_from, inputs_of_all}
+use Rattle.signal_graph.specs.Graph.{Graph, IsGraph, IsNode, AreNodes, IsSelector, Kept, are_different, is_in, different_from, inputs_of_all}
 use Rattle.signal_graph.proofs.GraphNames.{name_at_place}
 use Rattle.signal_graph.specs.Tables.{is_declared}
 use Rattle.signal_graph.specs.Declarations.{Part, IsPart, IsDeclaration, AreKept, names_of, names_of_parts, script_names, different_names_from, selector_of, node_of, is_undeclared, unknown_input, refusal, with_declaration}

@@ -9,8 +9,8 @@ use Rattle.std.specs.Map.{lookup, IsKeyTest, AreApart, KeepsOthers}
 use Rattle.std.specs.Global.{Vec}
 use Rattle.std.proofs.lemmas.Map.Text.{is_eq-slice_cmp}
 use Rattle.script_tree.specs.declared.limits.TheConstants.{NODES}
+use Rattle.script_tree.specs.Names.{place_in}
 use Rattle.std.proofs.lemmas.Bool.Decides.{nat_tests}
-use Rattle.signal_graph.specs.Graph.{place_in}
 use Rattle.signal_graph.specs.Tables.{found_from, is_declared, IsTable}
 
 apart : (bs cs ks : List ℕ) → bytes_eq bs cs ≡ false → bytes_eq bs ks ≡ true → bytes_eq cs ks ≡ false

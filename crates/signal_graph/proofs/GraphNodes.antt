@@ -1,5 +1,5 @@
 -- What a graph keeps, node by node.
-use Rattle.std.proofs.Common.{◌≡◌, ℕ, zero, suc, ◌+◌, ◌<◌, ◌≤◌, if◌then◌else◌, true, false, List, [], ◌∷◌, ◌++◌, length, get_or, sym, ap, subst, ◌∙◌, arith, add-zero, zero-add}
+use Rattle.std.proofs.Common.{◌≡◌, ℕ, zero, suc, ◌+◌, ◌<◌, ◌≤◌, if◌then◌else◌, true, false, List, [], ◌∷◌, length, get_or, sym, ap, subst, ◌∙◌, arith, add-zero, zero-add}
 use Rattle.std.specs.List.{All, AllByRecursion}
 use Rattle.std.proofs.lemmas.List.{length-map}
 use Rattle.std.proofs.lemmas.List.Elements.{All-from_recursion}
@@ -7,16 +7,13 @@ use Rattle.script_tree.specs.declared.value.Value.TheVariants.{Fault as Faulty}
 use Rattle.script_tree.specs.declared.value.Fault.TheVariants.{Kind}
 use Rattle.script_tree.specs.declared.limits.TheConstants.{SELECTORS}
 use Rattle.script_tree.specs.Scripts.{Scripted, HasNoPicks}
+use Rattle.script_tree.proofs.Lists.{all_append}
 use Rattle.signal_graph.specs.declared.node.Selector.{Selector}
 use Rattle.signal_graph.specs.declared.node.Node.{Node}
 use Rattle.signal_graph.specs.declared.node.Node.TheVariants.{Source, Signal, Fold, Choose}
-use Rattle.signal_graph.specs.Graph.{IsNode, AreNodes, IsSelector, Resolves, is_in, inputs_of, selectors_of, inputs_of_all, different_from}
+use Rattle.signal_graph.specs.Graph.{IsNode, AreNodes, IsSelector, Resolves, is_in, inputs_of, selectors_of, inputs_of_all, different_from, Graph, IsGraph, node_at}
 use Rattle.signal_graph.specs.Evaluation.{CanRun, CanSelect, CanEvaluate}
 use Rattle.signal_graph.specs.Kept.{NamesEarlier}
-
-pub all-append : {X : Type 0} (P : X → Type 0) (xs ys : List X) → AllByRecursion P xs → AllByRecursion P ys → AllByRecursion P (xs ++ ys)
-all-append P [] ys a b = b
-all-append P (x ∷ xs) ys a b = (a.0, all-append P xs ys a.1 b)
 
 pub all-different : (P : ℕ → Type 0) (seen ns : List ℕ) → AllByRecursion P ns → AllByRecursion P (different_from seen ns)
 all-different P seen [] a = tt
@@ -25,11 +22,11 @@ all-different P seen (n ∷ ns) a =
     [ true ↦ all-different P seen ns a.1 | false ↦ (a.0, all-different P (n ∷ seen) ns a.1) ]
 
 -- the inputs of the selectors of a choose are earlier nodes
-earlier_in_selectors : (names : List (List ℕ)) (n : ℕ) (selectors : List Selector)
+pub earlier_in_selectors : (names : List (List ℕ)) (n : ℕ) (selectors : List Selector)
     → AllByRecursion (IsSelector names n) selectors → AllByRecursion (λ m. m < n) (inputs_of_all selectors)
 earlier_in_selectors names n [] h = tt
 earlier_in_selectors names n (selector ∷ rest) h =
-    all-append (λ m. m < n) selector.inputs (inputs_of_all rest) h.0.inputs_earlier (earlier_in_selectors names n rest h.1)
+    all_append (λ m. m < n) selector.inputs (inputs_of_all rest) h.0.inputs_earlier (earlier_in_selectors names n rest h.1)
 
 -- the inputs of a node are earlier nodes
 pub earlier_inputs : (names : List (List ℕ)) (n : ℕ) (node : Node) → IsNode names n node → AllByRecursion (λ m. m < n) (inputs_of node)
@@ -64,6 +61,9 @@ node_is names k (node ∷ rest) zero d h below = rw add-zero h.0
 node_is names k (node ∷ rest) (suc i) d h below =
     let further : (k + 1) + i ≡ k + suc i = omega arith in
     subst (λ n. IsNode names n (get_or rest i d)) further (node_is names (k + 1) rest i d h.1 (omega arith))
+
+pub is_node_at : (graph : Graph) → IsGraph graph → (n : ℕ) → n < length graph.nodes → IsNode graph.names n (node_at graph n)
+is_node_at graph is_graph n within = subst (λ k. IsNode graph.names k (node_at graph n)) (zero-add n) (node_is graph.names 0 graph.nodes n (Source (Faulty Kind)) is_graph.nodes within)
 
 pub names_earlier : (names : List (List ℕ)) (nodes : List Node) → AreNodes names 0 nodes → NamesEarlier nodes
 names_earlier names nodes h = λ n below.

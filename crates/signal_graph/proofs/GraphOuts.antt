@@ -7,6 +7,7 @@ use Rattle.std.proofs.lemmas.List.Folds.{list_any-append}
 use Rattle.std.proofs.Math.Seq.{get_or-append_seam}
 use Rattle.script_tree.specs.declared.value.Value.TheVariants.{Fault as Faulty}
 use Rattle.script_tree.specs.declared.value.Fault.TheVariants.{Kind}
+use Rattle.script_tree.proofs.Lists.{all_weaker}
 use Rattle.signal_graph.specs.declared.node.Node.{Node}
 use Rattle.signal_graph.specs.declared.node.Node.TheVariants.{Source}
 use Rattle.signal_graph.specs.Graph.{numbers_from, is_in, inputs_of, static_outs}
@@ -24,10 +25,6 @@ numbers_below k [] = tt
 numbers_below k (y ∷ ys) =
     let further : (k + 1) + length ys ≡ k + length (y ∷ ys) = omega arith in
     (omega arith, subst (λ b. AllByRecursion (λ n. n < b) (numbers_from (k + 1) ys)) further (numbers_below (k + 1) ys))
-
-all_implies : (P Q : ℕ → Type 0) → ((n : ℕ) → P n → Q n) → (ns : List ℕ) → AllByRecursion P ns → AllByRecursion Q ns
-all_implies P Q f [] h = tt
-all_implies P Q f (n ∷ ns) h = (f n h.0, all_implies P Q f ns h.1)
 
 all_filter : (P : ℕ → Type 0) (p : ℕ → Bool) (ns : List ℕ) → AllByRecursion P ns → AllByRecursion P (filter p ns)
 all_filter P p [] h = tt
@@ -49,7 +46,7 @@ static_outs-snoc xs x m =
     let p : ℕ → Bool = λ n. names (get_or (xs ++ x ∷ []) n (Source (Faulty Kind))) in
     let q : ℕ → Bool = λ n. names (get_or xs n (Source (Faulty Kind))) in
     let before : filter p (numbers_from 0 xs) ≡ filter q (numbers_from 0 xs) =
-    filter_same p q (numbers_from 0 xs) (all_implies (λ n. n < 0 + length xs) (λ n. p n ≡ q n) (λ n h. ap names (get_or_append_left xs (x ∷ []) (Source (Faulty Kind)) n (omega (arith, h)))) (numbers_from 0 xs) (numbers_below 0 xs)) in
+    filter_same p q (numbers_from 0 xs) (all_weaker (λ n. n < 0 + length xs) (λ n. p n ≡ q n) (λ n h. ap names (get_or_append_left xs (x ∷ []) (Source (Faulty Kind)) n (omega (arith, h)))) (numbers_from 0 xs) (numbers_below 0 xs)) in
     let last : p (length xs) ≡ names x = ap names (get_or-append_seam xs x [] (Source (Faulty Kind))) in
     ap (filter p) (rw zero-add at (numbers_from-snoc 0 xs x)) ∙ filter-append p (numbers_from 0 xs) (length xs ∷ [])
     ∙ ap (λ ns. ns ++ filter p (length xs ∷ [])) before ∙ ap (λ b. filter q (numbers_from 0 xs) ++ (if b then length xs ∷ [] else [])) last

@@ -6,14 +6,7 @@ use Rattle.script_tree.specs.declared.value.Value.{Value}
 use Rattle.script_tree.specs.declared.value.Value.TheVariants.{Fault as Faulty}
 use Rattle.script_tree.specs.declared.value.Fault.TheVariants.{NoChoice}
 use Rattle.signal_graph.specs.declared.node.Node.{Node}
-use Rattle.signal_graph.specs.Graph.{Graph}
-use Rattle.signal_graph.specs.Values.{Values, at, node_value, start_value, values_from, values}
-
-pub length-values_from : (earlier : Values) (nodes : List Node) (kept : Values) → length (values_from earlier nodes kept) ≡ length earlier + length nodes
-length-values_from earlier [] kept = omega arith
-length-values_from earlier (node ∷ rest) kept =
-    let value = node_value node (at kept (length earlier)) earlier in
-    omega (arith, length-values_from (earlier ++ value ∷ []) rest kept, length-append earlier (value ∷ []))
+use Rattle.signal_graph.specs.Values.{Values, at, node_value, start_value, values_from}
 
 pub values_from-snoc : (earlier : Values) (nodes : List Node) (node : Node) (kept : Values)
     → values_from earlier (nodes ++ node ∷ []) kept ≡ values_from earlier nodes kept ++ node_value node (at kept (length earlier + length nodes)) (values_from earlier nodes kept) ∷ []
@@ -22,9 +15,6 @@ values_from-snoc earlier (first ∷ rest) node kept =
     let value = node_value first (at kept (length earlier)) earlier in
     let counts : length (earlier ++ value ∷ []) + length rest ≡ length earlier + length (first ∷ rest) = omega (arith, length-append earlier (value ∷ [])) in
     rw counts at (values_from-snoc (earlier ++ value ∷ []) rest node kept)
-
-pub length-values : (graph : Graph) (kept : Values) → length (values graph kept) ≡ length graph.nodes
-length-values graph kept = omega (arith, length-values_from [] graph.nodes kept)
 
 -- the same by an index, where what is kept is each node's start value
 pub values_from-step : (nodes : List Node) (i : ℕ) (d : Node) → i < length nodes

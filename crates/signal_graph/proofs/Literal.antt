@@ -16,7 +16,7 @@ use Rattle.signal_graph.specs.Graph.{Graph, node_at, number_of, is_source, IsNod
 use Rattle.signal_graph.specs.Values.{Values, at, run, node_value, values_from, values}
 use Rattle.signal_graph.specs.Machine.{differs, same, with_sets, fold_step, fold_steps, names_source, names_node, names_right, first_wrong, misnamed, after}
 use Rattle.signal_graph.specs.OnePass.{new_value, new_from, after_call}
-use Rattle.signal_graph.proofs.Values.{values_stay, values_are, length-values}
+use Rattle.signal_graph.proofs.Values.{values_stay, values_are, length-values, same_inputs}
 use Rattle.signal_graph.proofs.OnePassLaws.{length-new_from, new_values_from}
 
 -- the sets leave the folds alone
@@ -37,11 +37,7 @@ record Stepped (kept next : Values) (n : ℕ) (node : Node) (earlier : Values) (
   others : (m : ℕ) → (m ≡ n → ⊥) → at next m ≡ at kept m
   long : length next ≡ length kept
 
-same_run : (n : ℕ) (a b : Values) → ((m : ℕ) → m < n → at a m ≡ at b m) → (xs : List ℕ) → AllByRecursion (λ m. m < n) xs → map (at a) xs ≡ map (at b) xs
-same_run n a b e [] h = refl
-same_run n a b e (x ∷ xs) h = ap (λ v. v ∷ map (at a) xs) (e x h.0) ∙ ap (λ vs. at b x ∷ vs) (same_run n a b e xs h.1)
-
-same_any : (n : ℕ) (before a b : Values) → ((m : ℕ) → m < n → at a m ≡ at b m) → (xs : List ℕ) → AllByRecursion (λ m. m < n) xs → list_any (differs before a) xs ≡ list_any (differs before b) xs
+pub same_any : (n : ℕ) (before a b : Values) → ((m : ℕ) → m < n → at a m ≡ at b m) → (xs : List ℕ) → AllByRecursion (λ m. m < n) xs → list_any (differs before a) xs ≡ list_any (differs before b) xs
 same_any n before a b e [] h = refl
 same_any n before a b e (x ∷ xs) h = ap (λ v. not (same (at before x) v) || list_any (differs before a) xs) (e x h.0) ∙ ap (λ t. differs before b x || t) (same_any n before a b e xs h.1)
 
@@ -52,7 +48,7 @@ fold_stepped graph before kept earlier n start script inputs names agree old wit
     let next = if test then slice_set kept n (run script inputs now (at before n)) else kept in
     subst (λ v. Stepped kept next n (Fold start script inputs) earlier v)
     (ap (λ t. if t then run script inputs now (at before n) else at before n) (same_any n before now earlier agree inputs names)
-    ∙ ap (λ vs. if list_any (differs before earlier) inputs then eval_script script.tree vs (at before n) else at before n) (same_run n now earlier agree inputs names))
+    ∙ ap (λ vs. if list_any (differs before earlier) inputs then eval_script script.tree vs (at before n) else at before n) (same_inputs n now earlier agree inputs names))
     (cases (run script inputs now (at before n)) test)
   where
     cases : (r : Value) (t : Bool) → Stepped kept (if t then slice_set kept n r else kept) n (Fold start script inputs) earlier (if t then r else at before n)
@@ -165,7 +161,7 @@ set_agrees a b k n v long within e = cases (n == k) refl
         get_or-set_other a k n v (Faulty NoChoice) ne ∙ e ∙ sym (get_or-set_other b k n v (Faulty NoChoice) ne)
 
 -- two states that agree at a node agree there after the same sets
-sets_agree : (graph : Graph) (a b : Values) (sets : List (List ℕ × Value)) (n : ℕ) → length a ≡ length b → n < length a → at a n ≡ at b n → at (with_sets graph a sets) n ≡ at (with_sets graph b sets) n
+pub sets_agree : (graph : Graph) (a b : Values) (sets : List (List ℕ × Value)) (n : ℕ) → length a ≡ length b → n < length a → at a n ≡ at b n → at (with_sets graph a sets) n ≡ at (with_sets graph b sets) n
 sets_agree graph a b [] n long within e = e
 sets_agree graph a b (s ∷ sets) n long within e =
     let k = number_of graph s.0 in

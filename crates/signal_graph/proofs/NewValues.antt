@@ -1,7 +1,7 @@
 -- Each node's value after a call follows from the values before it and from the new values of the nodes that it names.
-use Rattle.std.proofs.Common.{◌≡◌, ℕ, zero, suc, ◌+◌, ◌<◌, Bool, true, false, List, [], ◌∷◌, ◌++◌, length, None, refl, sym, ap, ◌∙◌, subst, arith, length-append}
+use Rattle.std.proofs.Common.{◌≡◌, ℕ, zero, suc, ◌+◌, ◌<◌, false, List, [], ◌∷◌, ◌++◌, length, None, refl, sym, ap, ◌∙◌, subst, arith, length-append}
 use Rattle.std.specs.Prelude.{not, ◌||◌, if◌then◌else◌, slice_index_or}
-use Rattle.std.specs.List.{AllByRecursion, list_any}
+use Rattle.std.specs.List.{list_any}
 use Rattle.std.proofs.Math.Seq.{get_or-append_seam}
 use Rattle.script_tree.specs.declared.value.Fault.TheVariants.{NoChoice, Kind}
 use Rattle.script_tree.specs.declared.value.Value.{Value}
@@ -13,20 +13,12 @@ use Rattle.signal_graph.specs.declared.call.Call.{Call}
 use Rattle.signal_graph.specs.declared.call.Call.TheVariants.{Fire, Read}
 use Rattle.signal_graph.specs.Graph.{Graph, node_at, IsNode, AreNodes, IsGraph}
 use Rattle.signal_graph.specs.Values.{Values, at, run, node_value, values, val}
-use Rattle.signal_graph.specs.Machine.{differs, same, same_fault, with_sets, sets_of, misnamed, after}
+use Rattle.signal_graph.specs.Machine.{differs, with_sets, sets_of, misnamed, after}
 use Rattle.signal_graph.specs.OnePass.{new_value, new_from}
 use Rattle.signal_graph.proofs.Values.{same_node, values_are, same_inputs}
 use Rattle.signal_graph.proofs.OnePassLaws.{new_stay}
-use Rattle.signal_graph.proofs.Literal.{literal}
-use Rattle.std.proofs.lemmas.Bool.Decides.{Decides-int_eq}
-use Rattle.script_tree.specs.declared.value.Fault.{Fault}
-use Rattle.script_tree.specs.declared.value.Fault.TheVariants.{Overflow, ZeroDivisor}
-use Rattle.script_tree.specs.declared.value.Value.TheVariants.{Int, Bool as Truth}
-use Rattle.script_tree.specs.Eval.{same_truth}
-
-same_any : (n : ℕ) (before a b : Values) → ((m : ℕ) → m < n → at a m ≡ at b m) → (xs : List ℕ) → AllByRecursion (λ m. m < n) xs → list_any (differs before a) xs ≡ list_any (differs before b) xs
-same_any n before a b e [] h = refl
-same_any n before a b e (x ∷ xs) h = ap (λ v. not (same (at before x) v) || list_any (differs before a) xs) (e x h.0) ∙ ap (λ t. differs before b x || t) (same_any n before a b e xs h.1)
+use Rattle.signal_graph.proofs.Literal.{literal, same_any}
+use Rattle.signal_graph.proofs.SameValues.{same-self}
 
 -- a node's new value rests on the new values of earlier nodes alone
 same_new : (names : List (List ℕ)) (n : ℕ) (a b : Values) → ((m : ℕ) → m < n → at a m ≡ at b m) → (node : Node) (set old : Value) (before : Values) → IsNode names n node → new_value node set old before a ≡ new_value node set old before b
@@ -60,22 +52,7 @@ new_are_from names before set (node ∷ rest) earlier (suc k) nodes_are h =
 
 -- ---- a call that sets nothing
 
-same_fault-self : (f : Fault) → same_fault f f ≡ true
-same_fault-self Overflow = refl
-same_fault-self ZeroDivisor = refl
-same_fault-self Kind = refl
-same_fault-self NoChoice = refl
-
-same_truth-self : (b : Bool) → same_truth b b ≡ true
-same_truth-self true = refl
-same_truth-self false = refl
-
-same-self : (v : Value) → same v v ≡ true
-same-self (Int x) = (Decides-int_eq x x).1 refl
-same-self (Truth b) = same_truth-self b
-same-self (Faulty f) = same_fault-self f
-
-none_differ : (vs : Values) (xs : List ℕ) → list_any (differs vs vs) xs ≡ false
+pub none_differ : (vs : Values) (xs : List ℕ) → list_any (differs vs vs) xs ≡ false
 none_differ vs [] = refl
 none_differ vs (x ∷ xs) = ap (λ t. not t || list_any (differs vs vs) xs) (same-self (at vs x)) ∙ none_differ vs xs
 

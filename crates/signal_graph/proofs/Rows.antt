@@ -21,13 +21,13 @@ use Rattle.signal_graph.specs.Graph.{Graph}
 use Rattle.signal_graph.specs.Machine.{misnamed}
 use Rattle.signal_graph.specs.Legal.{Legal, finals}
 
-abbrev num : ℕ → Value
+abbrev pub num : ℕ → Value
 num n = Int (pos n)
 
 abbrev minus_one : Value
 minus_one = Int (negsuc 0)
 
-abbrev literal : ℕ → Tree
+abbrev pub literal : ℕ → Tree
 literal n = Number (pos n)
 
 abbrev script : List (List ℕ) → Tree → Scripted
@@ -36,7 +36,7 @@ script names tree = record { names = names; tree = tree }
 abbrev among : Scripted → List ℕ → List ℕ → Selector
 among s inputs candidates = record { script = s; inputs = inputs; candidates = candidates }
 
-abbrev entry : ℕ → ℕ → Call → Reply → Logged
+abbrev pub entry : ℕ → ℕ → Call → Reply → Logged
 entry caller version call reply = record { caller = caller; version = version; call = call; reply = reply }
 
 abbrev plus_one : List ℕ → Scripted

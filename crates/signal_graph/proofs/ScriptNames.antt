@@ -1,10 +1,10 @@
 -- A node's inputs are the nodes whose names stand in its scripts.
-use Rattle.std.proofs.Common.{◌≡◌, ℕ, zero, suc, ◌+◌, ◌<◌, ◌≤◌, ◌==◌, ◌||◌, ◌&&◌, if◌then◌else◌, Bool, true, false, List, [], ◌∷◌, ◌++◌, length, map, filter, get_or, refl, sym, ap, subst, ◌∙◌, inl, inr, arith, zero-add}
-use Rattle.std.specs.Prelude.{◌⊎◌, not}
+use Rattle.std.proofs.Common.{◌≡◌, ℕ, zero, suc, ◌+◌, ◌<◌, ◌≤◌, ◌==◌, ◌||◌, if◌then◌else◌, Bool, true, false, List, [], ◌∷◌, ◌++◌, length, map, filter, get_or, refl, sym, ap, subst, ◌∙◌, inl, inr, arith, zero-add}
+use Rattle.std.specs.Prelude.{◌⊎◌}
 use Rattle.std.specs.List.{AllByRecursion, list_any}
 use Rattle.std.specs.Str.{bytes_eq}
 use Rattle.std.specs.Cmp.Lexicographic.{bytes_decides}
-use Rattle.std.proofs.lemmas.Bool.{cases_lt}
+use Rattle.std.proofs.lemmas.Bool.{cases_lt, eq-eqb, or_parts}
 use Rattle.std.proofs.lemmas.Bool.Decides.{nat_tests}
 use Rattle.std.proofs.lemmas.List.{length-map}
 use Rattle.std.proofs.lemmas.List.Folds.{list_any-append}
@@ -12,13 +12,16 @@ use Rattle.script_tree.specs.declared.limits.TheConstants.{INPUTS}
 use Rattle.script_tree.specs.declared.value.Value.TheVariants.{Fault as Faulty}
 use Rattle.script_tree.specs.declared.value.Fault.TheVariants.{Kind}
 use Rattle.script_tree.specs.Scripts.{Scripted, different_names_from, standing}
+use Rattle.script_tree.proofs.Truths.{not_and_parts}
+use Rattle.script_tree.proofs.Numbers.{below_differs}
+use Rattle.script_tree.proofs.Texts.{bytes_eq-sym}
 use Rattle.signal_graph.specs.declared.node.Selector.{Selector}
 use Rattle.signal_graph.specs.declared.node.Node.{Node}
 use Rattle.signal_graph.specs.declared.node.Node.TheVariants.{Source, Signal, Fold, Choose}
 use Rattle.signal_graph.specs.Graph.{Graph, IsGraph, IsNode, IsSelector, Kept, Resolves, are_different, different, different_from, inputs_of, inputs_of_all, is_in, name_at, node_at, numbers_from, static_outs, stands_in}
 use Rattle.signal_graph.proofs.GraphNodes.{node_is}
 
-few_names : (names : List (List ℕ)) (script : Scripted) (inputs : List ℕ) → Resolves names script inputs → Kept script → length inputs ≤ INPUTS
+pub few_names : (names : List (List ℕ)) (script : Scripted) (inputs : List ℕ) → Resolves names script inputs → Kept script → length inputs ≤ INPUTS
 few_names names script inputs r k = omega (arith, k.few, length-map inputs (λ n. get_or names n []), ap length r)
 
 few : (names : List (List ℕ)) (n : ℕ) (node : Node) → IsNode names n node → length (inputs_of node) ≤ INPUTS
@@ -69,31 +72,10 @@ different_number m seen (x ∷ xs) = by_test (is_in x seen) refl (different_numb
         (λ f. (let same : m ≡ x = grind (arith, nat_tests, f) in ap (λ (k : ℕ). is_in k seen) same ∙ e))
     by_test false e old new = new_item (is_in m seen) (is_in m (different_from (x ∷ seen) xs)) (x == m) (is_in m xs) new
 
-bytes_eq-sym : (v w : List ℕ) → bytes_eq v w ≡ bytes_eq w v
-bytes_eq-sym v w = by_tests (bytes_eq v w) refl (bytes_eq w v) refl
-  where
-    by_tests : (a : Bool) → bytes_eq v w ≡ a → (b : Bool) → bytes_eq w v ≡ b → a ≡ b
-    by_tests true e true f = refl
-    by_tests true e false f = sym ((bytes_decides w v).1 (sym ((bytes_decides v w).0 e))) ∙ f
-    by_tests false e true f = sym e ∙ (bytes_decides v w).1 (sym ((bytes_decides w v).0 f))
-    by_tests false e false f = refl
-
-or_left : (a b : Bool) → (a || b) ≡ false → a ≡ false
-or_left true b h = h
-or_left false b h = refl
-
-or_right : (a b : Bool) → (a || b) ≡ false → b ≡ false
-or_right true b h = let e : true ≡ false = h in cc
-or_right false b h = h
-
-not_both : (a b : Bool) → (not a && b) ≡ true → (a ≡ false) × (b ≡ true)
-not_both true b h = let e : false ≡ true = h in cc
-not_both false b h = (refl, h)
-
 none_later : (name : List ℕ) (names : List (List ℕ)) (k : ℕ) → list_any (bytes_eq name) names ≡ false → k < length names → bytes_eq name (get_or names k []) ≡ false
 none_later name [] k h within = absurd (omega (arith, within))
-none_later name (x ∷ names) zero h within = or_left (bytes_eq name x) (list_any (bytes_eq name) names) h
-none_later name (x ∷ names) (suc k) h within = none_later name names k (or_right (bytes_eq name x) (list_any (bytes_eq name) names) h) (omega (arith, within))
+none_later name (x ∷ names) zero h within = (or_parts (bytes_eq name x) (list_any (bytes_eq name) names) h).0
+none_later name (x ∷ names) (suc k) h within = none_later name names k (or_parts (bytes_eq name x) (list_any (bytes_eq name) names) h).1 (omega (arith, within))
 
 zero_suc : (k : ℕ) → (suc k == 0) ≡ false
 zero_suc k = grind (arith, nat_tests)
@@ -108,10 +90,10 @@ suc_suc k m = grind (arith, nat_tests)
 own_number : (names : List (List ℕ)) → are_different names ≡ true → (m k : ℕ) → m < length names → k < length names → (k == m) ≡ bytes_eq (get_or names m []) (get_or names k [])
 own_number [] d m k a b = absurd (omega (arith, a))
 own_number (x ∷ names) d zero zero a b = sym ((bytes_decides x x).1 refl)
-own_number (x ∷ names) d zero (suc k) a b = zero_suc k ∙ sym (none_later x names k (not_both (list_any (bytes_eq x) names) (are_different names) d).0 (omega (arith, b)))
+own_number (x ∷ names) d zero (suc k) a b = zero_suc k ∙ sym (none_later x names k (not_and_parts (list_any (bytes_eq x) names) (are_different names) d).0 (omega (arith, b)))
 own_number (x ∷ names) d (suc m) zero a b =
-    suc_zero m ∙ sym (none_later x names m (not_both (list_any (bytes_eq x) names) (are_different names) d).0 (omega (arith, a))) ∙ bytes_eq-sym x (get_or names m [])
-own_number (x ∷ names) d (suc m) (suc k) a b = suc_suc k m ∙ own_number names (not_both (list_any (bytes_eq x) names) (are_different names) d).1 m k (omega (arith, a)) (omega (arith, b))
+    suc_zero m ∙ sym (none_later x names m (not_and_parts (list_any (bytes_eq x) names) (are_different names) d).0 (omega (arith, a))) ∙ bytes_eq-sym x (get_or names m [])
+own_number (x ∷ names) d (suc m) (suc k) a b = suc_suc k m ∙ own_number names (not_and_parts (list_any (bytes_eq x) names) (are_different names) d).1 m k (omega (arith, a)) (omega (arith, b))
 
 -- a node is among inputs exactly where its name is among theirs
 inputs_named : (names : List (List ℕ)) → are_different names ≡ true → (m n : ℕ) → m < length names → n < length names → (inputs : List ℕ) → AllByRecursion (λ k. k < n) inputs
@@ -150,12 +132,6 @@ node_named names d m n a b (Fold start script inputs) h =
 node_named names d m n a b (Choose selectors body inputs) h =
     ap (is_in m) h.4 ∙ different_number m [] (inputs_of_all selectors) ∙ selectors_named names d m n a b selectors h.2
 
-not_same : (k n : ℕ) → k < n → (k == n) ≡ false
-not_same k n h = grind (arith, nat_tests)
-
-same_number : (k n : ℕ) → k ≡ n → (k == n) ≡ true
-same_number k n e = grind (arith, nat_tests)
-
 none_before : (p : ℕ → Bool) (k : ℕ) (xs : List Node) (n : ℕ) → n < k → is_in n (filter p (numbers_from k xs)) ≡ false
 none_before p k [] n h = refl
 none_before p k (x ∷ xs) n h = by_test (p k) (none_before p (k + 1) xs n (omega (arith, h)))
@@ -184,10 +160,13 @@ among p k (x ∷ xs) n a b = by_order (cases_lt k n) (λ more. among p (k + 1) x
     here false e f = f
 
     by_order : (k < n) ⊎ (n ≤ k) → (k < n → is_in n (filter p (numbers_from (k + 1) xs)) ≡ p n) → is_in n (filter p (k ∷ numbers_from (k + 1) xs)) ≡ p n
-    by_order (inl more) f = passed (p k) (not_same k n more) ∙ f more
+    by_order (inl more) f = passed (p k) (below_differs k n more) ∙ f more
     by_order (inr end) f =
         let same : k ≡ n = omega (arith, a, end) in
-        here (p k) (same_number k n same) (none_before p (k + 1) xs n (omega (arith, end))) ∙ ap p same
+        here (p k) (eq-eqb k n same) (none_before p (k + 1) xs n (omega (arith, end))) ∙ ap p same
+
+pub in_static_outs : (graph : Graph) (m n : ℕ) → n < length graph.nodes → is_in m (inputs_of (node_at graph n)) ≡ true → is_in n (static_outs graph m) ≡ true
+in_static_outs graph m n within h = among (λ k. is_in m (inputs_of (node_at graph k))) 0 graph.nodes n (omega arith) (omega (arith, within)) ∙ h
 
 pub graph_outs : (graph : Graph) → IsGraph graph → (n m : ℕ) → n < length graph.nodes → m < length graph.nodes → is_in n (static_outs graph m) ≡ stands_in (name_at graph m) (node_at graph n)
 graph_outs graph g n m a b =

@@ -5,6 +5,7 @@ use Rattle.std.specs.Str.{bytes_eq}
 use Rattle.script_tree.specs.declared.limits.TheConstants.{NODES, INPUTS, CANDIDATES, SELECTORS}
 use Rattle.script_tree.specs.Scripts.{Scripted, HasNoPicks, HasNoAcc}
 pub use Rattle.script_tree.specs.Scripts.{different_names_from, different_names}
+use Rattle.script_tree.specs.Names.{place_in}
 use Rattle.signal_graph.specs.declared.node.Selector.{Selector}
 use Rattle.signal_graph.specs.declared.node.Node as nodes
 use Rattle.signal_graph.specs.declared.node.Node.TheVariants as node
@@ -13,7 +14,7 @@ use Rattle.signal_graph.specs.declared.builder.DeclKind.TheVariants.{Source, Sig
 use Rattle.signal_graph.specs.declared.builder.GraphFault.{GraphFault}
 use Rattle.signal_graph.specs.declared.builder.GraphFault.TheVariants.{DoubleName, UnknownInput, TooManyNodes}
 use Rattle.signal_graph.specs.Tables.{is_declared}
-use Rattle.signal_graph.specs.Graph.{Graph, is_start, place_in, different, inputs_of_all, Kept, BodyKept, BodyFits}
+use Rattle.signal_graph.specs.Graph.{Graph, is_start, different, inputs_of_all, Kept, BodyKept, BodyFits}
 
 -- a selector's script and the names of its candidates
 abbrev pub Part : Type 0

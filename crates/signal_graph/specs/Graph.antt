@@ -7,6 +7,7 @@ use Rattle.script_tree.specs.declared.value.Value.{Value}
 use Rattle.script_tree.specs.declared.value.Value.TheVariants.{Int, Bool as Truth, Fault as Faulty}
 use Rattle.script_tree.specs.declared.value.Fault.TheVariants.{Kind}
 use Rattle.script_tree.specs.Scripts.{Scripted, WellFormed, HasNoPicks, HasNoAcc, IsBody, standing}
+use Rattle.script_tree.specs.Names.{place_in}
 use Rattle.signal_graph.specs.declared.node.NodeKind as kinds
 use Rattle.signal_graph.specs.declared.node.NodeKind.TheVariants as kind
 use Rattle.signal_graph.specs.declared.node.Selector.{Selector}
@@ -22,11 +23,6 @@ node_at graph n = slice_index_or graph.nodes n (Source (Faulty Kind))
 
 abbrev pub name_at : Graph → ℕ → List ℕ
 name_at graph n = slice_index_or graph.names n []
-
--- the number of the first node with a name, or how many nodes there are where none has it
-abbrev pub place_in : List (List ℕ) → List ℕ → ℕ
-place_in [] name = 0
-place_in (other ∷ names) name = if bytes_eq other name then 0 else place_in names name + 1
 
 abbrev pub number_of : Graph → List ℕ → ℕ
 number_of graph name = place_in graph.names name

@@ -44,6 +44,11 @@ abbrev pub looks_of : Call → List (List ℕ)
 looks_of (Fire sets looks) = looks
 looks_of (Read looks) = looks
 
+-- what was seen at them
+abbrev pub looks_of_reply : Reply → List Value
+looks_of_reply (Fired changed evaluated looks) = looks
+looks_of_reply (Seen looks) = looks
+
 abbrev pub names_node : Graph → List ℕ → Bool
 names_node graph name = nat_lt (number_of graph name) (length graph.nodes)
 

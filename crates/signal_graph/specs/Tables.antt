@@ -5,8 +5,8 @@ use Rattle.std.specs.Cmp.Lexicographic.{slice_cmp}
 use Rattle.std.specs.Str.{bytes_eq}
 use Rattle.std.specs.BTreeMap.{BTreeMap, get_by}
 use Rattle.std.specs.Global.{Vec}
-use Rattle.signal_graph.specs.Graph.{place_in}
 use Rattle.script_tree.specs.declared.limits.TheConstants.{NODES}
+use Rattle.script_tree.specs.Names.{place_in}
 
 -- the number of the first entry with a name, counted from n
 abbrev pub found_from : ℕ → List (List ℕ) → List ℕ → Option ℕ

@@ -3,7 +3,7 @@
 ghost use Rattle.std.specs.Prelude.{◌≡◌, ◌≢◌, ℕ, slice_index_or, IfSome, IfNone, ◌<◌, ◌≤◌, [], ◌∷◌, ◌++◌, false, if◌then◌else◌, length, slice_get, Some, None, OnOk, OnErr};
 ghost use Rattle.std.specs.List.{list_any};
 ghost use Rattle.std.specs.Str.{bytes_eq};
-ghost use Rattle.signal_graph.specs.Graph.{place_in};
+ghost use Rattle.script_tree.specs.Names.{place_in};
 ghost use Rattle.signal_graph.specs.Tables.{is_declared};
 
 use script_tree::limits::NODES;
@@ -23,7 +23,6 @@ pub struct NameTable {
 
 impl Model for NameTable {
     ghost use Rattle.std.specs.Prelude.{List, ℕ};
-    ghost use Rattle.signal_graph.specs.Graph.{place_in};
     ghost use Rattle.signal_graph.specs.Tables.{IsTable};
 
     ghost Value = { List (List ℕ) };

@@ -1,7 +1,8 @@
 // From the names of a declaration to the numbers of nodes.
 
 ghost use Rattle.std.specs.Prelude.{◌≡◌, ◌∷◌, ◌++◌, [], if◌then◌else◌, map, find, length, IfOk, OnOk, OnErr};
-ghost use Rattle.signal_graph.specs.Graph.{place_in, is_in, different, inputs_of_all};
+ghost use Rattle.script_tree.specs.Names.{place_in};
+ghost use Rattle.signal_graph.specs.Graph.{is_in, different, inputs_of_all};
 ghost use Rattle.signal_graph.specs.Declarations.{names_of, names_of_part, names_of_parts, is_undeclared, selector_of, node_of};
 
 use crate::builder::{DeclKind, SelectList};

@@ -1,5 +1,5 @@
 use Rattle.std.proofs.Common.{◌≡◌, map, take}
-use Rattle.signal_graph.specs.Graph.{place_in}
+use Rattle.script_tree.specs.Names.{place_in}
 use Rattle.signal_graph.proofs.resolve.numbers.Given as goal
 
 abbrev pub invariant-loop-name : goal.invariant-loop-name
