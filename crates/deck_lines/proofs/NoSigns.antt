@@ -10,7 +10,7 @@ use Rattle.script_tree.specs.declared.expr.Binary.TheVariants.{OrElse, Or, And, 
 use Rattle.script_tree.specs.Scripts.{Scripted}
 use Rattle.script_grammar.specs.declared.token.Token.{Token}
 use Rattle.script_grammar.specs.declared.token.Token.TheVariants.{Closes, ThenWord, ElseWord, Stray}
-use Rattle.script_grammar.specs.Grammar.{Written, Plain, Inside, Before, Between, Choice, sign, mark, tokens}
+use Rattle.script_grammar.specs.Grammar.{Written, Plain, Inside, Before, Between, Choice, sign, prefix_sign, tokens}
 use Rattle.expr_script.specs.declared.atoms.Atoms.{Atoms}
 use Rattle.expr_script.specs.declared.atoms.Atoms.TheVariants.{Script, Body}
 use Rattle.expr_script.specs.Words.{token, pick_token, fixed_token}
@@ -48,7 +48,7 @@ sign_stands Multiply = refl
 sign_stands Divide = refl
 sign_stands Remainder = refl
 
-mark_stands : (op : Unary) → is_stray (mark op) ≡ false
+mark_stands : (op : Unary) → is_stray (prefix_sign op) ≡ false
 mark_stands Negate = refl
 mark_stands Not = refl
 
@@ -56,7 +56,7 @@ mark_stands Not = refl
 written_stands : (w : Written) → has_stray (tokens w) ≡ false
 written_stands (Plain word) = refl
 written_stands (Inside w) = none_stray (tokens w) (Closes ∷ []) (written_stands w) refl
-written_stands (Before op w) = no_or (is_stray (mark op)) (has_stray (tokens w)) (mark_stands op) (written_stands w)
+written_stands (Before op w) = no_or (is_stray (prefix_sign op)) (has_stray (tokens w)) (mark_stands op) (written_stands w)
 written_stands (Between op a b) = none_stray (tokens a) (sign op ∷ tokens b) (written_stands a) (no_or (is_stray (sign op)) (has_stray (tokens b)) (sign_stands op) (written_stands b))
 written_stands (Choice c a b) = none_stray (tokens c) (ThenWord ∷ (tokens a ++ ElseWord ∷ tokens b)) (written_stands c) (none_stray (tokens a) (ElseWord ∷ tokens b) (written_stands a) (written_stands b))
 

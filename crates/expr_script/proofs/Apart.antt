@@ -1,12 +1,13 @@
 -- The words of a canonical text stand apart.
-use Rattle.std.proofs.Common.{◌≡◌, ℕ, Bool, true, false, List, [], ◌∷◌, refl, sym, ap, ◌∙◌, inl, inr, arith}
+use Rattle.std.proofs.Common.{◌≡◌, ℕ, Bool, true, false, List, [], ◌∷◌, refl, ap, ◌∙◌, inl, inr, arith}
 use Rattle.std.specs.Prelude.{◌==◌, ◌⊎◌}
 use Rattle.std.proofs.lemmas.Bool.Decides.{nat_tests}
+use Rattle.std.proofs.lemmas.Bool.{both_ways}
 use Rattle.script_tree.specs.Names.{is_word}
 use Rattle.script_tree.specs.declared.expr.Unary.{Unary}
 use Rattle.script_tree.specs.declared.expr.Unary.TheVariants.{Negate, Not}
 use Rattle.script_grammar.specs.declared.token.Token.TheVariants.{Plain as W, Opens, Closes, IfWord, ThenWord, ElseWord}
-use Rattle.script_grammar.specs.Grammar.{Written, Plain, Inside, Before, Between, Choice, sign, mark}
+use Rattle.script_grammar.specs.Grammar.{Written, Plain, Inside, Before, Between, Choice, sign, prefix_sign}
 use Rattle.expr_script.specs.declared.atoms.Atoms.{Atoms}
 use Rattle.expr_script.specs.Pieces.{is_pair}
 use Rattle.expr_script.specs.Cut.{begins_word}
@@ -45,9 +46,6 @@ no_pair b c n = by_test (is_pair b c) refl
     by_test true e = absurd (n e)
     by_test false e = refl
 
-not_both : {b : Bool} → b ≡ true → b ≡ false → ⊥
-not_both {b} t f = let e : true ≡ false = sym t ∙ f in cc
-
 -- what merges with nothing behind it
 pub record Closed (w : List ℕ) : Type 0 where
   pub closed : (v : List ℕ) → merges w v ≡ false
@@ -59,7 +57,7 @@ word_closed w e = record { closed = by_form w e }
     by_form [] e v = refl
     by_form (b ∷ b' ∷ w) e v = refl
     by_form (b ∷ []) e [] = refl
-    by_form (b ∷ []) e (c ∷ v) = no_pair b c (λ p. not_both e (first_no_word b c p))
+    by_form (b ∷ []) e (c ∷ v) = no_pair b c (λ p. both_ways _ (first_no_word b c p) e)
 
 close_closed : (names : List (List ℕ)) → Closed (token_text names Closes)
 close_closed names = record { closed = by_form }
@@ -84,9 +82,9 @@ pub word_after : (w last : List ℕ) → begins_word w ≡ true → merges last 
 word_after [] [] e = refl
 word_after [] (b ∷ []) e = refl
 word_after [] (b ∷ b' ∷ last) e = refl
-word_after (c ∷ w) last e = after c w (λ b. no_pair b c (λ p. not_both e (second_no_word b c p))) last
+word_after (c ∷ w) last e = after c w (λ b. no_pair b c (λ p. both_ways _ (second_no_word b c p) e)) last
 
-mark_after : (names : List (List ℕ)) (op : Unary) (last : List ℕ) → merges last (token_text names (mark op)) ≡ false
+mark_after : (names : List (List ℕ)) (op : Unary) (last : List ℕ) → merges last (token_text names (prefix_sign op)) ≡ false
 mark_after names Negate last = after 45 [] (λ b. refl) last
 mark_after names Not last = after 33 [] (λ b. refl) last
 
@@ -102,7 +100,7 @@ stand atoms names (Inside w) last more h follow = (
   (reads_tokens atoms names).opens.whole,
   stand atoms names w (token_text names Opens) (token_text names Closes ∷ more) h (λ final c. (c.closed (token_text names Closes), (reads_tokens atoms names).closes.whole, follow (token_text names Closes) (close_closed names))),
 )
-stand atoms names (Before op w) last more h follow = (mark_after names op last, ((reads_tokens atoms names).marks op).whole, stand atoms names w (token_text names (mark op)) more h follow)
+stand atoms names (Before op w) last more h follow = (mark_after names op last, ((reads_tokens atoms names).marks op).whole, stand atoms names w (token_text names (prefix_sign op)) more h follow)
 stand atoms names (Between op a b) last more h follow =
     stand atoms names a last (token_text names (sign op) ∷ spread names b more) h.0
     (λ final c. (c.closed (token_text names (sign op)), (reads_sign atoms names op).whole, stand atoms names b (token_text names (sign op)) more h.1 follow))

@@ -128,7 +128,7 @@ cut_behind last (w ∷ ws) s =
 pub joined_back : (ws : List (List ℕ)) → StandApart [] ws → words (joined ws) ≡ ws
 joined_back ws s = words_cut (joined ws) ∙ cut_behind [] ws s
 
-between_short : (w v : List ℕ) → length (between w v) ≤ 1
+pub between_short : (w v : List ℕ) → length (between w v) ≤ 1
 between_short w v = elim (begins_word w && begins_word v) as (λ t. length (if t then codes " " else []) ≤ 1) [ true ↦ omega arith | false ↦ omega arith ]
 
 pub between_none : (w v : List ℕ) → (begins_word w ≡ true → begins_word v ≡ false) → length (between w v) ≡ 0

@@ -1,7 +1,7 @@
 -- The pieces of a text are a cut of it.
 use Rattle.std.proofs.Common.{◌≡◌, ℕ, zero, suc, ◌+◌, ◌-◌, ◌<◌, ◌≤◌, Bool, true, false, List, [], ◌∷◌, length, drop, refl, sym, ap, ◌∙◌, inl, inr, arith, drop-drop, length-drop}
 use Rattle.std.specs.Prelude.{◌⊎◌, ◌==◌, if◌then◌else◌, take_while}
-use Rattle.std.proofs.lemmas.Bool.{cases_lt}
+use Rattle.std.proofs.lemmas.Bool.{cases_lt, both_ways}
 use Rattle.std.proofs.lemmas.Bool.Decides.{nat_tests}
 use Rattle.std.proofs.lemmas.List.Sums.{take_while-cons}
 use Rattle.script_tree.specs.Names.{is_word}
@@ -65,9 +65,6 @@ record Found (text : List ℕ) (p : Piece) : Type 0 where
 at_rest : (text rest : List ℕ) (at i : ℕ) → drop at text ≡ rest → at ≤ i → drop i text ≡ drop (i - at) rest
 at_rest text rest at i e h = ap (λ k. drop k text) {x = i} {y = at + (i - at)} (omega arith) ∙ sym (drop-drop (i - at) at text) ∙ ap (drop (i - at)) e
 
-not_both : {b : Bool} → b ≡ true → b ≡ false → ⊥
-not_both {b} t f = let e : true ≡ false = sym t ∙ f in cc
-
 run_found : (text : List ℕ) (at b : ℕ) (bs : List ℕ) (n : ℕ) → drop at text ≡ b ∷ bs → is_word b ≡ true → ((i : ℕ) → i + 1 ≡ at → word_at text i ≡ false) → n ≡ length (take_while is_word (b ∷ bs)) → Found text (record { from = at; len = n })
 run_found text at b bs n e w before m =
     let ends : (next : ℕ) → next ≡ at + n → word_at text next ≡ false = λ next f. ap begins_word (at_rest text (b ∷ bs) at next e (omega (arith, f)) ∙ ap (λ k. drop k (b ∷ bs)) {x = next - at} {y = length (take_while is_word (b ∷ bs))} (omega (arith, f, m))) ∙ run_ends (b ∷ bs) in
@@ -78,7 +75,7 @@ run_found text at b bs n e w before m =
         before = before;
         behind = ends (at + n) refl;
       });
-      ready = λ next f u. absurd (not_both u (ends next f));
+      ready = λ next f u. absurd (both_ways _ (ends next f) u);
     }
 
 rest_within : (text : List ℕ) (at b : ℕ) (bs : List ℕ) → drop at text ≡ b ∷ bs → at < length text

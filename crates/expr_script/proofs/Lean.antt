@@ -1,19 +1,20 @@
 -- The token of a word is written in no more bytes than the word.
 use Rattle.std.proofs.Common.{◌≡◌, ℕ, suc, ◌+◌, ◌^◌, ◌<◌, ◌≤◌, Bool, true, false, List, [], ◌∷◌, ◌++◌, length, map, refl, sym, ap, ◌∙◌, arith}
-use Rattle.std.specs.Prelude.{◌&&◌, ◌||◌, if◌then◌else◌, nat_lt, pos, codes, decimal, slice_get, unwrap_or}
+use Rattle.std.specs.Prelude.{◌&&◌, if◌then◌else◌, nat_lt, pos, codes, decimal, slice_get, unwrap_or}
 use Rattle.std.specs.List.{list_all, AllByRecursion}
 use Rattle.std.specs.Str.{bytes_eq}
 use Rattle.std.specs.Char.{is_ascii_digit}
-use Rattle.std.proofs.lemmas.Bool.Decides.{nat_tests}
 use Rattle.std.proofs.lemmas.Fmt.{decimal_digit, decimal_nonempty}
-use Rattle.std.proofs.lemmas.Slice.Eq.{bytes_eq-Decides}
-use Rattle.script_tree.specs.Names.{is_name, is_word}
+use Rattle.std.proofs.lemmas.Bool.{ltb-true, or_left}
+use Rattle.script_tree.specs.Names.{is_name, is_word, place_in}
+use Rattle.script_tree.proofs.Truths.{and_left, and_right}
+use Rattle.script_tree.proofs.Texts.{same_text}
 use Rattle.script_grammar.specs.declared.token.Word.TheVariants as word
 use Rattle.script_grammar.specs.declared.token.Token.{Token}
 use Rattle.script_grammar.specs.declared.token.Token.TheVariants.{Plain, Stray}
 use Rattle.expr_script.specs.declared.atoms.Atoms.{Atoms}
 use Rattle.expr_script.specs.declared.atoms.Atoms.TheVariants.{Script, Body}
-use Rattle.expr_script.specs.Words.{is_digits, value, number, place_of, name_token, look_up, short_signs, long_signs, script_words, short_sign, sign_token, fixed_token, other_token, token}
+use Rattle.expr_script.specs.Words.{is_digits, value, number, name_token, look_up, short_signs, long_signs, script_words, short_sign, sign_token, fixed_token, other_token, token}
 use Rattle.expr_script.specs.Cut.{begins_word}
 use Rattle.expr_script.specs.Joined.{between, behind}
 use Rattle.expr_script.specs.Tokens.{tokens_among}
@@ -37,18 +38,11 @@ either : (names : List (List ℕ)) (w : List ℕ) (b : Bool) (t u : Token) → (
 either names w true t u p q = p refl
 either names w false t u p q = q refl
 
-is_equal : (a b : List ℕ) → bytes_eq a b ≡ true → a ≡ b
-is_equal a b e = (bytes_eq-Decides a b).0 e
-
-and_right : (a b : Bool) → (a && b) ≡ true → b ≡ true
-and_right true b h = h
-and_right false b h = let e : false ≡ true = h in cc
-
 table_exact : (names : List (List ℕ)) (table : List (List ℕ × Token)) (w : List ℕ) (other : Token) → AllByRecursion (λ row. token_text names row.1 ≡ row.0) table → Exact names w other → Exact names w (look_up table w other)
 table_exact names [] w other rows o = o
 table_exact names (row ∷ table) w other rows o =
     either names w (bytes_eq w row.0) row.1 (look_up table w other)
-    (λ e. record { same = λ _. rows.0 ∙ sym (is_equal w row.0 e) }) (λ _. table_exact names table w other rows.1 o)
+    (λ e. record { same = λ _. rows.0 ∙ sym (same_text w row.0 e) }) (λ _. table_exact names table w other rows.1 o)
 
 fixed_exact : (names : List (List ℕ)) (w : List ℕ) → Exact names w (fixed_token w)
 fixed_exact names w =
@@ -63,12 +57,12 @@ pick_text names i d h e = ap (λ l. codes "pick" ++ l) (decimal_digit (i + 1) h 
 pick_step : (names : List (List ℕ)) (i k : ℕ) (w name : List ℕ) (rest : Token) → token_text names (Plain (word.Pick i)) ≡ name → Exact names w rest → Exact names w (if nat_lt i k && bytes_eq w name then Plain (word.Pick i) else rest)
 pick_step names i k w name rest e r =
     either names w (nat_lt i k && bytes_eq w name) (Plain (word.Pick i)) rest
-    (λ h. record { same = λ _. e ∙ sym (is_equal w name (and_right (nat_lt i k) (bytes_eq w name) h)) }) (λ _. r)
+    (λ h. record { same = λ _. e ∙ sym (same_text w name (and_right (nat_lt i k) (bytes_eq w name) h)) }) (λ _. r)
 
 other_exact : (atoms : Atoms) (names : List (List ℕ)) (w : List ℕ) → Exact names w (other_token atoms w)
 other_exact (Script acc) names w =
     either names w (acc && bytes_eq w (codes "acc")) (Plain word.Acc) (fixed_token w)
-    (λ h. record { same = λ _. sym (is_equal w (codes "acc") (and_right acc (bytes_eq w (codes "acc")) h)) }) (λ _. fixed_exact names w)
+    (λ h. record { same = λ _. sym (same_text w (codes "acc") (and_right acc (bytes_eq w (codes "acc")) h)) }) (λ _. fixed_exact names w)
 other_exact (Body k) names w =
     pick_step names 0 k w (codes "pick1") _ (pick_text names 0 (49 ∷ []) (omega arith) refl)
     (pick_step names 1 k w (codes "pick2") _ (pick_text names 1 (50 ∷ []) (omega arith) refl)
@@ -76,30 +70,22 @@ other_exact (Body k) names w =
     (pick_step names 3 k w (codes "pick4") (fixed_token w) (pick_text names 3 (52 ∷ []) (omega arith) refl) (fixed_exact names w))))
 
 -- the name at the place of a name
-pub name_at : (names : List (List ℕ)) (w : List ℕ) → place_of names w < length names → unwrap_or (slice_get names (place_of names w)) [] ≡ w
+pub name_at : (names : List (List ℕ)) (w : List ℕ) → place_in names w < length names → unwrap_or (slice_get names (place_in names w)) [] ≡ w
 name_at [] w h = absurd (omega (arith, h))
 name_at (n ∷ names) w h = by_test (bytes_eq n w) refl (λ k. name_at names w k) h
   where
-    by_test : (b : Bool) → bytes_eq n w ≡ b → (place_of names w < length names → unwrap_or (slice_get names (place_of names w)) [] ≡ w) → (if b then 0 else place_of names w + 1) < suc (length names) → unwrap_or (slice_get (n ∷ names) (if b then 0 else place_of names w + 1)) [] ≡ w
-    by_test true e f k = is_equal n w e
-    by_test false e f k = ap (λ i. unwrap_or (slice_get (n ∷ names) i) []) {x = place_of names w + 1} {y = suc (place_of names w)} (omega arith) ∙ f (omega (arith, k))
+    by_test : (b : Bool) → bytes_eq n w ≡ b → (place_in names w < length names → unwrap_or (slice_get names (place_in names w)) [] ≡ w) → (if b then 0 else place_in names w + 1) < suc (length names) → unwrap_or (slice_get (n ∷ names) (if b then 0 else place_in names w + 1)) [] ≡ w
+    by_test true e f k = same_text n w e
+    by_test false e f k = ap (λ i. unwrap_or (slice_get (n ∷ names) i) []) {x = place_in names w + 1} {y = suc (place_in names w)} (omega arith) ∙ f (omega (arith, k))
 
 -- a name is among the known ones, where names stand in this kind of script
 abbrev pub IsThere : Atoms → List (List ℕ) → List ℕ → Type 0
-IsThere (Script acc) names w = is_name w ≡ true → place_of names w < length names
+IsThere (Script acc) names w = is_name w ≡ true → place_in names w < length names
 IsThere (Body picks) names w = Unit {0}
 
 name_exact : (atoms : Atoms) (names : List (List ℕ)) (w : List ℕ) → is_name w ≡ true → IsThere atoms names w → Exact names w (name_token atoms names w)
 name_exact (Script acc) names w n h = record { same = λ _. name_at names w (h n) }
 name_exact (Body picks) names w n h = record { same = λ s. absurd (s refl) }
-
-or_left : (a b : Bool) → a ≡ true → (a || b) ≡ true
-or_left true b h = refl
-or_left false b h = let e : false ≡ true = h in cc
-
-and_left : (a b : Bool) → (a && b) ≡ true → a ≡ true
-and_left true b h = refl
-and_left false b h = h
 
 pub digit_word : (c : ℕ) → is_ascii_digit c ≡ true → is_word c ≡ true
 digit_word c h = or_left _ _ (or_left _ _ (or_left _ _ h))
@@ -107,9 +93,6 @@ digit_word c h = or_left _ _ (or_left _ _ (or_left _ _ h))
 pub digits_begin : (ds : List ℕ) → list_all is_ascii_digit ds ≡ true → 0 < length ds → begins_word ds ≡ true
 digits_begin [] h some = absurd (omega (arith, some))
 digits_begin (c ∷ cs) h some = digit_word c (and_left (is_ascii_digit c) (list_all is_ascii_digit cs) h)
-
-pub below : (m n : ℕ) → nat_lt m n ≡ true → m < n
-below m n h = grind (arith, nat_tests)
 
 -- what is lean where it isn't stray
 record LeanToken (names : List (List ℕ)) (w : List ℕ) (t : Token) : Type 0 where
@@ -124,10 +107,10 @@ lean_of names w t e = record { lean = λ s. exact_lean names w t (e.same s) }
 
 number_lean : (names : List (List ℕ)) (w : List ℕ) → is_digits w ≡ true → LeanToken names w (number w)
 number_lean names w h =
-    let some : 0 < length w = below 0 (length w) (and_left (nat_lt 0 (length w)) (list_all is_ascii_digit w) h) in
+    let some : 0 < length w = ltb-true 0 (length w) (and_left (nat_lt 0 (length w)) (list_all is_ascii_digit w) h) in
     let d : list_all is_ascii_digit w ≡ true = and_right (nat_lt 0 (length w)) (list_all is_ascii_digit w) h in
     pick_lean names w (nat_lt (value 0 w) (2 ^ 63)) (Plain (word.Digits (pos (value 0 w)))) Stray
-    (λ h. let small : value 0 w < 2 ^ 63 = below (value 0 w) (2 ^ 63) h in
+    (λ h. let small : value 0 w < 2 ^ 63 = ltb-true (value 0 w) (2 ^ 63) h in
     record {
       lean = λ _. record {
         short = decimal_short w d some (omega (arith, small));

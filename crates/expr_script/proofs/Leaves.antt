@@ -1,11 +1,13 @@
 -- The leaves of a script come from its tokens.
-use Rattle.std.proofs.Common.{◌≡◌, ℕ, ◌^◌, Bool, true, false, List, [], ◌∷◌, refl, ap, ◌∙◌}
+use Rattle.std.proofs.Common.{◌≡◌, ℕ, ◌^◌, Bool, true, false, List, [], ◌∷◌, refl}
 use Rattle.std.specs.Prelude.{◌&&◌, if◌then◌else◌, nat_lt, pos, codes}
 use Rattle.std.specs.Str.{bytes_eq}
 use Rattle.std.specs.List.{list_all}
+use Rattle.std.specs.Cmp.Derive.{both_true}
 use Rattle.script_tree.specs.Tree.{Tree, Number, Constant, Pick, Acc}
 use Rattle.script_tree.specs.Names.{is_name}
 use Rattle.script_tree.specs.Scripts.{all_leaves}
+use Rattle.script_tree.proofs.Truths.{and_left, and_right}
 use Rattle.script_grammar.specs.declared.token.Word.TheVariants as word
 use Rattle.script_grammar.specs.declared.token.Token.{Token}
 use Rattle.script_grammar.specs.declared.token.Token.TheVariants as token
@@ -20,23 +22,12 @@ abbrev pub passes : (Tree → Bool) → Token → Bool
 passes test (token.Plain word) = test (word_tree word)
 passes test t = true
 
-pub and_both : {a b : Bool} → a ≡ true → b ≡ true → (a && b) ≡ true
-and_both {a} {b} p q = ap (λ x. x && b) p ∙ q
-
-pub and_left : (a b : Bool) → (a && b) ≡ true → a ≡ true
-and_left true b h = refl
-and_left false b h = h
-
-pub and_right : (a b : Bool) → (a && b) ≡ true → b ≡ true
-and_right true b h = h
-and_right false b h = let e : false ≡ true = h in cc
-
 -- the leaves of a tree are the words of a text
 abbrev pub HasLeaves : List Token → Tree → Type 0
 HasLeaves text t = (test : Tree → Bool) → all_leaves test t ≡ all_words (λ w. test (word_tree w)) text
 
 pub words_cons : (test : Tree → Bool) (t : Token) (text : List Token) → passes test t ≡ true → all_words (λ w. test (word_tree w)) text ≡ true → all_words (λ w. test (word_tree w)) (t ∷ text) ≡ true
-words_cons test (token.Plain word) text p h = and_both p h
+words_cons test (token.Plain word) text p h = both_true p h
 words_cons test t text p h = h
 
 -- a token passes a test
@@ -63,7 +54,7 @@ pub record PassesTruths (test : Tree → Bool) : Type 0 where
   pub no : test (Constant false) ≡ true
 
 fixed_passes : (test : Tree → Bool) (w : List ℕ) → PassesTruths test → Passes test (fixed_token w)
-fixed_passes test w truths = table_passes test script_words w (sign_token w) (and_both truths.yes (and_both truths.no refl)) (sign_passes test w)
+fixed_passes test w truths = table_passes test script_words w (sign_token w) (both_true truths.yes (both_true truths.no refl)) (sign_passes test w)
 
 pick_step : (test : Tree → Bool) (i k : ℕ) (w name : List ℕ) (rest : Token) → (nat_lt i k ≡ true → test (Pick i) ≡ true) → Passes test rest → Passes test (if nat_lt i k && bytes_eq w name then token.Plain (word.Pick i) else rest)
 pick_step test i k w name rest f r =

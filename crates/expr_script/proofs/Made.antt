@@ -3,81 +3,79 @@ use Rattle.std.proofs.Common.{◌≡◌, ℕ, suc, ◌+◌, ◌<◌, ◌≤◌, 
 use Rattle.std.specs.Prelude.{◌&&◌, ◌==◌, ◌⊎◌, if◌then◌else◌, nat_lt, fold}
 use Rattle.std.specs.List.{list_all, AllByRecursion}
 use Rattle.std.specs.Str.{bytes_eq}
-use Rattle.std.proofs.lemmas.Bool.{cases_lt}
+use Rattle.std.proofs.lemmas.Bool.{cases_lt, lt-ltb}
 use Rattle.std.proofs.lemmas.Bool.Decides.{nat_tests}
 use Rattle.std.proofs.lemmas.Slice.Eq.{bytes_eq-Decides}
 use Rattle.std.proofs.lemmas.Grind.{common_steps}
+use Rattle.std.specs.Cmp.Derive.{both_true}
 use Rattle.script_tree.specs.declared.limits.TheConstants.{INPUTS, LEVELS}
-use Rattle.script_tree.specs.Names.{is_name}
+use Rattle.script_tree.specs.Names.{is_name, place_in}
 use Rattle.script_tree.specs.Tree.{Tree, Input}
 use Rattle.script_tree.specs.Scripts.{Scripted, WellFormed, all_leaves, input_below, pick_below, is_not_acc, is_literal, standing, different_names}
+use Rattle.script_tree.proofs.Truths.{and_left}
 use Rattle.script_grammar.specs.declared.token.Token.{Token}
 use Rattle.script_grammar.specs.Grammar.{word_tree, Spells, BeginsWithin}
 use Rattle.script_grammar.specs.Words.{all_words}
 use Rattle.expr_script.specs.declared.atoms.Atoms.{Atoms}
 use Rattle.expr_script.specs.declared.atoms.Atoms.TheVariants.{Script, Body}
 use Rattle.expr_script.specs.Inputs.{KeepsFirst}
-use Rattle.expr_script.specs.Words.{place_of, name_token, token}
+use Rattle.expr_script.specs.Words.{name_token, token}
 use Rattle.expr_script.specs.Tokens.{with_name, script_names, names, inputs, tokens_among, tokens}
 use Rattle.expr_script.specs.Spelled.{HasAtoms, SpellsWith, SpellsTooMany}
-use Rattle.expr_script.proofs.Kept.{with_known, with_new, place_of-le, take_whole}
+use Rattle.expr_script.proofs.Kept.{with_known, with_new, place_of-le, take_whole, lt_step}
 use Rattle.expr_script.proofs.SameNames.{names_appear, none_standing}
-use Rattle.expr_script.proofs.Leaves.{Passes, PassesAtoms, and_both, and_left, script_passes, body_passes, token_passes, words_cons, HasLeaves}
-
-lt_step : (t : Bool) (p' l' p l : ℕ) → (p' < l' → p < l) → (if t then 0 else p' + 1) < suc l' → (if t then 0 else p + 1) < suc l
-lt_step true p' l' p l f h = omega arith
-lt_step false p' l' p l f h = omega (arith, f (omega arith))
+use Rattle.expr_script.proofs.Leaves.{Passes, PassesAtoms, script_passes, body_passes, token_passes, words_cons, HasLeaves}
 
 lt_suc : (t : Bool) (p l : ℕ) → p < l → (if t then 0 else p + 1) < suc l
 lt_suc true p l h = omega arith
 lt_suc false p l h = omega arith
 
-push_keeps : (known : List (List ℕ)) (v w : List ℕ) → place_of known w < length known → place_of (known ++ v ∷ []) w < length (known ++ v ∷ [])
+push_keeps : (known : List (List ℕ)) (v w : List ℕ) → place_in known w < length known → place_in (known ++ v ∷ []) w < length (known ++ v ∷ [])
 push_keeps [] v w h = absurd (omega (arith, h))
-push_keeps (n ∷ known) v w h = lt_step (bytes_eq n w) (place_of known w) (length known) (place_of (known ++ v ∷ []) w) (length (known ++ v ∷ [])) (push_keeps known v w) h
+push_keeps (n ∷ known) v w h = lt_step (bytes_eq n w) (place_in known w) (length known) (place_in (known ++ v ∷ []) w) (length (known ++ v ∷ [])) (push_keeps known v w) h
 
-push_there : (known : List (List ℕ)) (w : List ℕ) → place_of (known ++ w ∷ []) w < length (known ++ w ∷ [])
+push_there : (known : List (List ℕ)) (w : List ℕ) → place_in (known ++ w ∷ []) w < length (known ++ w ∷ [])
 push_there [] w = subst (λ (b : Bool). (if b then 0 else 0 + 1) < suc 0) (sym ((bytes_eq-Decides w w).1 refl)) (omega arith)
-push_there (n ∷ known) w = lt_suc (bytes_eq n w) (place_of (known ++ w ∷ []) w) (length (known ++ w ∷ [])) (push_there known w)
+push_there (n ∷ known) w = lt_suc (bytes_eq n w) (place_in (known ++ w ∷ []) w) (length (known ++ w ∷ [])) (push_there known w)
 
 -- a name that is there stays there
-with_keeps : (known : List (List ℕ)) (v w : List ℕ) → place_of known w < length known → place_of (with_name known v) w < length (with_name known v)
-with_keeps known v w h = by_test (is_name v && place_of known v == length known)
+with_keeps : (known : List (List ℕ)) (v w : List ℕ) → place_in known w < length known → place_in (with_name known v) w < length (with_name known v)
+with_keeps known v w h = by_test (is_name v && place_in known v == length known)
   where
-    by_test : (b : Bool) → place_of (if b then known ++ v ∷ [] else known) w < length (if b then known ++ v ∷ [] else known)
+    by_test : (b : Bool) → place_in (if b then known ++ v ∷ [] else known) w < length (if b then known ++ v ∷ [] else known)
     by_test true = push_keeps known v w h
     by_test false = h
 
 -- a name that came is there
-with_there : (known : List (List ℕ)) (w : List ℕ) → is_name w ≡ true → place_of (with_name known w) w < length (with_name known w)
-with_there known w n = by_case (cases_lt (place_of known w) (length known))
+with_there : (known : List (List ℕ)) (w : List ℕ) → is_name w ≡ true → place_in (with_name known w) w < length (with_name known w)
+with_there known w n = by_case (cases_lt (place_in known w) (length known))
   where
     P : List (List ℕ) → Type 0
-    P l = place_of l w < length l
+    P l = place_in l w < length l
 
-    by_case : (place_of known w < length known) ⊎ (length known ≤ place_of known w) → place_of (with_name known w) w < length (with_name known w)
-    by_case (inl there) = subst (λ (l : List (List ℕ)). place_of l w < length l) (sym (with_known known w there)) there
-    by_case (inr end) = subst (λ (l : List (List ℕ)). place_of l w < length l) (sym (with_new known w n (omega (arith, end, place_of-le known w)))) (push_there known w)
+    by_case : (place_in known w < length known) ⊎ (length known ≤ place_in known w) → place_in (with_name known w) w < length (with_name known w)
+    by_case (inl there) = subst (λ (l : List (List ℕ)). place_in l w < length l) (sym (with_known known w there)) there
+    by_case (inr end) = subst (λ (l : List (List ℕ)). place_in l w < length l) (sym (with_new known w n (omega (arith, end, place_of-le known w)))) (push_there known w)
 
-fold_keeps : (words known : List (List ℕ)) (w : List ℕ) → place_of known w < length known → place_of (fold with_name known words) w < length (fold with_name known words)
+fold_keeps : (words known : List (List ℕ)) (w : List ℕ) → place_in known w < length known → place_in (fold with_name known words) w < length (fold with_name known words)
 fold_keeps [] known w h = h
 fold_keeps (v ∷ words) known w h = fold_keeps words (with_name known v) w (with_keeps known v w h)
 
 -- each name among words is there behind them
-pub fold_there : (words known : List (List ℕ)) → AllByRecursion (λ w. is_name w ≡ true → place_of (fold with_name known words) w < length (fold with_name known words)) words
+pub fold_there : (words known : List (List ℕ)) → AllByRecursion (λ w. is_name w ≡ true → place_in (fold with_name known words) w < length (fold with_name known words)) words
 fold_there [] known = tt
 fold_there (v ∷ words) known = (λ n. fold_keeps words (with_name known v) v (with_there known v n), fold_there words (with_name known v))
 
 all_push : (known : List (List ℕ)) (v : List ℕ) → list_all is_name known ≡ true → is_name v ≡ true → list_all is_name (known ++ v ∷ []) ≡ true
-all_push [] v h n = and_both n refl
-all_push (k ∷ known) v h n = and_both (and_left (is_name k) (list_all is_name known) h) (all_push known v (and_back (is_name k) (list_all is_name known) h) n)
+all_push [] v h n = both_true n refl
+all_push (k ∷ known) v h n = both_true (and_left (is_name k) (list_all is_name known) h) (all_push known v (and_back (is_name k) (list_all is_name known) h) n)
   where
     and_back : (a b : Bool) → (a && b) ≡ true → b ≡ true
     and_back true b h = h
     and_back false b h = let e : false ≡ true = h in cc
 
 with_named : (known : List (List ℕ)) (v : List ℕ) → list_all is_name known ≡ true → list_all is_name (with_name known v) ≡ true
-with_named known v h = by_test (is_name v && place_of known v == length known) (λ e. and_left (is_name v) (place_of known v == length known) e)
+with_named known v h = by_test (is_name v && place_in known v == length known) (λ e. and_left (is_name v) (place_in known v == length known) e)
   where
     by_test : (b : Bool) → (b ≡ true → is_name v ≡ true) → list_all is_name (if b then known ++ v ∷ [] else known) ≡ true
     by_test true n = all_push known v h (n refl)
@@ -97,7 +95,7 @@ tokens_pass test atoms known (w ∷ words) h named =
     words_cons test (token atoms known w) (tokens_among atoms known words) (token_passes test atoms known w h named.0).passed (tokens_pass test atoms known words h named.1)
 
 any_name : (test : Tree → Bool) (atoms : Atoms) (known : List (List ℕ)) (w : List ℕ) → ((i : ℕ) → test (Input i) ≡ true) → Passes test (name_token atoms known w)
-any_name test (Script acc) known w h = record { passed = h (place_of known w) }
+any_name test (Script acc) known w h = record { passed = h (place_in known w) }
 any_name test (Body picks) known w h = record { passed = refl }
 
 -- a test that every input passes holds for every leaf
@@ -126,9 +124,6 @@ body_acc_atoms picks = record { truths = record { yes = refl; no = refl }; numbe
 body_pick_atoms : (picks : ℕ) → PassesAtoms (pick_below picks) (Body picks)
 body_pick_atoms picks = record { truths = record { yes = refl; no = refl }; numbers = λ m h. refl; others = λ w. body_passes (pick_below picks) picks w (record { yes = refl; no = refl }) (λ i h. h) }
 
-pub below_true : (m n : ℕ) → m < n → nat_lt m n ≡ true
-below_true m n h = grind (arith, nat_tests)
-
 length_take : (n : ℕ) (xs : List (List ℕ)) → length (take n xs) ≤ n
 length_take n xs = grind (arith, common_steps)
 
@@ -140,9 +135,9 @@ names_there : (atoms : Atoms) (words : List (List ℕ)) → AllByRecursion (λ w
 names_there (Body picks) words = everywhere (λ w. is_name w ≡ true → Passes (input_below 0) (name_token (Body picks) [] w)) words (λ w _. record { passed = refl })
 names_there (Script acc) words = passed_all words (fold_there words [])
   where
-    passed_all : (some : List (List ℕ)) → AllByRecursion (λ w. is_name w ≡ true → place_of (script_names words) w < length (script_names words)) some → AllByRecursion (λ w. is_name w ≡ true → Passes (input_below (length (script_names words))) (name_token (Script acc) (script_names words) w)) some
+    passed_all : (some : List (List ℕ)) → AllByRecursion (λ w. is_name w ≡ true → place_in (script_names words) w < length (script_names words)) some → AllByRecursion (λ w. is_name w ≡ true → Passes (input_below (length (script_names words))) (name_token (Script acc) (script_names words) w)) some
     passed_all [] h = tt
-    passed_all (w ∷ some) h = (λ n. record { passed = below_true _ _ (h.0 n) }, passed_all some h.1)
+    passed_all (w ∷ some) h = (λ n. record { passed = lt-ltb _ _ (h.0 n) }, passed_all some h.1)
 
 pub all_named : (atoms : Atoms) (words : List (List ℕ)) → list_all is_name (names atoms words) ≡ true
 all_named (Script acc) words = fold_named words [] refl

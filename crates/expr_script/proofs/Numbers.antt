@@ -1,15 +1,16 @@
 -- The value of digits, and the place of a name.
-use Rattle.std.proofs.Common.{◌≡◌, ℕ, ◌+◌, ◌-◌, ◌*◌, ◌<◌, ◌≤◌, Bool, true, false, List, [], ◌∷◌, ◌++◌, length, take, drop, get_or, refl, ap, ◌∙◌, arith, drop-cons, add-one}
+use Rattle.std.proofs.Common.{◌≡◌, ℕ, ◌+◌, ◌-◌, ◌*◌, ◌<◌, ◌≤◌, false, List, [], ◌∷◌, ◌++◌, length, take, drop, get_or, refl, ap, ◌∙◌, arith}
 use Rattle.std.specs.Prelude.{pos, nat_lt, if◌then◌else◌, ◌^◌}
 use Rattle.std.proofs.lemmas.Bool.Decides.{nat_tests}
 use Rattle.script_grammar.specs.declared.token.Token.TheVariants.{Plain, Stray}
 use Rattle.script_grammar.specs.declared.token.Word.TheVariants.{Digits}
-use Rattle.std.specs.Str.{bytes_eq}
 use Rattle.std.specs.Prelude.{slice_get, Some}
 use Rattle.std.proofs.lemmas.Option.{slice_get_within, get_or_from_slice_get}
-use Rattle.std.proofs.lemmas.Slice.Eq.{bytes_eq-Decides}
 use Rattle.std.proofs.lemmas.Grind.{common_steps}
-use Rattle.expr_script.specs.Words.{value, number, place_of}
+use Rattle.std.proofs.lemmas.List.{drop_more}
+use Rattle.script_tree.proofs.Texts.{text_is, other_text}
+use Rattle.script_tree.specs.Names.{place_in}
+use Rattle.expr_script.specs.Words.{value, number}
 
 pub value_append : (n : ℕ) (a b : List ℕ) → value n (a ++ b) ≡ value (value n a) b
 value_append n [] b = refl
@@ -35,29 +36,16 @@ value_take ds i = omega (arith, ap (value 0) (take_drop i ds), value_append 0 (t
 
 pub ruleset value_laws = (value_take_more, value_take)
 
-drop_at : (xs : List (List ℕ)) (at : ℕ) (d : List ℕ) → at < length xs → drop at xs ≡ get_or xs at d ∷ drop (at + 1) xs
-drop_at xs at d h = rw (add-one, drop-cons xs at d) refl
-
 drop_got : (xs : List (List ℕ)) (at : ℕ) (r : List ℕ) → slice_get xs at ≡ Some r → drop at xs ≡ r ∷ drop (at + 1) xs
-drop_got xs at r g = drop_at xs at [] (slice_get_within xs at r g) ∙ ap (λ x. x ∷ drop (at + 1) xs) (get_or_from_slice_get xs at r [] g)
-
-is_same : (a b : List ℕ) → a ≡ b → bytes_eq a b ≡ true
-is_same a b e = (bytes_eq-Decides a b).1 e
-
-is_other : (a b : List ℕ) → (a ≡ b → ⊥) → bytes_eq a b ≡ false
-is_other a b n = by_test (bytes_eq a b) refl
-  where
-    by_test : (t : Bool) → bytes_eq a b ≡ t → t ≡ false
-    by_test true e = absurd (n ((bytes_eq-Decides a b).0 e))
-    by_test false e = refl
+drop_got xs at r g = drop_more xs at [] (slice_get_within xs at r g) ∙ ap (λ x. x ∷ drop (at + 1) xs) (get_or_from_slice_get xs at r [] g)
 
 -- a name that stands here
-pub place_here : (xs : List (List ℕ)) (at : ℕ) (r name : List ℕ) → slice_get xs at ≡ Some r → r ≡ name → place_of (drop at xs) name ≡ 0
-place_here xs at r name g e = ap (λ l. place_of l name) (drop_got xs at r g) ∙ ap (λ b. if b then 0 else place_of (drop (at + 1) xs) name + 1) (is_same r name e)
+pub place_here : (xs : List (List ℕ)) (at : ℕ) (r name : List ℕ) → slice_get xs at ≡ Some r → r ≡ name → place_in (drop at xs) name ≡ 0
+place_here xs at r name g e = ap (λ l. place_in l name) (drop_got xs at r g) ∙ ap (λ b. if b then 0 else place_in (drop (at + 1) xs) name + 1) (text_is r name e)
 
 -- a name that doesn't stand here
-pub place_on : (xs : List (List ℕ)) (at : ℕ) (r name : List ℕ) → slice_get xs at ≡ Some r → (r ≡ name → ⊥) → place_of (drop at xs) name ≡ place_of (drop (at + 1) xs) name + 1
-place_on xs at r name g n = ap (λ l. place_of l name) (drop_got xs at r g) ∙ ap (λ b. if b then 0 else place_of (drop (at + 1) xs) name + 1) (is_other r name n)
+pub place_on : (xs : List (List ℕ)) (at : ℕ) (r name : List ℕ) → slice_get xs at ≡ Some r → (r ≡ name → ⊥) → place_in (drop at xs) name ≡ place_in (drop (at + 1) xs) name + 1
+place_on xs at r name g n = ap (λ l. place_in l name) (drop_got xs at r g) ∙ ap (λ b. if b then 0 else place_in (drop (at + 1) xs) name + 1) (other_text r name n)
 
 test_no : (n : ℕ) → 2 ^ 63 ≤ n → nat_lt n (2 ^ 63) ≡ false
 test_no n h = grind (arith, nat_tests)

@@ -1,30 +1,14 @@
 -- Numbers as they are written.
-use Rattle.std.proofs.Common.{◌≡◌, ℕ, ◌+◌, ◌-◌, ◌*◌, ◌^◌, ◌<◌, ◌≤◌, Bool, true, false, List, [], ◌∷◌, length, refl, ap, ◌∙◌, inl, inr, arith}
-use Rattle.std.specs.Prelude.{◌&&◌, ◌⊎◌, decimal, leb}
+use Rattle.std.proofs.Common.{◌≡◌, ℕ, ◌+◌, ◌-◌, ◌*◌, ◌^◌, ◌<◌, ◌≤◌, true, List, [], ◌∷◌, length, refl, ap, inl, inr, arith}
+use Rattle.std.specs.Prelude.{◌⊎◌, decimal, leb}
 use Rattle.std.specs.List.{list_all}
 use Rattle.std.specs.Char.{is_ascii_digit}
-use Rattle.std.proofs.lemmas.Bool.{cases_lt}
-use Rattle.std.proofs.lemmas.Bool.Decides.{nat_tests}
+use Rattle.std.proofs.lemmas.Bool.{cases_lt, leb-true, le-leb}
 use Rattle.std.proofs.lemmas.Str.Parse.{IsNumeralModel, numerals_by_fold}
 use Rattle.std.proofs.lemmas.Fmt.{digits_decimal, digits_value-decimal, decimal-digits_value}
+use Rattle.std.specs.Cmp.Derive.{both_true}
+use Rattle.script_tree.proofs.Truths.{and_left, and_right}
 use Rattle.expr_script.specs.Words.{value}
-
-and_left : (a b : Bool) → (a && b) ≡ true → a ≡ true
-and_left true b h = refl
-and_left false b h = h
-
-and_right : (a b : Bool) → (a && b) ≡ true → b ≡ true
-and_right true b h = h
-and_right false b h = let e : false ≡ true = h in cc
-
-and_both : {a b : Bool} → a ≡ true → b ≡ true → (a && b) ≡ true
-and_both {a} {b} p q = ap (λ x. x && b) p ∙ q
-
-le_from : (i j : ℕ) → leb i j ≡ true → i ≤ j
-le_from i j h = grind (arith, nat_tests)
-
-pub le_true : (i j : ℕ) → i ≤ j → leb i j ≡ true
-le_true i j h = grind (arith, nat_tests)
 
 AreDigits : List ℕ → Type 0
 AreDigits ds = list_all is_ascii_digit ds ≡ true
@@ -35,8 +19,8 @@ own = numerals_by_fold AreDigits
     (record {
       empty = refl;
       parts = λ c cs e. (let d = and_left (is_ascii_digit c) (list_all is_ascii_digit cs) e in
-          ((le_from 48 c (and_left (leb 48 c) (leb c 57) d), le_from c 57 (and_right (leb 48 c) (leb c 57) d)), and_right (is_ascii_digit c) (list_all is_ascii_digit cs) e));
-      more = λ c cs k e. and_both (and_both (le_true 48 c k.0) (le_true c 57 k.1)) e;
+          ((leb-true 48 c (and_left (leb 48 c) (leb c 57) d), leb-true c 57 (and_right (leb 48 c) (leb c 57) d)), and_right (is_ascii_digit c) (list_all is_ascii_digit cs) e));
+      more = λ c cs k e. both_true (both_true (le-leb 48 c k.0) (le-leb c 57 k.1)) e;
     })
     value
     (record { empty = λ n. refl; more = λ n c cs k. refl })
@@ -53,7 +37,7 @@ pub decimal_short : (ds : List ℕ) → list_all is_ascii_digit ds ≡ true → 
 unfolding AreDigits
 decimal_short [] d some small = absurd (omega (arith, some))
 decimal_short (c ∷ []) d some small = omega (arith, ap length (decimal-digits_value own (c ∷ []) d some (λ e. refl) small))
-decimal_short (c ∷ e ∷ ds) d some small = by_first (cases_lt 48 c) (le_from 48 c (and_left (leb 48 c) (leb c 57) (and_left (is_ascii_digit c) (list_all is_ascii_digit (e ∷ ds)) d))) (λ z. decimal_short (e ∷ ds) (and_right (is_ascii_digit c) (list_all is_ascii_digit (e ∷ ds)) d) (omega arith) (omega (arith, small, zero_first z)))
+decimal_short (c ∷ e ∷ ds) d some small = by_first (cases_lt 48 c) (leb-true 48 c (and_left (leb 48 c) (leb c 57) (and_left (is_ascii_digit c) (list_all is_ascii_digit (e ∷ ds)) d))) (λ z. decimal_short (e ∷ ds) (and_right (is_ascii_digit c) (list_all is_ascii_digit (e ∷ ds)) d) (omega arith) (omega (arith, small, zero_first z)))
   where
     zero_first : c ≡ 48 → value 0 (c ∷ e ∷ ds) ≡ value 0 (e ∷ ds)
     zero_first z = ap (λ n. value n (e ∷ ds)) {x = 0 * 10 + (c - 48)} {y = 0} (omega (arith, z))

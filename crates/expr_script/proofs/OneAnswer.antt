@@ -49,7 +49,7 @@ one_answer g atoms words places (Err TooManyInputs) (Err (Syntax to)) p q m n = 
 one_answer g atoms words places (Err TooManyInputs) (Err (TooDeep to)) p q m n = absurd (g.shallow LEVELS (tokens atoms words) q.number p.shallow q.first)
 one_answer g atoms words places (Err TooManyInputs) (Err TooManyInputs) p q m n = refl
 
-is_script : Result Scripted ScriptFault → Bool
+pub is_script : Result Scripted ScriptFault → Bool
 is_script (Ok s) = true
 is_script (Err e) = false
 

@@ -5,7 +5,7 @@ use Rattle.std.proofs.lemmas.Bool.Decides.{nat_tests}
 use Rattle.script_tree.specs.Names.{is_word}
 use Rattle.expr_script.specs.Pieces.{is_blank}
 use Rattle.std.specs.List.{AllByRecursion}
-use Rattle.std.proofs.lemmas.Bool.{cases_lt}
+use Rattle.std.proofs.lemmas.Bool.{cases_lt, both_ways}
 use Rattle.std.proofs.lemmas.List.Elements.{All-from_recursion, recursion_from_All}
 use Rattle.expr_script.specs.declared.pieces.Piece.{Piece}
 use Rattle.expr_script.specs.Cut.{word_at, blank_at, pair_at, begins_word, begins_blank, IsRun, IsPiece, InOrder, IsCut}
@@ -92,12 +92,9 @@ piece_first : (text : List ℕ) (p : Piece) → IsPiece text p → blank_at text
 piece_first text p (inl r) = word_no_blank (drop p.from text) (first_word text p r)
 piece_first text p (inr s) = s.no_blank
 
-not_both : {b : Bool} → b ≡ true → b ≡ false → ⊥
-not_both {b} t f = let e : true ≡ false = sym t ∙ f in cc
-
 -- a run can't end inside another one that begins with it
 run_no_longer : (text : List ℕ) (p q : Piece) → IsRun text p → IsRun text q → p.from ≡ q.from → p.len < q.len → ⊥
-run_no_longer text p q r s e h = not_both (s.all (p.from + p.len) (omega arith) (omega arith)) r.behind
+run_no_longer text p q r s e h = both_ways _ r.behind (s.all (p.from + p.len) (omega arith) (omega arith))
 
 same_len : (text : List ℕ) (p q : Piece) → IsPiece text p → IsPiece text q → p.from ≡ q.from → p.len ≡ q.len
 same_len text p q (inl r) (inl s) e = by_order (cases_lt p.len q.len) (cases_lt q.len p.len)
@@ -106,16 +103,16 @@ same_len text p q (inl r) (inl s) e = by_order (cases_lt p.len q.len) (cases_lt 
     by_order (inl h) k = absurd (run_no_longer text p q r s e h)
     by_order (inr h) (inl k) = absurd (run_no_longer text q p s r (sym e) k)
     by_order (inr h) (inr k) = omega arith
-same_len text p q (inl r) (inr s) e = absurd (not_both (first_word text p r) (ap (word_at text) e ∙ s.no_word))
-same_len text p q (inr r) (inl s) e = absurd (not_both (first_word text q s) (ap (word_at text) (sym e) ∙ r.no_word))
+same_len text p q (inl r) (inr s) e = absurd (both_ways _ (ap (word_at text) e ∙ s.no_word) (first_word text p r))
+same_len text p q (inr r) (inl s) e = absurd (both_ways _ (ap (word_at text) (sym e) ∙ r.no_word) (first_word text q s))
 same_len text p q (inr r) (inr s) e = r.longest ∙ ap (λ i. if pair_at text i then 2 else 1) e ∙ sym s.longest
 
 same_from : (text : List ℕ) (at : ℕ) (p q : Piece) → at ≤ p.from → at ≤ q.from → Gap text at p.from → Gap text at q.from → IsPiece text p → IsPiece text q → p.from ≡ q.from
 same_from text at p q h k g f u v = by_order (cases_lt p.from q.from) (cases_lt q.from p.from)
   where
     by_order : (p.from < q.from) ⊎ (q.from ≤ p.from) → (q.from < p.from) ⊎ (p.from ≤ q.from) → p.from ≡ q.from
-    by_order (inl i) j = absurd (not_both (f.blanks p.from h i) (piece_first text p u))
-    by_order (inr i) (inl j) = absurd (not_both (g.blanks q.from k j) (piece_first text q v))
+    by_order (inl i) j = absurd (both_ways _ (piece_first text p u) (f.blanks p.from h i))
+    by_order (inr i) (inl j) = absurd (both_ways _ (piece_first text q v) (g.blanks q.from k j))
     by_order (inr i) (inr j) = omega arith
 
 same_piece : (p q : Piece) → p.from ≡ q.from → p.len ≡ q.len → p ≡ q
@@ -123,8 +120,8 @@ same_piece p q e f = ap (λ i. record { from = i; len = p.len }) e ∙ ap (λ n.
 
 one_from : (text : List ℕ) (at : ℕ) (found other : List Piece) → CutFrom text at found → CutFrom text at other → found ≡ other
 one_from text at [] [] c d = refl
-one_from text at [] (q ∷ other) c d = absurd (not_both (c.blanks q.from d.0 (piece_within text q d.2)) (piece_first text q d.2))
-one_from text at (p ∷ found) [] c d = absurd (not_both (d.blanks p.from c.0 (piece_within text p c.2)) (piece_first text p c.2))
+one_from text at [] (q ∷ other) c d = absurd (both_ways _ (piece_first text q d.2) (c.blanks q.from d.0 (piece_within text q d.2)))
+one_from text at (p ∷ found) [] c d = absurd (both_ways _ (piece_first text p c.2) (d.blanks p.from c.0 (piece_within text p c.2)))
 one_from text at (p ∷ found) (q ∷ other) c d =
     let e : p ≡ q = same_piece p q (same_from text at p q c.0 d.0 c.1 d.1 c.2 d.2) (same_len text p q c.2 d.2 (same_from text at p q c.0 d.0 c.1 d.1 c.2 d.2)) in
     ap (λ r. r ∷ found) e ∙ ap (λ l. q ∷ l) (one_from text (q.from + q.len) found other (subst (λ (r : Piece). CutFrom text (r.from + r.len) found) e c.3) d.3)

@@ -2,6 +2,9 @@
 use Rattle.std.proofs.Common.{◌≡◌, ℕ, ◌<◌, ◌≤◌, Bool, true, false, List, [], ◌∷◌, ◌++◌, length, map, refl, sym, ap, ◌∙◌, subst, arith}
 use Rattle.std.specs.Prelude.{◌^◌, ◌&&◌, pos, negsuc, nat_lt, slice_get, unwrap_or}
 use Rattle.std.specs.List.{AllByRecursion}
+use Rattle.std.specs.Cmp.Derive.{both_true}
+use Rattle.std.proofs.lemmas.Bool.{ltb-true, le-ltb}
+use Rattle.std.proofs.lemmas.List.{append-nil}
 use Rattle.script_tree.specs.declared.limits.TheConstants.{INPUTS, LEVELS}
 use Rattle.script_tree.specs.Tree.{Tree, Number, Constant, Input, Pick, Acc, Apply, Join, If}
 use Rattle.script_tree.specs.Scripts.{Scripted, WellFormed, all_leaves, input_below, pick_below, is_not_acc, is_literal, standing}
@@ -11,8 +14,10 @@ use Rattle.script_tree.specs.declared.expr.Unary.{Unary}
 use Rattle.script_tree.specs.declared.expr.Unary.TheVariants.{Negate, Not}
 use Rattle.script_tree.specs.declared.expr.Binary.{Binary}
 use Rattle.script_tree.specs.declared.expr.Binary.TheVariants.{OrElse, Or, And, Equal, Unequal, Less, AtMost, Greater, AtLeast, Add, Subtract, Multiply, Divide, Remainder}
+use Rattle.script_tree.proofs.Truths.{and_left, and_right}
+use Rattle.script_tree.specs.Names.{place_in}
 use Rattle.script_grammar.specs.declared.token.Word.{Word}
-use Rattle.script_grammar.specs.Grammar.{Spells, BeginsWithin, sign, mark, tokens, word_tree}
+use Rattle.script_grammar.specs.Grammar.{Spells, BeginsWithin, sign, prefix_sign, tokens, word_tree}
 use Rattle.script_grammar.specs.Words.{all_words}
 use Rattle.script_grammar.specs.Canonical.{canonical}
 use Rattle.expr_script.specs.declared.atoms.Atoms.{Atoms}
@@ -23,12 +28,10 @@ use Rattle.expr_script.specs.Tokens.{script_names, names, inputs, tokens_among, 
 use Rattle.expr_script.specs.Printed.{token_text, printed_words, printed}
 use Rattle.expr_script.specs.Spelled.{IsFormed, IsShallow, SpellsWith}
 use Rattle.expr_script.specs.Inputs.{KeepsFirst}
-use Rattle.expr_script.specs.Words.{place_of}
-use Rattle.expr_script.proofs.Kept.{take_whole, not_more}
-use Rattle.expr_script.proofs.Leaves.{and_both, and_left, and_right}
+use Rattle.expr_script.proofs.Kept.{take_whole}
 use Rattle.expr_script.proofs.Made.{fold_there, well_formed, has_atoms}
-use Rattle.expr_script.proofs.Lean.{IsThere, Stands, below, words_lean}
-use Rattle.expr_script.proofs.CutBack.{joined_back, joined_short, words_some}
+use Rattle.expr_script.proofs.Lean.{IsThere, Stands, words_lean}
+use Rattle.expr_script.proofs.CutBack.{joined_back, joined_short}
 use Rattle.expr_script.proofs.Spread.{spread, spread_is, canonical_no_longer}
 use Rattle.expr_script.proofs.WrittenWords.{AllWords, OfTokens, canonical_words, any_words, all_tokens}
 use Rattle.expr_script.proofs.TokenBack.{Reads, KnownNames, FewPicks, stands, reads_word, reads_tokens, called, named}
@@ -61,7 +64,7 @@ same_names atoms ws s h = tokens_known atoms ws h.few ∙ ap (λ l. tokens_among
 pub spelled_formed : (g : OfGrammar) (atoms : Atoms) (ws : List (List ℕ)) (s : Scripted) → SpellsWith atoms ws s → IsFormed atoms s × IsShallow s
 spelled_formed g atoms ws s h =
     let all = names atoms ws in
-    let keeps : KeepsFirst INPUTS all false all = record { first = sym (take_whole INPUTS all h.few); rest = sym (not_more INPUTS (length all) h.few) } in
+    let keeps : KeepsFirst INPUTS all false all = record { first = sym (take_whole INPUTS all h.few); rest = sym (le-ltb INPUTS (length all) h.few) } in
     let spelled : Spells (tokens_among atoms all ws) s.tree = subst (λ (l : List Token). Spells l s.tree) (tokens_known atoms ws h.few) h.tree in
     let made = well_formed atoms ws all false s.tree keeps refl spelled (λ test. g.leaves test (tokens_among atoms all ws) s.tree spelled) in (
       (subst (λ (l : List (List ℕ)). WellFormed l s.tree) (sym h.named) made.1, has_atoms atoms ws s h.named (λ test. g.leaves test (tokens_of atoms ws) s.tree h.tree)),
@@ -78,21 +81,21 @@ all_imply p q r stand f (Pick i) a b c = f (Pick i) a b c
 all_imply p q r stand f Acc a b c = f Acc a b c
 all_imply p q r stand f (Apply op x) a b c = all_imply p q r stand f x a b c
 all_imply p q r stand f (Join op x y) a b c =
-    and_both
+    both_true
     (all_imply p q r stand f x (and_left (all_leaves p x) (all_leaves p y) a) (and_left (all_leaves q x) (all_leaves q y) b) (and_left (all_leaves r x) (all_leaves r y) c))
     (all_imply p q r stand f y (and_right (all_leaves p x) (all_leaves p y) a) (and_right (all_leaves q x) (all_leaves q y) b) (and_right (all_leaves r x) (all_leaves r y) c))
 all_imply p q r stand f (If t x y) a b c =
     let a2 = and_right (all_leaves p t) (all_leaves p x && all_leaves p y) a in
     let b2 = and_right (all_leaves q t) (all_leaves q x && all_leaves q y) b in
     let c2 = and_right (all_leaves r t) (all_leaves r x && all_leaves r y) c in
-    and_both
+    both_true
     (all_imply p q r stand f t (and_left (all_leaves p t) (all_leaves p x && all_leaves p y) a) (and_left (all_leaves q t) (all_leaves q x && all_leaves q y) b) (and_left (all_leaves r t) (all_leaves r x && all_leaves r y) c))
-    (and_both
+    (both_true
     (all_imply p q r stand f x (and_left (all_leaves p x) (all_leaves p y) a2) (and_left (all_leaves q x) (all_leaves q y) b2) (and_left (all_leaves r x) (all_leaves r y) c2))
     (all_imply p q r stand f y (and_right (all_leaves p x) (all_leaves p y) a2) (and_right (all_leaves q x) (all_leaves q y) b2) (and_right (all_leaves r x) (all_leaves r y) c2)))
 
 none_below : (i : ℕ) → nat_lt i 0 ≡ true → ⊥
-none_below i h = omega (arith, below i 0 h)
+none_below i h = omega (arith, ltb-true i 0 h)
 
 leaf_with : (acc : Bool) (n : ℕ) (leaf : Tree) → input_below n leaf ≡ true → is_literal leaf ≡ true → pick_below 0 leaf ≡ true → (acc ≡ false → is_not_acc leaf ≡ true) → stands (Script acc) n leaf ≡ true
 unfolding stands
@@ -126,8 +129,8 @@ all_any (Input i) = refl
 all_any (Pick i) = refl
 all_any Acc = refl
 all_any (Apply op x) = all_any x
-all_any (Join op x y) = and_both (all_any x) (all_any y)
-all_any (If t x y) = and_both (all_any t) (and_both (all_any x) (all_any y))
+all_any (Join op x y) = both_true (all_any x) (all_any y)
+all_any (If t x y) = both_true (all_any t) (both_true (all_any x) (all_any y))
 
 -- the leaves of a well-formed script are those that its kind may have
 formed_leaves : (atoms : Atoms) (s : Scripted) → IsFormed atoms s → all_leaves (stands atoms (length s.names)) s.tree ≡ true
@@ -138,12 +141,12 @@ formed_leaves (Script true) s h =
 formed_leaves (Script false) s h =
     let n = length s.names in
     let both : all_leaves (λ leaf. is_literal leaf && pick_below 0 leaf) s.tree ≡ true =
-    all_imply is_literal (pick_below 0) (λ leaf. true) (λ leaf. is_literal leaf && pick_below 0 leaf) (λ leaf a b c. and_both a b) s.tree h.0.numbers h.1.0 (all_any s.tree) in
+    all_imply is_literal (pick_below 0) (λ leaf. true) (λ leaf. is_literal leaf && pick_below 0 leaf) (λ leaf a b c. both_true a b) s.tree h.0.numbers h.1.0 (all_any s.tree) in
     all_imply (input_below n) (λ leaf. is_literal leaf && pick_below 0 leaf) is_not_acc (stands (Script false) n)
     (λ leaf a b c. leaf_with false n leaf a (and_left (is_literal leaf) (pick_below 0 leaf) b) (and_right (is_literal leaf) (pick_below 0 leaf) b) (λ e. c)) s.tree h.0.inputs both (h.1.1 refl)
 formed_leaves (Body picks) s h =
     let both : all_leaves (λ leaf. is_literal leaf && pick_below picks leaf) s.tree ≡ true =
-    all_imply is_literal (pick_below picks) (λ leaf. true) (λ leaf. is_literal leaf && pick_below picks leaf) (λ leaf a b c. and_both a b) s.tree h.0.numbers h.1.picks_below (all_any s.tree) in
+    all_imply is_literal (pick_below picks) (λ leaf. true) (λ leaf. is_literal leaf && pick_below picks leaf) (λ leaf a b c. both_true a b) s.tree h.0.numbers h.1.picks_below (all_any s.tree) in
     let none : length s.names ≡ 0 = ap length h.1.no_names in
     let below_none : all_leaves (input_below 0) s.tree ≡ true = subst (λ (n : ℕ). all_leaves (input_below n) s.tree ≡ true) none h.0.inputs in
     subst (λ (n : ℕ). all_leaves (stands (Body picks) n) s.tree ≡ true) (sym none)
@@ -158,7 +161,7 @@ formed_names s h = names_different (standing s.names s.tree) (standing_named s.n
 formed_known : (s : Scripted) → WellFormed s.names s.tree → KnownNames s.names
 formed_known s h = record {
   named = h.named;
-  distinct = subst (λ (l : List (List ℕ)). (i : ℕ) → i < length l → place_of l (unwrap_or (slice_get l i) []) ≡ i) (formed_names s h) (distinct_names (standing s.names s.tree));
+  distinct = subst (λ (l : List (List ℕ)). (i : ℕ) → i < length l → place_in l (unwrap_or (slice_get l i) []) ≡ i) (formed_names s h) (distinct_names (standing s.names s.tree));
 }
 
 -- the words of the canonical writing are read as themselves
@@ -172,12 +175,8 @@ printed_apart atoms s f h last more m =
     subst (StandApart last) (spread_is s.names (canonical s.tree) more)
     (stand atoms s.names (canonical s.tree) last more (canonical_reads atoms s f h) (follow_more more m))
 
-on_nil : (xs : List (List ℕ)) → xs ++ [] ≡ xs
-on_nil [] = refl
-on_nil (x ∷ xs) = ap (λ l. x ∷ l) (on_nil xs)
-
 pub printed_back : (atoms : Atoms) (s : Scripted) → FewPicks atoms → IsFormed atoms s → words (printed s) ≡ printed_words s
-printed_back atoms s f h = joined_back (printed_words s) (subst (StandApart []) (on_nil (printed_words s)) (printed_apart atoms s f h [] [] tt))
+printed_back atoms s f h = joined_back (printed_words s) (subst (StandApart []) (append-nil (printed_words s)) (printed_apart atoms s f h [] [] tt))
 
 tokens_back : (atoms : Atoms) (known : List (List ℕ)) (ts : List Token) → AllByRecursion (Reads atoms known) ts → tokens_among atoms known (map (token_text known) ts) ≡ ts
 tokens_back atoms known [] h = refl
@@ -226,7 +225,7 @@ pub printed_fewest : (g : OfGrammar) (atoms : Atoms) (ws : List (List ℕ)) (s :
 printed_fewest g atoms ws s h =
     omega (arith, g.shortest (tokens_of atoms ws) s.tree h.tree, length_tokens atoms (inputs atoms ws) ws, length_texts s.names (tokens (canonical s.tree)))
 
-is_stray : Token → Bool
+pub is_stray : Token → Bool
 is_stray Stray = true
 is_stray t = false
 
@@ -247,7 +246,7 @@ sign_stands Multiply e = let f : false ≡ true = ap is_stray e in cc
 sign_stands Divide e = let f : false ≡ true = ap is_stray e in cc
 sign_stands Remainder e = let f : false ≡ true = ap is_stray e in cc
 
-mark_stands : (op : Unary) → Stands (mark op)
+mark_stands : (op : Unary) → Stands (prefix_sign op)
 unfolding is_stray
 mark_stands Negate e = let f : false ≡ true = ap is_stray e in cc
 mark_stands Not e = let f : false ≡ true = ap is_stray e in cc
@@ -291,7 +290,7 @@ printed_short atoms text s h =
     omega (
       arith,
       printed_no_longer atoms (words text) s h [] [],
-      ap (λ l. length (behind [] l)) (on_nil (printed_words s)),
-      ap (λ l. length (behind [] l)) (on_nil (words text)),
+      ap (λ l. length (behind [] l)) (append-nil (printed_words s)),
+      ap (λ l. length (behind [] l)) (append-nil (words text)),
       joined_short text,
     )

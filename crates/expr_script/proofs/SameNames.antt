@@ -4,25 +4,27 @@ use Rattle.std.specs.Prelude.{◌&&◌, ◌||◌, ◌⊎◌, if◌then◌else◌
 use Rattle.std.specs.List.{list_all, list_any, AllByRecursion}
 use Rattle.std.proofs.lemmas.Bool.Decides.{nat_tests}
 use Rattle.std.specs.Str.{bytes_eq}
-use Rattle.std.specs.Char.{is_ascii_digit}
-use Rattle.std.proofs.lemmas.Bool.{cases_lt}
+use Rattle.std.proofs.lemmas.Bool.{cases_lt, ltb-true, ltb-false}
 use Rattle.std.proofs.lemmas.Slice.Eq.{bytes_eq-Decides}
-use Rattle.script_tree.specs.Names.{is_name}
+use Rattle.std.proofs.lemmas.List.{append-nil, length_push}
+use Rattle.script_tree.specs.Names.{is_name, place_in}
 use Rattle.script_tree.specs.Tree.{Tree, Number, Constant, Input, Pick, Acc, Apply, Join, If}
 use Rattle.script_tree.specs.Scripts.{all_leaves, input_below, standing, different_names_from, different_names}
 use Rattle.script_tree.specs.declared.expr.Unary.TheVariants.{Negate, Not}
 use Rattle.script_tree.specs.declared.expr.Unary.{Unary}
 use Rattle.script_tree.specs.declared.expr.Binary.{Binary}
 use Rattle.script_tree.specs.declared.expr.Binary.TheVariants.{OrElse, Or, And, Equal, Unequal, Less, AtMost, Greater, AtLeast, Add, Subtract, Multiply, Divide, Remainder}
+use Rattle.script_tree.proofs.Truths.{and_left, and_right}
+use Rattle.script_tree.proofs.Texts.{bytes_eq-sym}
 use Rattle.script_grammar.specs.declared.token.Word.TheVariants as word
 use Rattle.script_grammar.specs.declared.token.Token.{Token}
 use Rattle.script_grammar.specs.declared.token.Token.TheVariants as token
-use Rattle.script_grammar.specs.Grammar.{Written, Plain, Inside, Before, Between, Choice, Spells, sign, mark, tokens, tree}
+use Rattle.script_grammar.specs.Grammar.{Written, Plain, Inside, Before, Between, Choice, Spells, sign, prefix_sign, tokens, tree}
 use Rattle.expr_script.specs.declared.atoms.Atoms.TheVariants.{Script}
-use Rattle.expr_script.specs.Words.{is_digits, value, number, place_of, name_token, look_up, short_signs, long_signs, script_words, short_sign, sign_token, fixed_token, other_token, token as token_of}
+use Rattle.expr_script.specs.Words.{is_digits, value, number, name_token, look_up, short_signs, long_signs, script_words, short_sign, sign_token, fixed_token, other_token, token as token_of}
 use Rattle.expr_script.specs.Tokens.{with_name, script_names, tokens_among}
 use Rattle.expr_script.proofs.Kept.{with_known, with_new, with_other, place_of-le}
-use Rattle.expr_script.proofs.Lean.{IsThere, name_at, below}
+use Rattle.expr_script.proofs.Lean.{IsThere, name_at}
 use Rattle.expr_script.proofs.TokenBack.{called, named, digits_no_name, name_is}
 
 -- the lists of all items, one behind the other
@@ -61,13 +63,9 @@ sign_calls names Multiply = refl
 sign_calls names Divide = refl
 sign_calls names Remainder = refl
 
-mark_calls : (names : List (List ℕ)) (op : Unary) → called names (mark op) ≡ []
+mark_calls : (names : List (List ℕ)) (op : Unary) → called names (prefix_sign op) ≡ []
 mark_calls names Negate = refl
 mark_calls names Not = refl
-
-append-nil' : (xs : List (List ℕ)) → xs ++ [] ≡ xs
-append-nil' [] = refl
-append-nil' (x ∷ xs) = ap (λ l. x ∷ l) (append-nil' xs)
 
 written_calls : (names : List (List ℕ)) (w : Written) → flat (called names) (tokens w) ≡ standing names (tree w)
 unfolding flat
@@ -77,7 +75,7 @@ written_calls names (Plain word.No) = refl
 written_calls names (Plain (word.Called i)) = refl
 written_calls names (Plain (word.Pick i)) = refl
 written_calls names (Plain word.Acc) = refl
-written_calls names (Inside w) = flat_on (called names) (tokens w) (token.Closes ∷ []) ∙ append-nil' (flat (called names) (tokens w)) ∙ written_calls names w
+written_calls names (Inside w) = flat_on (called names) (tokens w) (token.Closes ∷ []) ∙ append-nil (flat (called names) (tokens w)) ∙ written_calls names w
 written_calls names (Before op w) = ap (λ l. l ++ flat (called names) (tokens w)) (mark_calls names op) ∙ written_calls names w
 written_calls names (Between op a b) =
     flat_on (called names) (tokens a) (sign op ∷ tokens b)
@@ -135,21 +133,21 @@ words_call acc names (w ∷ ws) h =
 
 -- no name comes twice
 Distinct : List (List ℕ) → Type 0
-Distinct names = (i : ℕ) → i < length names → place_of names (unwrap_or (slice_get names i) []) ≡ i
+Distinct names = (i : ℕ) → i < length names → place_in names (unwrap_or (slice_get names i) []) ≡ i
 
-place_front : (known : List (List ℕ)) (w v : List ℕ) → place_of known v < length known → place_of (known ++ w ∷ []) v ≡ place_of known v
+place_front : (known : List (List ℕ)) (w v : List ℕ) → place_in known v < length known → place_in (known ++ w ∷ []) v ≡ place_in known v
 place_front [] w v h = absurd (omega (arith, h))
 place_front (n ∷ known) w v h = by_test (bytes_eq n v) (λ k. place_front known w v k) h
   where
-    by_test : (b : Bool) → (place_of known v < length known → place_of (known ++ w ∷ []) v ≡ place_of known v) → (if b then 0 else place_of known v + 1) < suc (length known) → (if b then 0 else place_of (known ++ w ∷ []) v + 1) ≡ (if b then 0 else place_of known v + 1)
+    by_test : (b : Bool) → (place_in known v < length known → place_in (known ++ w ∷ []) v ≡ place_in known v) → (if b then 0 else place_in known v + 1) < suc (length known) → (if b then 0 else place_in (known ++ w ∷ []) v + 1) ≡ (if b then 0 else place_in known v + 1)
     by_test true f k = refl
     by_test false f k = ap (λ p. p + 1) (f (omega (arith, k)))
 
-place_end : (known : List (List ℕ)) (w : List ℕ) → length known ≤ place_of known w → place_of (known ++ w ∷ []) w ≡ length known
+place_end : (known : List (List ℕ)) (w : List ℕ) → length known ≤ place_in known w → place_in (known ++ w ∷ []) w ≡ length known
 place_end [] w h = ap (λ b. if b then 0 else 0 + 1) ((bytes_eq-Decides w w).1 refl)
 place_end (n ∷ known) w h = by_test (bytes_eq n w) (λ k. place_end known w k) h
   where
-    by_test : (b : Bool) → (length known ≤ place_of known w → place_of (known ++ w ∷ []) w ≡ length known) → suc (length known) ≤ (if b then 0 else place_of known w + 1) → (if b then 0 else place_of (known ++ w ∷ []) w + 1) ≡ suc (length known)
+    by_test : (b : Bool) → (length known ≤ place_in known w → place_in (known ++ w ∷ []) w ≡ length known) → suc (length known) ≤ (if b then 0 else place_in known w + 1) → (if b then 0 else place_in (known ++ w ∷ []) w + 1) ≡ suc (length known)
     by_test true f k = absurd (omega (arith, k))
     by_test false f k = omega (arith, f (omega (arith, k)))
 
@@ -164,27 +162,23 @@ get_end [] w (suc i) e = absurd (omega (arith, e))
 get_end (n ∷ known) w zero e = absurd (omega (arith, e))
 get_end (n ∷ known) w (suc i) e = get_end known w i (omega (arith, e))
 
-length_push : (known : List (List ℕ)) (w : List ℕ) → length (known ++ w ∷ []) ≡ length known + 1
-length_push [] w = omega arith
-length_push (n ∷ known) w = omega (arith, length_push known w)
-
-push_distinct : (known : List (List ℕ)) (w : List ℕ) → Distinct known → length known ≤ place_of known w → Distinct (known ++ w ∷ [])
+push_distinct : (known : List (List ℕ)) (w : List ℕ) → Distinct known → length known ≤ place_in known w → Distinct (known ++ w ∷ [])
 unfolding Distinct
 push_distinct known w d new i h = by_order (cases_lt i (length known))
   where
-    by_order : (i < length known) ⊎ (length known ≤ i) → place_of (known ++ w ∷ []) (unwrap_or (slice_get (known ++ w ∷ []) i) []) ≡ i
+    by_order : (i < length known) ⊎ (length known ≤ i) → place_in (known ++ w ∷ []) (unwrap_or (slice_get (known ++ w ∷ []) i) []) ≡ i
     by_order (inl front) =
-        ap (place_of (known ++ w ∷ [])) (get_front known w i front)
+        ap (place_in (known ++ w ∷ [])) (get_front known w i front)
         ∙ place_front known w (unwrap_or (slice_get known i) []) (omega (arith, d i front, front))
         ∙ d i front
     by_order (inr end) =
         let e : i ≡ length known = omega (arith, end, h, length_push known w) in
-        ap (place_of (known ++ w ∷ [])) (get_end known w i e) ∙ place_end known w new ∙ sym e
+        ap (place_in (known ++ w ∷ [])) (get_end known w i e) ∙ place_end known w new ∙ sym e
 
 with_distinct : (known : List (List ℕ)) (w : List ℕ) → Distinct known → Distinct (with_name known w)
-with_distinct known w d = by_order (cases_lt (place_of known w) (length known)) (is_name w) refl
+with_distinct known w d = by_order (cases_lt (place_in known w) (length known)) (is_name w) refl
   where
-    by_order : (place_of known w < length known) ⊎ (length known ≤ place_of known w) → (n : Bool) → is_name w ≡ n → Distinct (with_name known w)
+    by_order : (place_in known w < length known) ⊎ (length known ≤ place_in known w) → (n : Bool) → is_name w ≡ n → Distinct (with_name known w)
     by_order (inl there) n e = subst Distinct (sym (with_known known w there)) d
     by_order (inr end) true e = subst Distinct (sym (with_new known w e (omega (arith, end, place_of-le known w)))) (push_distinct known w d end)
     by_order (inr end) false e = subst Distinct (sym (with_other known w e)) d
@@ -193,25 +187,13 @@ fold_distinct : (known ws : List (List ℕ)) → Distinct known → Distinct (fo
 fold_distinct known [] d = d
 fold_distinct known (w ∷ ws) d = fold_distinct (with_name known w) ws (with_distinct known w d)
 
-pub distinct_names : (ws : List (List ℕ)) (i : ℕ) → i < length (script_names ws) → place_of (script_names ws) (unwrap_or (slice_get (script_names ws) i) []) ≡ i
+pub distinct_names : (ws : List (List ℕ)) (i : ℕ) → i < length (script_names ws) → place_in (script_names ws) (unwrap_or (slice_get (script_names ws) i) []) ≡ i
 unfolding Distinct
 distinct_names ws = fold_distinct [] ws (λ i h. absurd (omega (arith, h)))
 
-not_below : (m n : ℕ) → nat_lt m n ≡ false → n ≤ m
-not_below m n h = grind (arith, nat_tests)
-
 -- the names that were seen are the known ones
 AlikeSeen : List (List ℕ) → List (List ℕ) → Type 0
-AlikeSeen known seen = (v : List ℕ) → list_any (bytes_eq v) seen ≡ nat_lt (place_of known v) (length known)
-
-bytes_eq-sym : (v w : List ℕ) → bytes_eq v w ≡ bytes_eq w v
-bytes_eq-sym v w = by_tests (bytes_eq v w) refl (bytes_eq w v) refl
-  where
-    by_tests : (a : Bool) → bytes_eq v w ≡ a → (b : Bool) → bytes_eq w v ≡ b → a ≡ b
-    by_tests true e true f = refl
-    by_tests true e false f = sym ((bytes_eq-Decides w v).1 (sym ((bytes_eq-Decides v w).0 e))) ∙ f
-    by_tests false e true f = sym e ∙ (bytes_eq-Decides v w).1 (sym ((bytes_eq-Decides w v).0 f))
-    by_tests false e false f = refl
+AlikeSeen known seen = (v : List ℕ) → list_any (bytes_eq v) seen ≡ nat_lt (place_in known v) (length known)
 
 lt_next : (p l : ℕ) → nat_lt (p + 1) (suc l) ≡ nat_lt p l
 lt_next p l = grind (arith, nat_tests)
@@ -219,7 +201,7 @@ lt_next p l = grind (arith, nat_tests)
 zero_lt : (l : ℕ) → nat_lt 0 (suc l) ≡ true
 zero_lt l = grind (arith, nat_tests)
 
-there_push : (known : List (List ℕ)) (w v : List ℕ) → nat_lt (place_of (known ++ w ∷ []) v) (length (known ++ w ∷ [])) ≡ (bytes_eq w v || nat_lt (place_of known v) (length known))
+there_push : (known : List (List ℕ)) (w v : List ℕ) → nat_lt (place_in (known ++ w ∷ []) v) (length (known ++ w ∷ [])) ≡ (bytes_eq w v || nat_lt (place_in known v) (length known))
 there_push [] w v = by_test (bytes_eq w v)
   where
     by_test : (b : Bool) → nat_lt (if b then 0 else 0 + 1) 1 ≡ (b || false)
@@ -231,12 +213,12 @@ there_push (n ∷ known) w v = by_test (bytes_eq n v) (there_push known w v)
     by_true true = zero_lt (length (known ++ w ∷ []))
     by_true false = zero_lt (length (known ++ w ∷ [])) ∙ sym (zero_lt (length known))
 
-    by_test : (b : Bool) → nat_lt (place_of (known ++ w ∷ []) v) (length (known ++ w ∷ [])) ≡ (bytes_eq w v || nat_lt (place_of known v) (length known)) → nat_lt (if b then 0 else place_of (known ++ w ∷ []) v + 1) (suc (length (known ++ w ∷ []))) ≡ (bytes_eq w v || nat_lt (if b then 0 else place_of known v + 1) (suc (length known)))
+    by_test : (b : Bool) → nat_lt (place_in (known ++ w ∷ []) v) (length (known ++ w ∷ [])) ≡ (bytes_eq w v || nat_lt (place_in known v) (length known)) → nat_lt (if b then 0 else place_in (known ++ w ∷ []) v + 1) (suc (length (known ++ w ∷ []))) ≡ (bytes_eq w v || nat_lt (if b then 0 else place_in known v + 1) (suc (length known)))
     by_test true rest = by_true (bytes_eq w v)
     by_test false rest =
-        lt_next (place_of (known ++ w ∷ []) v) (length (known ++ w ∷ []))
+        lt_next (place_in (known ++ w ∷ []) v) (length (known ++ w ∷ []))
         ∙ rest
-        ∙ ap (λ b. bytes_eq w v || b) (sym (lt_next (place_of known v) (length known)))
+        ∙ ap (λ b. bytes_eq w v || b) (sym (lt_next (place_in known v) (length known)))
 
 seen_push : (known seen : List (List ℕ)) (w : List ℕ) → AlikeSeen known seen → AlikeSeen (known ++ w ∷ []) (w ∷ seen)
 unfolding AlikeSeen
@@ -245,15 +227,15 @@ seen_push known seen w h v = ap (λ b. b || list_any (bytes_eq v) seen) (bytes_e
 -- names that come one after the other are the different ones
 fold_different : (known seen ws : List (List ℕ)) → AlikeSeen known seen → AllByRecursion (λ w. is_name w ≡ true) ws → fold with_name known ws ≡ known ++ different_names_from seen ws
 unfolding AlikeSeen
-fold_different known seen [] h n = sym (append-nil' known)
+fold_different known seen [] h n = sym (append-nil known)
 fold_different known seen (w ∷ ws) h n = by_test (list_any (bytes_eq w) seen) refl (fold_different known seen ws h n.1) (fold_different (known ++ w ∷ []) (w ∷ seen) ws (seen_push known seen w h) n.1)
   where
     by_test : (b : Bool) → list_any (bytes_eq w) seen ≡ b → fold with_name known ws ≡ known ++ different_names_from seen ws → fold with_name (known ++ w ∷ []) ws ≡ (known ++ w ∷ []) ++ different_names_from (w ∷ seen) ws → fold with_name (with_name known w) ws ≡ known ++ (if b then different_names_from seen ws else w ∷ different_names_from (w ∷ seen) ws)
     by_test true e old new =
-        ap (λ l. fold with_name l ws) (with_known known w (below (place_of known w) (length known) (sym (h w) ∙ e)))
+        ap (λ l. fold with_name l ws) (with_known known w (ltb-true (place_in known w) (length known) (sym (h w) ∙ e)))
         ∙ old
     by_test false e old new =
-        let at_end : place_of known w ≡ length known = omega (arith, not_below (place_of known w) (length known) (sym (h w) ∙ e), place_of-le known w) in
+        let at_end : place_in known w ≡ length known = omega (arith, ltb-false (place_in known w) (length known) (sym (h w) ∙ e), place_of-le known w) in
         ap (λ l. fold with_name l ws) (with_new known w n.0 at_end)
         ∙ new
         ∙ append_assoc known (w ∷ []) (different_names_from (w ∷ seen) ws)
@@ -267,19 +249,11 @@ all_on : (xs ys : List (List ℕ)) → AllByRecursion (λ w. is_name w ≡ true)
 all_on [] ys a b = b
 all_on (x ∷ xs) ys a b = (a.0, all_on xs ys a.1 b)
 
-and_left : (a b : Bool) → (a && b) ≡ true → a ≡ true
-and_left true b h = refl
-and_left false b h = h
-
-and_right : (a b : Bool) → (a && b) ≡ true → b ≡ true
-and_right true b h = h
-and_right false b h = let e : false ≡ true = h in cc
-
 -- what stands in a tree whose inputs are places of names
 pub standing_named : (names : List (List ℕ)) (t : Tree) → list_all is_name names ≡ true → all_leaves (input_below (length names)) t ≡ true → AllByRecursion (λ w. is_name w ≡ true) (standing names t)
 standing_named names (Number z) n h = tt
 standing_named names (Constant b) n h = tt
-standing_named names (Input i) n h = (name_is names i (below i (length names) h) n, tt)
+standing_named names (Input i) n h = (name_is names i (ltb-true i (length names) h) n, tt)
 standing_named names (Pick i) n h = tt
 standing_named names Acc n h = tt
 standing_named names (Apply op x) n h = standing_named names x n h
@@ -300,7 +274,7 @@ standing_named names (If c x y) n h =
 pub none_standing : (names : List (List ℕ)) (t : Tree) → all_leaves (input_below 0) t ≡ true → standing names t ≡ []
 none_standing names (Number z) h = refl
 none_standing names (Constant b) h = refl
-none_standing names (Input i) h = absurd (omega (arith, below i 0 h))
+none_standing names (Input i) h = absurd (omega (arith, ltb-true i 0 h))
 none_standing names (Pick i) h = refl
 none_standing names Acc h = refl
 none_standing names (Apply op x) h = none_standing names x h

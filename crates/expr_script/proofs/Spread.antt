@@ -1,13 +1,13 @@
 -- What is written of a script, before other words: the canonical writing is never longer.
 use Rattle.std.proofs.Common.{◌≡◌, ℕ, ◌+◌, ◌<◌, ◌≤◌, Bool, true, false, List, [], ◌∷◌, ◌++◌, length, map, refl, sym, ap, ◌∙◌, subst, arith}
 use Rattle.std.specs.Prelude.{nat_le, if◌then◌else◌}
-use Rattle.std.proofs.lemmas.Bool.Decides.{nat_tests}
 use Rattle.script_grammar.specs.declared.token.Word.{Word}
 use Rattle.script_grammar.specs.declared.token.Word.TheVariants.{Digits, Yes, No, Called, Pick as Picked, Acc as Old}
 use Rattle.script_grammar.specs.declared.token.Token.{Token}
 use Rattle.script_grammar.specs.declared.token.Token.TheVariants.{Plain as W, Opens, Closes, IfWord, ThenWord, ElseWord}
-use Rattle.script_grammar.specs.Grammar.{Written, Plain, Inside, Before, Between, Choice, level, left, binds, IsScript, sign, mark, tokens, tree, word_tree}
+use Rattle.script_grammar.specs.Grammar.{Written, Plain, Inside, Before, Between, Choice, level, left, binds, IsScript, sign, prefix_sign, tokens, tree, word_tree}
 use Rattle.script_grammar.specs.Canonical.{put, canonical}
+use Rattle.script_grammar.proofs.Printing.{put_same}
 use Rattle.script_tree.specs.Tree.{Apply, Join, If}
 use Rattle.expr_script.specs.Cut.{begins_word}
 use Rattle.expr_script.specs.Joined.{behind}
@@ -18,7 +18,7 @@ use Rattle.expr_script.proofs.CutBack.{length_behind, behind_any}
 unfoldable pub spread : List (List ℕ) → Written → List (List ℕ) → List (List ℕ)
 spread names (Plain word) more = token_text names (W word) ∷ more
 spread names (Inside w) more = token_text names Opens ∷ spread names w (token_text names Closes ∷ more)
-spread names (Before op w) more = token_text names (mark op) ∷ spread names w more
+spread names (Before op w) more = token_text names (prefix_sign op) ∷ spread names w more
 spread names (Between op a b) more = spread names a (token_text names (sign op) ∷ spread names b more)
 spread names (Choice c a b) more = token_text names IfWord ∷ spread names c (token_text names ThenWord ∷ spread names a (token_text names ElseWord ∷ spread names b more))
 
@@ -30,7 +30,7 @@ pub spread_is : (names : List (List ℕ)) (w : Written) (more : List (List ℕ))
 unfolding spread
 spread_is names (Plain word) more = refl
 spread_is names (Inside w) more = ap (λ l. token_text names Opens ∷ l) (spread_is names w (token_text names Closes ∷ more) ∙ map_on names (tokens w) (Closes ∷ []) more)
-spread_is names (Before op w) more = ap (λ l. token_text names (mark op) ∷ l) (spread_is names w more)
+spread_is names (Before op w) more = ap (λ l. token_text names (prefix_sign op) ∷ l) (spread_is names w more)
 spread_is names (Between op a b) more =
     spread_is names a (token_text names (sign op) ∷ spread names b more)
     ∙ ap (λ l. map (token_text names) (tokens a) ++ (token_text names (sign op) ∷ l)) (spread_is names b more)
@@ -58,7 +58,7 @@ spread_more : (names : List (List ℕ)) (w : Written) {xs ys : List (List ℕ)} 
 unfolding spread
 spread_more names (Plain word) p = push (token_text names (W word)) p
 spread_more names (Inside w) p = push (token_text names Opens) (spread_more names w (push (token_text names Closes) p))
-spread_more names (Before op w) p = push (token_text names (mark op)) (spread_more names w p)
+spread_more names (Before op w) p = push (token_text names (prefix_sign op)) (spread_more names w p)
 spread_more names (Between op a b) p = spread_more names a (push (token_text names (sign op)) (spread_more names b p))
 spread_more names (Choice c a b) p =
     push (token_text names IfWord) (spread_more names c (push (token_text names ThenWord) (spread_more names a (push (token_text names ElseWord) (spread_more names b p)))))
@@ -72,12 +72,6 @@ unfolding spread
 unwrap names v more =
     chained (spread_more names v (add_sign (token_text names Closes) more refl (omega arith)))
     (add_sign (token_text names Opens) (spread names v (token_text names Closes ∷ more)) refl (omega arith))
-
-le_true : (a b : ℕ) → a ≤ b → nat_le a b ≡ true
-le_true a b h = grind (arith, nat_tests)
-
-put_same : (l : ℕ) (w : Written) → l ≤ level w → put l w ≡ w
-put_same l w h = ap (λ b. if b then w else Inside w) (le_true l (level w) h)
 
 word_canonical : (word : Word) → canonical (word_tree word) ≡ Plain word
 word_canonical (Digits z) = refl
@@ -106,7 +100,7 @@ placed names (Inside w) l more g h = by_level (nat_le l (level (canonical (tree 
     by_level false p = push (token_text names Opens) p
 placed names (Before op w) l more g h =
     same_written names (put l (canonical (Apply op (tree w)))) (canonical (Apply op (tree w))) more _ (put_same l (canonical (Apply op (tree w))) h)
-    (push (token_text names (mark op)) (placed names w 7 more g.1 g.0))
+    (push (token_text names (prefix_sign op)) (placed names w 7 more g.1 g.0))
 placed names (Between op a b) l more g h =
     same_written names (put l (canonical (Join op (tree a) (tree b)))) (canonical (Join op (tree a) (tree b))) more _ (put_same l (canonical (Join op (tree a) (tree b))) h)
     (chained

@@ -4,24 +4,27 @@ use Rattle.std.specs.Prelude.{◌&&◌, not, if◌then◌else◌, nat_lt, nat_le
 use Rattle.std.specs.List.{list_all}
 use Rattle.std.specs.Str.{bytes_eq}
 use Rattle.std.specs.Char.{is_ascii_digit}
-use Rattle.std.proofs.lemmas.Bool.Decides.{nat_tests}
 use Rattle.std.proofs.lemmas.Fmt.{decimal_nonempty}
 use Rattle.std.proofs.lemmas.List.Sums.{take_while-cons}
+use Rattle.std.specs.Cmp.Derive.{both_true}
+use Rattle.std.proofs.Math.Bool.{and-false}
+use Rattle.std.proofs.lemmas.Bool.{lt-ltb, ltb-true}
 use Rattle.script_tree.specs.declared.limits.TheConstants.{NAME_BYTES}
 use Rattle.script_tree.specs.declared.expr.Unary.{Unary}
 use Rattle.script_tree.specs.declared.expr.Unary.TheVariants.{Negate, Not}
 use Rattle.script_tree.specs.declared.expr.Binary.{Binary}
 use Rattle.script_tree.specs.declared.expr.Binary.TheVariants.{OrElse, Or, And, Equal, Unequal, Less, AtMost, Greater, AtLeast, Add, Subtract, Multiply, Divide, Remainder}
-use Rattle.script_tree.specs.Names.{is_name, is_word, starts_well, is_reserved}
+use Rattle.script_tree.specs.Names.{is_name, is_word, starts_well, is_reserved, place_in}
 use Rattle.script_tree.specs.Tree.{Tree, Number, Input, Pick, Acc}
+use Rattle.script_tree.proofs.Truths.{and_left, and_right}
 use Rattle.script_grammar.specs.declared.token.Word.{Word}
 use Rattle.script_grammar.specs.declared.token.Word.TheVariants as word
 use Rattle.script_grammar.specs.declared.token.Token.{Token}
 use Rattle.script_grammar.specs.declared.token.Token.TheVariants.{Plain, Sign, Minus, Bang, Opens, Closes, IfWord, ThenWord, ElseWord, Stray}
-use Rattle.script_grammar.specs.Grammar.{word_tree, sign, mark}
+use Rattle.script_grammar.specs.Grammar.{word_tree, sign, prefix_sign}
 use Rattle.expr_script.specs.declared.atoms.Atoms.{Atoms}
 use Rattle.expr_script.specs.declared.atoms.Atoms.TheVariants.{Script, Body}
-use Rattle.expr_script.specs.Words.{is_digits, number, place_of, name_token, fixed_token, other_token, token}
+use Rattle.expr_script.specs.Words.{is_digits, number, name_token, fixed_token, other_token, token}
 use Rattle.expr_script.specs.Pieces.{piece_len, sign_len}
 use Rattle.expr_script.specs.Cut.{begins_word, begins_blank}
 use Rattle.expr_script.specs.Joined.{IsWhole}
@@ -55,12 +58,8 @@ pub record Reads (atoms : Atoms) (names : List (List ℕ)) (t : Token) : Type 0 
   pub kind : begins_word (token_text names t) ≡ is_word_token t
   pub name : named (token_text names t) ≡ called names t
 
-and_false : (b : Bool) → (b && false) ≡ false
-and_false true = refl
-and_false false = refl
-
 no_pick : (b : Bool) (t rest : Token) (c : Bool) → c ≡ false → (if b && c then t else rest) ≡ rest
-no_pick b t rest c e = ap (λ d. if b && d then t else rest) e ∙ ap (λ d. if d then t else rest) (and_false b)
+no_pick b t rest c e = ap (λ d. if b && d then t else rest) e ∙ ap (λ d. if d then t else rest) (and-false b)
 
 -- a word that is none of those of one kind alone
 record IsFixed (w : List ℕ) : Type 0 where
@@ -118,7 +117,7 @@ reads_sign atoms names Multiply = fixed atoms names (Sign Multiply) (codes "*") 
 reads_sign atoms names Divide = fixed atoms names (Sign Divide) (codes "/") refl refl (closed (codes "/") refl refl refl refl refl refl refl) refl (whole (codes "/") (omega arith) refl refl) refl
 reads_sign atoms names Remainder = fixed atoms names (Sign Remainder) (codes "%") refl refl (closed (codes "%") refl refl refl refl refl refl refl) refl (whole (codes "%") (omega arith) refl refl) refl
 
-reads_mark : (atoms : Atoms) (names : List (List ℕ)) (op : Unary) → Reads atoms names (mark op)
+reads_mark : (atoms : Atoms) (names : List (List ℕ)) (op : Unary) → Reads atoms names (prefix_sign op)
 reads_mark atoms names Negate = fixed atoms names Minus (codes "-") refl refl (closed (codes "-") refl refl refl refl refl refl refl) refl (whole (codes "-") (omega arith) refl refl) refl
 reads_mark atoms names Not = fixed atoms names Bang (codes "!") refl refl (closed (codes "!") refl refl refl refl refl refl refl) refl (whole (codes "!") (omega arith) refl refl) refl
 
@@ -132,17 +131,6 @@ reads_tokens atoms names = record {
   then_word = fixed atoms names ThenWord (codes "then") refl refl (closed (codes "then") refl refl refl refl refl refl refl) refl (whole (codes "then") (omega arith) refl refl) refl;
   else_word = fixed atoms names ElseWord (codes "else") refl refl (closed (codes "else") refl refl refl refl refl refl refl) refl (whole (codes "else") (omega arith) refl refl) refl;
 }
-
-and_left : (a b : Bool) → (a && b) ≡ true → a ≡ true
-and_left true b h = refl
-and_left false b h = h
-
-and_right : (a b : Bool) → (a && b) ≡ true → b ≡ true
-and_right true b h = h
-and_right false b h = let e : false ≡ true = h in cc
-
-and_both : {a b : Bool} → a ≡ true → b ≡ true → (a && b) ≡ true
-and_both {a} {b} p q = ap (λ x. x && b) p ∙ q
 
 all_run : (w : List ℕ) → list_all is_word w ≡ true → length (take_while is_word w) ≡ length w
 all_run [] h = refl
@@ -159,17 +147,14 @@ word_whole (b ∷ bs) s h =
 
 pub digits_words : (ds : List ℕ) → list_all is_ascii_digit ds ≡ true → list_all is_word ds ≡ true
 digits_words [] h = refl
-digits_words (c ∷ cs) h = and_both (digit_word c (and_left (is_ascii_digit c) (list_all is_ascii_digit cs) h)) (digits_words cs (and_right (is_ascii_digit c) (list_all is_ascii_digit cs) h))
+digits_words (c ∷ cs) h = both_true (digit_word c (and_left (is_ascii_digit c) (list_all is_ascii_digit cs) h)) (digits_words cs (and_right (is_ascii_digit c) (list_all is_ascii_digit cs) h))
 
 -- what digits alone have: one at least, and all are digits
 pub all_digits : (ds : List ℕ) → is_digits ds ≡ true → list_all is_ascii_digit ds ≡ true
 all_digits ds h = and_right (nat_lt 0 (length ds)) (list_all is_ascii_digit ds) h
 
-lt_true : (m n : ℕ) → m < n → nat_lt m n ≡ true
-lt_true m n h = grind (arith, nat_tests)
-
 pub are_digits : (ds : List ℕ) → 0 < length ds → list_all is_ascii_digit ds ≡ true → is_digits ds ≡ true
-are_digits ds s h = and_both (lt_true 0 (length ds) s) h
+are_digits ds s h = both_true (lt-ltb 0 (length ds) s) h
 
 pub digits_no_name : (ds : List ℕ) → is_digits ds ≡ true → is_name ds ≡ false
 digits_no_name [] h = refl
@@ -194,25 +179,22 @@ name_words w h =
 -- the names of a script: each is a name, and no two are the same
 pub record KnownNames (names : List (List ℕ)) : Type 0 where
   pub named : list_all is_name names ≡ true
-  pub distinct : (i : ℕ) → i < length names → place_of names (unwrap_or (slice_get names i) []) ≡ i
+  pub distinct : (i : ℕ) → i < length names → place_in names (unwrap_or (slice_get names i) []) ≡ i
 
 pub name_is : (names : List (List ℕ)) (i : ℕ) → i < length names → list_all is_name names ≡ true → is_name (unwrap_or (slice_get names i) []) ≡ true
 name_is [] i h n = absurd (omega (arith, h))
 name_is (w ∷ names) zero h n = and_left (is_name w) (list_all is_name names) n
 name_is (w ∷ names) (suc i) h n = name_is names i (omega (arith, h)) (and_right (is_name w) (list_all is_name names) n)
 
-below : (m n : ℕ) → nat_lt m n ≡ true → m < n
-below m n h = grind (arith, nat_tests)
-
 -- a name of a script begins as a word, and so does a number
 pub name_begins : (names : List (List ℕ)) (i : ℕ) → nat_lt i (length names) ≡ true → list_all is_name names ≡ true → begins_word (unwrap_or (slice_get names i) []) ≡ true
 name_begins names i h k =
     let w = unwrap_or (slice_get names i) [] in
-    let n : is_name w ≡ true = name_is names i (below i (length names) h) k in
+    let n : is_name w ≡ true = name_is names i (ltb-true i (length names) h) k in
     (word_whole w (name_some w n) (name_words w n)).1
 
 pub digits_first : (n : ℕ) → nat_lt n (2 ^ 63) ≡ true → begins_word (decimal n) ≡ true
-digits_first n h = let small : n < 2 ^ 63 = below n (2 ^ 63) h in digits_begin (decimal n) (decimal_digits n (omega (arith, small))) (decimal_nonempty n (omega (arith, small)))
+digits_first n h = let small : n < 2 ^ 63 = ltb-true n (2 ^ 63) h in digits_begin (decimal n) (decimal_digits n (omega (arith, small))) (decimal_nonempty n (omega (arith, small)))
 
 reads_called : (acc : Bool) (names : List (List ℕ)) (i : ℕ) → KnownNames names → i < length names → Reads (Script acc) names (Plain (word.Called i))
 reads_called acc names i k h =
@@ -231,7 +213,7 @@ reads_called acc names i k h =
 
 reads_digits : (atoms : Atoms) (names : List (List ℕ)) (n : ℕ) → nat_lt n (2 ^ 63) ≡ true → Reads atoms names (Plain (word.Digits (pos n)))
 reads_digits atoms names n h =
-    let small : n < 2 ^ 63 = below n (2 ^ 63) h in
+    let small : n < 2 ^ 63 = ltb-true n (2 ^ 63) h in
     let w = decimal n in
     let some : 0 < length w = decimal_nonempty n (omega (arith, small)) in
     let d : is_digits w ≡ true = are_digits w some (decimal_digits n (omega (arith, small))) in
@@ -278,7 +260,7 @@ reads_pick k names (suc (suc (suc zero))) f h =
     ∙ no_pick (nat_lt 2 k) (Plain (word.Pick 2)) _ (bytes_eq (codes "pick4") (codes "pick3")) refl
     ∙ pick_here (nat_lt 3 k) (Plain (word.Pick 3)) _ h)
     (whole (codes "pick4") (omega arith) refl refl) refl refl
-reads_pick k names (suc (suc (suc (suc i)))) f h = absurd (omega (arith, f, below (suc (suc (suc (suc i)))) k h))
+reads_pick k names (suc (suc (suc (suc i)))) f h = absurd (omega (arith, f, ltb-true (suc (suc (suc (suc i)))) k h))
 
 reads_acc : (names : List (List ℕ)) → Reads (Script true) names (Plain word.Acc)
 reads_acc names = written_as (Script true) names (Plain word.Acc) (codes "acc") refl refl (whole (codes "acc") (omega arith) refl refl) refl refl
@@ -312,7 +294,7 @@ reads_word atoms names k f (word.Digits (pos n)) h = reads_digits atoms names n 
 reads_word atoms names k f (word.Digits (negsuc n)) h = let e : false ≡ true = h in cc
 reads_word atoms names k f word.Yes h = reads_yes atoms names
 reads_word atoms names k f word.No h = reads_no atoms names
-reads_word (Script acc) names k f (word.Called i) h = reads_called acc names i k (below i (length names) h)
+reads_word (Script acc) names k f (word.Called i) h = reads_called acc names i k (ltb-true i (length names) h)
 reads_word (Body picks) names k f (word.Called i) h = let e : false ≡ true = h in cc
 reads_word (Script acc) names k f (word.Pick i) h = let e : false ≡ true = h in cc
 reads_word (Body picks) names k f (word.Pick i) h = reads_pick picks names i f h

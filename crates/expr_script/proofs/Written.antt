@@ -1,6 +1,7 @@
 -- One token of a text that is written.
-use Rattle.std.proofs.Common.{◌≡◌, ℕ, ◌+◌, ◌<◌, ◌≤◌, Bool, List, [], ◌∷◌, ◌++◌, length, map, drop, get_or, refl, sym, ap, ◌∙◌, drop-cons, add-one, append_assoc, append-nil}
+use Rattle.std.proofs.Common.{◌≡◌, ℕ, ◌+◌, ◌<◌, ◌≤◌, Bool, List, [], ◌∷◌, ◌++◌, length, map, drop, get_or, refl, sym, ap, ◌∙◌, append_assoc, append-nil}
 use Rattle.std.proofs.Math.ListN.{drop_of_length-le}
+use Rattle.std.proofs.lemmas.List.{drop_more}
 use Rattle.script_grammar.specs.declared.token.Token.{Token}
 use Rattle.expr_script.specs.Cut.{begins_word}
 use Rattle.expr_script.specs.Joined.{gap, behind}
@@ -11,9 +12,6 @@ abbrev pub written : List (List ℕ) → Bool → List Token → List ℕ
 written names behind_word [] = []
 written names behind_word (t ∷ ts) = gap behind_word (token_text names t) ++ (token_text names t ++ written names (begins_word (token_text names t)) ts)
 
-drop_at : (ts : List Token) (i : ℕ) (d : Token) → i < length ts → drop i ts ≡ get_or ts i d ∷ drop (i + 1) ts
-drop_at ts i d h = rw (add-one, drop-cons ts i d) refl
-
 joined : (a g t w : List ℕ) → (a ++ (g ++ t)) ++ w ≡ a ++ (g ++ (t ++ w))
 joined a g t w = append_assoc a (g ++ t) w ∙ ap (λ l. a ++ l) (append_assoc g t w)
 
@@ -23,7 +21,7 @@ written_step text new total names behind_word next ts i d h e n f =
     ap (λ b. new ++ written names b rest) f
     ∙ ap (λ l. l ++ written names (begins_word (token_text names t)) rest) n
     ∙ joined text (gap behind_word (token_text names t)) (token_text names t) (written names (begins_word (token_text names t)) rest)
-    ∙ ap (λ l. text ++ written names behind_word l) (sym (drop_at ts i d h))
+    ∙ ap (λ l. text ++ written names behind_word l) (sym (drop_more ts i d h))
     ∙ e
 
 pub written_end : (text total : List ℕ) (names : List (List ℕ)) (behind_word : Bool) (ts : List Token) (i : ℕ) → length ts ≤ i → text ++ written names behind_word (drop i ts) ≡ total → text ≡ total

@@ -1,15 +1,15 @@
 -- The names and the tokens among words. A word here is a word or a sign of a text, as bytes.
 use Rattle.std.specs.Prelude.{ℕ, ◌&&◌, ◌==◌, if◌then◌else◌, Bool, List, [], ◌∷◌, ◌++◌, length, take, map, fold}
 use Rattle.script_tree.specs.declared.limits.TheConstants.{INPUTS}
-use Rattle.script_tree.specs.Names.{is_name}
+use Rattle.script_tree.specs.Names.{is_name, place_in}
 use Rattle.script_grammar.specs.declared.token.Token.{Token}
 use Rattle.expr_script.specs.declared.atoms.Atoms.{Atoms}
 use Rattle.expr_script.specs.declared.atoms.Atoms.TheVariants.{Script, Body}
-use Rattle.expr_script.specs.Words.{place_of, token}
+use Rattle.expr_script.specs.Words.{token}
 
 -- a name that isn't there yet comes to the end
 abbrev pub with_name : List (List ℕ) → List ℕ → List (List ℕ)
-with_name names word = if is_name word && place_of names word == length names then names ++ word ∷ [] else names
+with_name names word = if is_name word && place_in names word == length names then names ++ word ∷ [] else names
 
 -- the different names among words, in the order of their first appearance
 abbrev pub script_names : List (List ℕ) → List (List ℕ)

@@ -3,7 +3,7 @@ use Rattle.std.specs.Prelude.{ℕ, ◌+◌, ◌-◌, ◌*◌, ◌^◌, pos, Bool
 use Rattle.std.specs.List.{list_all}
 use Rattle.std.specs.Str.{bytes_eq}
 use Rattle.std.specs.Char.{is_ascii_digit}
-use Rattle.script_tree.specs.Names.{is_name}
+use Rattle.script_tree.specs.Names.{is_name, place_in}
 use Rattle.script_tree.specs.declared.expr.Binary.TheVariants.{OrElse, Or, And, Equal, Unequal, Less, AtMost, Greater, AtLeast, Add, Multiply, Divide, Remainder}
 use Rattle.script_grammar.specs.declared.token.Word.TheVariants.{Digits, Yes, No, Called, Pick, Acc}
 use Rattle.script_grammar.specs.declared.token.Token.{Token}
@@ -24,14 +24,9 @@ value n (d ∷ ds) = value (n * 10 + (d - 48)) ds
 abbrev pub number : List ℕ → Token
 number digits = if nat_lt (value 0 digits) (2 ^ 63) then Plain (Digits (pos (value 0 digits))) else Stray
 
--- the place of a name in a list of names, or the list's length where it isn't there
-abbrev pub place_of : List (List ℕ) → List ℕ → ℕ
-place_of [] name = 0
-place_of (n ∷ names) name = if bytes_eq n name then 0 else place_of names name + 1
-
 -- a name stands in scripts alone
 abbrev pub name_token : Atoms → List (List ℕ) → List ℕ → Token
-name_token (Script acc) inputs name = Plain (Called (place_of inputs name))
+name_token (Script acc) inputs name = Plain (Called (place_in inputs name))
 name_token (Body picks) inputs name = Stray
 
 -- the token that stands beside a word in a table, or another one where the word isn't there

@@ -3,7 +3,8 @@
 ghost use Rattle.std.specs.Prelude.{◌≡◌, ◌≤◌, length};
 ghost use Rattle.std.specs.List.{list_all};
 ghost use Rattle.std.specs.Char.{is_ascii_digit};
-ghost use Rattle.expr_script.specs.Words.{is_digits, number, place_of, name_token, short_sign, sign_token, fixed_token, pick_token, other_token, token};
+ghost use Rattle.script_tree.specs.Names.{place_in};
+ghost use Rattle.expr_script.specs.Words.{is_digits, number, name_token, short_sign, sign_token, fixed_token, pick_token, other_token, token};
 
 use crate::atoms::Atoms;
 use script_grammar::token::{Token, Word};
@@ -49,7 +50,7 @@ fn number(digits: &[u8]) -> Token
 
 // The place of a name, or how many names there are where it isn't among them.
 pub fn place_of(names: &NameList, name: &Name) -> usize
-    ensures place { result ≡ place_of names.now name.now }
+    ensures place { result ≡ place_in names.now name.now }
     ensures within { result ≤ length names.now }
 {
     for at in 0..names.len() {

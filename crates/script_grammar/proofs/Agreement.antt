@@ -3,7 +3,7 @@ use Rattle.std.proofs.Common.{◌≡◌, ℕ, ◌+◌, ◌≤◌, Bool, true, fa
 use Rattle.std.specs.Prelude.{nat_le, if◌then◌else◌}
 use Rattle.std.proofs.lemmas.Grind.{common_steps}
 use Rattle.std.proofs.lemmas.List.{append-nil}
-use Rattle.std.proofs.lemmas.Bool.Decides.{nat_tests}
+use Rattle.std.proofs.lemmas.Bool.{leb-true}
 use Rattle.script_tree.specs.declared.expr.Unary.TheVariants.{Negate, Not}
 use Rattle.script_tree.specs.declared.expr.Binary.{Binary}
 use Rattle.script_tree.specs.declared.expr.Binary.TheVariants.{OrElse, Or, And, Equal, Unequal, Less, AtMost, Greater, AtLeast, Add, Subtract, Multiply, Divide, Remainder}
@@ -11,7 +11,7 @@ use Rattle.script_tree.specs.Tree.{Tree, Constant, Apply, Join, If}
 use Rattle.script_grammar.specs.declared.token.Word.TheVariants.{Yes}
 use Rattle.script_grammar.specs.declared.token.Token.{Token}
 use Rattle.script_grammar.specs.declared.token.Token.TheVariants.{Plain as W, Sign, Minus, Bang, Opens, Closes, IfWord, ThenWord, ElseWord}
-use Rattle.script_grammar.specs.Grammar.{sign, mark, Plain, binds, left, word_tree, Spells, Begins, FirstFault}
+use Rattle.script_grammar.specs.Grammar.{sign, prefix_sign, Plain, binds, left, word_tree, Spells, Begins, FirstFault}
 use Rattle.script_grammar.specs.Reading.{InOpen, InPrefix, InRight, InTest, InThen, InElse, Stack, State, Wants, Has, need, settle, reduce, close, operate, on_close, on_then, on_else, step, run, ended, finish, read}
 use Rattle.script_grammar.proofs.Complete.{complete, reading, run_append}
 use Rattle.script_grammar.proofs.Sound.{Part, Stacked, Holds, Says, need_small, between, choice, before, inside, weaker, settle_says, reduce_says, close_says}
@@ -19,9 +19,6 @@ use Rattle.script_grammar.proofs.Sound.{Part, Stacked, Holds, Says, need_small, 
 if_some : {A : Type 0} (t : Bool) (x y : A) → (if t then Some x else None) ≡ Some y → (t ≡ true) × (x ≡ y)
 if_some true x y e = (refl, cc)
 if_some false x y e = cc
-
-le_from : (i j : ℕ) → nat_le i j ≡ true → i ≤ j
-le_from i j h = grind (arith, nat_tests)
 
 says_some : (st st' : State) (ts : List Token) → Some st ≡ Some st' → Says st ts → Says st' ts
 says_some st st' ts e h = let eq : st ≡ st' = cc in subst (λ z. Says z ts) eq h
@@ -31,7 +28,7 @@ operate_says op (Wants s) st' ts h e = cc
 operate_says op (Has s x) st' ts h e =
     let found = if_some (nat_le (need s) (binds op)) (Wants (InRight x op ∷ s)) st' e in
     subst (λ z. Says z (ts ++ sign op ∷ [])) found.1
-    (h.0, h.1, h.2, le_from (need s) (binds op) found.0, h.3, ap (λ z. z ++ sign op ∷ []) h.4 ∙ simp append_assoc)
+    (h.0, h.1, h.2, leb-true (need s) (binds op) found.0, h.3, ap (λ z. z ++ sign op ∷ []) h.4 ∙ simp append_assoc)
 
 on_close_says : (st st' : State) (ts : List Token) → Holds 0 st ts → on_close st ≡ Some st' → Says st' (ts ++ Closes ∷ [])
 on_close_says (Has (InOpen ∷ s) x) st' ts h e =
@@ -97,7 +94,7 @@ step_says (Wants s) Bang ts st' h e = says_some (Wants (InPrefix Not ∷ s)) st'
 step_says (Wants s) Opens ts st' h e = says_some (Wants (InOpen ∷ s)) st' _ e (ts, h, refl)
 step_says (Wants s) IfWord ts st' h e =
     let found = if_some (nat_le (need s) 0) (Wants (InTest ∷ s)) st' e in
-    subst (λ z. Says z (ts ++ IfWord ∷ [])) found.1 (ts, h, le_from (need s) 0 found.0, refl)
+    subst (λ z. Says z (ts ++ IfWord ∷ [])) found.1 (ts, h, leb-true (need s) 0 found.0, refl)
 step_says (Wants s) t ts st' h e = cc
 step_says (Has s x) (Sign op) ts st' h e =
     let is = sign_says op s x st' ts h e in
@@ -157,7 +154,7 @@ ends [] x a b st p = record { written = p.written; grammar = p.grammar; more = [
 ends (InOpen ∷ s) x a b st p =
     begins_more (a ++ b) _ (Closes ∷ []) (ap (λ z. (z ++ b) ++ Closes ∷ []) st.2 ∙ simp append_assoc) (ends s x st.0 (Opens ∷ (b ++ Closes ∷ [])) st.1 (weaker 7 (need s) x _ (need_small s) (inside x b p)))
 ends (InPrefix op ∷ s) x a b st p =
-    begins_more (a ++ b) _ [] (ap (λ z. (z ++ b) ++ []) st.2 ∙ simp (append_assoc, append-nil)) (ends s (Apply op x) st.0 (mark op ∷ b) st.1 (weaker 7 (need s) _ _ (need_small s) (before op x b p)))
+    begins_more (a ++ b) _ [] (ap (λ z. (z ++ b) ++ []) st.2 ∙ simp (append_assoc, append-nil)) (ends s (Apply op x) st.0 (prefix_sign op ∷ b) st.1 (weaker 7 (need s) _ _ (need_small s) (before op x b p)))
 ends (InRight y op ∷ s) x a b st p =
     begins_more (a ++ b) _ [] (ap (λ z. (z ++ b) ++ []) st.5 ∙ simp (append_assoc, append-nil)) (ends s (Join op y x) st.0 (st.1 ++ sign op ∷ b) st.2 (weaker (binds op) (need s) _ _ st.3 (between op y x st.1 b st.4 p)))
 ends (InTest ∷ s) x a b st p =

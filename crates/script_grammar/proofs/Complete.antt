@@ -1,7 +1,7 @@
 -- What is written is read as its tree.
-use Rattle.std.proofs.Common.{◌≡◌, ℕ, ◌<◌, ◌≤◌, true, false, List, [], ◌∷◌, ◌++◌, Option, Some, None, refl, ap, ◌∙◌, arith}
-use Rattle.std.specs.Prelude.{nat_le, if◌then◌else◌}
-use Rattle.std.proofs.lemmas.Bool.Decides.{nat_tests}
+use Rattle.std.proofs.Common.{◌≡◌, ℕ, ◌≤◌, List, [], ◌∷◌, ◌++◌, Option, Some, None, refl, ap, ◌∙◌, arith}
+use Rattle.std.specs.Prelude.{if◌then◌else◌}
+use Rattle.std.proofs.lemmas.Bool.{le-leb, lt-leb}
 use Rattle.script_tree.specs.declared.expr.Unary.{Unary}
 use Rattle.script_tree.specs.declared.expr.Unary.TheVariants.{Negate, Not}
 use Rattle.script_tree.specs.declared.expr.Binary.{Binary}
@@ -50,18 +50,12 @@ step_sign Multiply s x = refl
 step_sign Divide s x = refl
 step_sign Remainder s x = refl
 
-pub le_true : (a b : ℕ) → a ≤ b → nat_le a b ≡ true
-le_true a b h = grind (arith, nat_tests)
-
-le_false : (a b : ℕ) → b < a → nat_le a b ≡ false
-le_false a b h = grind (arith, nat_tests)
-
 -- an operator that is allowed on a stack reduces nothing of it
 stays : (l : ℕ) (s : Stack) (x : Tree) → need s ≤ l → reduce l s x ≡ Has s x
 stays l [] x h = refl
 stays l (InOpen ∷ s) x h = refl
 stays l (InPrefix op ∷ s) x h = refl
-stays l (InRight y op ∷ s) x h = ap (λ b. if b then reduce l s (Join op y x) else Has (InRight y op ∷ s) x) (le_false l (binds op) (omega arith))
+stays l (InRight y op ∷ s) x h = ap (λ b. if b then reduce l s (Join op y x) else Has (InRight y op ∷ s) x) (lt-leb l (binds op) (omega arith))
 stays l (InTest ∷ s) x h = refl
 stays l (InThen c ∷ s) x h = refl
 stays l (InElse c y ∷ s) x h = refl
@@ -70,7 +64,7 @@ pub takes : (op : Binary) (s : Stack) (x : Tree) → need s ≤ binds op → ope
 takes op s x h =
     let within = binds_within op in
     ap (operate op) (stays (left op) s x (omega (arith, within.2)))
-    ∙ ap (λ b. if b then Some (Wants (InRight x op ∷ s)) else None) (le_true (need s) (binds op) h)
+    ∙ ap (λ b. if b then Some (Wants (InRight x op ∷ s)) else None) (le-leb (need s) (binds op) h)
 
 -- reading a script on a stack
 pub record Reads (s : Stack) (w : Written) : Type 0 where
@@ -129,7 +123,7 @@ mutual
             ∙ rb.reads;
         reduces = λ l one le.
             rb.reduces l one (omega (arith, g.1))
-            ∙ ap (λ t. if t then reduce l s (Join op (tree a) (tree b)) else Has (InRight (tree a) op ∷ s) (tree b)) (le_true l (binds op) le);
+            ∙ ap (λ t. if t then reduce l s (Join op (tree a) (tree b)) else Has (InRight (tree a) op ∷ s) (tree b)) (le-leb l (binds op) le);
         closes = rb.closes;
       }
   reading (Choice c a b) s g h loose =
@@ -139,7 +133,7 @@ mutual
       record {
         stack = rb.stack;
         top = rb.top;
-        reads = ap (λ t. run (if t then Some (Wants (InTest ∷ s)) else None) (tokens c ++ ThenWord ∷ (tokens a ++ ElseWord ∷ tokens b))) (le_true (need s) 0 h)
+        reads = ap (λ t. run (if t then Some (Wants (InTest ∷ s)) else None) (tokens c ++ ThenWord ∷ (tokens a ++ ElseWord ∷ tokens b))) (le-leb (need s) 0 h)
             ∙ run_append (Some (Wants (InTest ∷ s))) (tokens c) (ThenWord ∷ (tokens a ++ ElseWord ∷ tokens b))
             ∙ ap (λ o. run o (ThenWord ∷ (tokens a ++ ElseWord ∷ tokens b))) rc.reads
             ∙ ap (λ st. run (on_then st) (tokens a ++ ElseWord ∷ tokens b)) rc.closes

@@ -1,6 +1,7 @@
 -- The leaves of a tree are the words of each text that spells it.
-use Rattle.std.proofs.Common.{◌≡◌, Bool, true, false, List, [], ◌∷◌, ◌++◌, refl, sym, ap, ◌∙◌}
+use Rattle.std.proofs.Common.{◌≡◌, Bool, List, [], ◌∷◌, ◌++◌, refl, sym, ap, ◌∙◌}
 use Rattle.std.specs.Prelude.{◌&&◌}
+use Rattle.std.proofs.Math.Bool.{and-true, and_assoc}
 use Rattle.script_tree.specs.declared.expr.Unary.{Unary}
 use Rattle.script_tree.specs.declared.expr.Unary.TheVariants.{Negate, Not}
 use Rattle.script_tree.specs.declared.expr.Binary.{Binary}
@@ -11,16 +12,8 @@ use Rattle.script_grammar.specs.declared.token.Word.{Word}
 use Rattle.script_grammar.specs.declared.token.Word.TheVariants.{Digits, Yes, No, Called, Pick as Picked, Acc as Old}
 use Rattle.script_grammar.specs.declared.token.Token.{Token}
 use Rattle.script_grammar.specs.declared.token.Token.TheVariants.{Plain as W, Sign, Minus, Bang, Opens, Closes, IfWord, ThenWord, ElseWord, Stray}
-use Rattle.script_grammar.specs.Grammar.{Written, Plain, Inside, Before, Between, Choice, tokens, tree, word_tree, sign, mark, Spells}
+use Rattle.script_grammar.specs.Grammar.{Written, Plain, Inside, Before, Between, Choice, tokens, tree, word_tree, sign, prefix_sign, Spells}
 use Rattle.script_grammar.specs.Words.{all_words}
-
-and_true : (b : Bool) → (b && true) ≡ b
-and_true true = refl
-and_true false = refl
-
-and_assoc : (a b c : Bool) → ((a && b) && c) ≡ (a && (b && c))
-and_assoc true b c = refl
-and_assoc false b c = refl
 
 words_append : (f : Word → Bool) (a b : List Token) → all_words f (a ++ b) ≡ (all_words f a && all_words f b)
 words_append f [] b = refl
@@ -59,15 +52,15 @@ past_sign f Multiply ts = refl
 past_sign f Divide ts = refl
 past_sign f Remainder ts = refl
 
-past_mark : (f : Word → Bool) (op : Unary) (ts : List Token) → all_words f (mark op ∷ ts) ≡ all_words f ts
+past_mark : (f : Word → Bool) (op : Unary) (ts : List Token) → all_words f (prefix_sign op ∷ ts) ≡ all_words f ts
 past_mark f Negate ts = refl
 past_mark f Not ts = refl
 
 pub written_leaves : (test : Tree → Bool) (w : Written) → all_leaves test (tree w) ≡ all_words (λ word. test (word_tree word)) (tokens w)
-written_leaves test (Plain word) = word_leaf test word ∙ sym (and_true (test (word_tree word)))
+written_leaves test (Plain word) = word_leaf test word ∙ sym (and-true (test (word_tree word)))
 written_leaves test (Inside w) =
     let f = λ (word : Word). test (word_tree word) in
-    written_leaves test w ∙ sym (and_true (all_words f (tokens w))) ∙ sym (words_append f (tokens w) (Closes ∷ []))
+    written_leaves test w ∙ sym (and-true (all_words f (tokens w))) ∙ sym (words_append f (tokens w) (Closes ∷ []))
 written_leaves test (Before op w) =
     let f = λ (word : Word). test (word_tree word) in
     written_leaves test w ∙ sym (past_mark f op (tokens w))

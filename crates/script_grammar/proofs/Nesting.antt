@@ -1,6 +1,7 @@
 -- The reader knows each token's nesting.
 use Rattle.std.proofs.Common.{◌≡◌, ℕ, ◌+◌, ◌≤◌, List, [], ◌∷◌, ◌++◌, Option, Some, None, refl, ap, ◌∙◌, arith}
 use Rattle.std.specs.Prelude.{if◌then◌else◌}
+use Rattle.std.proofs.lemmas.Bool.{le-leb}
 use Rattle.script_tree.specs.declared.expr.Unary.{Unary}
 use Rattle.script_tree.specs.declared.expr.Unary.TheVariants.{Negate, Not}
 use Rattle.script_tree.specs.declared.expr.Binary.{Binary}
@@ -12,7 +13,7 @@ use Rattle.script_grammar.specs.Grammar.{sign, Written, Plain, Inside, Before, B
 use Rattle.script_grammar.specs.Reading.{InOpen, InPrefix, InRight, InTest, InThen, InElse, Stack, State, Wants, Has, need, settle, reduce, close, operate, on_close, on_then, on_else, step, run}
 use Rattle.script_grammar.specs.Grammar.{nested}
 use Rattle.script_grammar.specs.Nesting.{count, count_of, nesting, nests}
-use Rattle.script_grammar.proofs.Complete.{run_append, binds_within, step_sign, le_true, takes}
+use Rattle.script_grammar.proofs.Complete.{run_append, binds_within, step_sign, takes}
 
 pub nests_append : (o : Option State) (a b : List Token) → nests o (a ++ b) ≡ nests o a ++ nests (run o a) b
 nests_append None a b = refl
@@ -107,7 +108,7 @@ mutual
             ∙ rb.reads;
         reduces = λ l one le.
             rb.reduces l one (omega (arith, g.1))
-            ∙ ap (λ t. if t then reduce l s (Join op (tree a) (tree b)) else Has (InRight (tree a) op ∷ s) (tree b)) (le_true l (binds op) le);
+            ∙ ap (λ t. if t then reduce l s (Join op (tree a) (tree b)) else Has (InRight (tree a) op ∷ s) (tree b)) (le-leb l (binds op) le);
         closes = rb.closes;
         counts = λ one. rb.counts (omega (arith, g.1));
         nests_are = nests_append (Some (Wants s)) (tokens a) (sign op ∷ tokens b)
@@ -121,7 +122,7 @@ mutual
       let rc = reading c (InTest ∷ s) g.0 (omega arith) (λ x. refl) in
       let ra = reading a (InThen (tree c) ∷ s) g.1 (omega arith) (λ x. refl) in
       let rb = reading b (InElse (tree c) (tree a) ∷ s) g.2 (omega arith) (λ x. refl) in
-      let first = ap (λ t. if t then Some (Wants (InTest ∷ s)) else None) (le_true (need s) 0 h) in
+      let first = ap (λ t. if t then Some (Wants (InTest ∷ s)) else None) (le-leb (need s) 0 h) in
       let last = ElseWord ∷ tokens b in
       let rest = ThenWord ∷ (tokens a ++ last) in
       let d = count s + 1 in

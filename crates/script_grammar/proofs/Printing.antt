@@ -1,7 +1,7 @@
 -- The canonical writing is a script, has its tree, and is the shortest.
-use Rattle.std.proofs.Common.{◌≡◌, ℕ, ◌+◌, ◌<◌, ◌≤◌, Bool, true, false, [], ◌∷◌, ◌++◌, length, refl, ap, ◌∙◌, arith, length-append}
+use Rattle.std.proofs.Common.{◌≡◌, ℕ, ◌+◌, ◌≤◌, Bool, true, false, [], ◌∷◌, ◌++◌, length, refl, ap, ◌∙◌, arith, length-append}
 use Rattle.std.specs.Prelude.{nat_le, if◌then◌else◌}
-use Rattle.std.proofs.lemmas.Bool.Decides.{nat_tests}
+use Rattle.std.proofs.lemmas.Bool.{leb-true, le-leb}
 use Rattle.script_tree.specs.Tree.{Tree, Number, Constant, Input, Pick, Acc, Apply, Join, If}
 use Rattle.script_grammar.specs.declared.token.Word.{Word}
 use Rattle.script_grammar.specs.declared.token.Word.TheVariants.{Digits, Yes, No, Called, Pick as Picked, Acc as Old}
@@ -11,15 +11,6 @@ use Rattle.script_tree.specs.declared.expr.Binary.{Binary}
 use Rattle.script_grammar.proofs.Complete.{binds_within}
 use Rattle.script_grammar.proofs.Agreement.{left_small}
 use Rattle.script_grammar.specs.Canonical.{put, canonical}
-
-le_from : (i j : ℕ) → nat_le i j ≡ true → i ≤ j
-le_from i j h = grind (arith, nat_tests)
-
-not_le : (i j : ℕ) → nat_le i j ≡ false → j < i
-not_le i j h = grind (arith, nat_tests)
-
-le_true : (a b : ℕ) → a ≤ b → nat_le a b ≡ true
-le_true a b h = grind (arith, nat_tests)
 
 put_tree : (l : ℕ) (w : Written) → tree (put l w) ≡ tree w
 put_tree l w = elim (nat_le l (level w)) as (λ b. tree (if b then w else Inside w) ≡ tree w) [ true ↦ refl | false ↦ refl ]
@@ -31,7 +22,7 @@ put_level : (l : ℕ) (w : Written) → l ≤ 8 → l ≤ level (put l w)
 put_level l w h = by_test (nat_le l (level w)) refl
   where
     by_test : (b : Bool) → nat_le l (level w) ≡ b → l ≤ level (if b then w else Inside w)
-    by_test true e = le_from l (level w) e
+    by_test true e = leb-true l (level w) e
     by_test false e = h
 
 small : (op : Binary) → (left op ≤ 8) × (binds op + 1 ≤ 8)
@@ -63,7 +54,7 @@ canonical_script (If c x y) = (canonical_script c, canonical_script x, canonical
 
 -- where the place's level is low enough, nothing is put round it
 pub put_same : (l : ℕ) (w : Written) → l ≤ level w → put l w ≡ w
-put_same l w h = ap (λ b. if b then w else Inside w) (le_true l (level w) h)
+put_same l w h = ap (λ b. if b then w else Inside w) (le-leb l (level w) h)
 
 put_longer : (l : ℕ) (w : Written) → length (tokens (put l w)) ≤ length (tokens w) + 2
 put_longer l w = elim (nat_le l (level w)) as (λ b. length (tokens (if b then w else Inside w)) ≤ length (tokens w) + 2) [ true ↦ omega arith | false ↦ omega (arith, length-append (tokens w) (Closes ∷ [])) ]

@@ -7,7 +7,7 @@ use Rattle.script_tree.specs.declared.expr.Binary.{Binary}
 use Rattle.script_tree.specs.Tree.{Tree, Apply, Join, If}
 use Rattle.script_grammar.specs.declared.token.Token.{Token}
 use Rattle.script_grammar.specs.declared.token.Token.TheVariants.{Opens, Closes, IfWord, ThenWord, ElseWord}
-use Rattle.script_grammar.specs.Grammar.{sign, mark, Written, Inside, Before, Between, Choice, tokens, tree, binds, left, level, IsScript}
+use Rattle.script_grammar.specs.Grammar.{sign, prefix_sign, Written, Inside, Before, Between, Choice, tokens, tree, binds, left, level, IsScript}
 use Rattle.script_grammar.specs.Reading.{InOpen, InPrefix, InRight, InTest, InThen, InElse, Stack, State, Wants, Has, need, settle, reduce, close}
 use Rattle.script_grammar.proofs.Complete.{binds_within}
 
@@ -23,7 +23,7 @@ pub record Part (l : ℕ) (x : Tree) (text : List Token) : Type 0 where
 abbrev pub Stacked : Stack → List Token → Type 0
 Stacked [] ts = ts ≡ []
 Stacked (InOpen ∷ s) ts = (a : List Token) × Stacked s a × (ts ≡ a ++ Opens ∷ [])
-Stacked (InPrefix op ∷ s) ts = (a : List Token) × Stacked s a × (ts ≡ a ++ mark op ∷ [])
+Stacked (InPrefix op ∷ s) ts = (a : List Token) × Stacked s a × (ts ≡ a ++ prefix_sign op ∷ [])
 Stacked (InRight x op ∷ s) ts = (a : List Token) × (b : List Token) × Stacked s a × (need s ≤ binds op) × Part (left op) x b × (ts ≡ a ++ (b ++ sign op ∷ []))
 Stacked (InTest ∷ s) ts = (a : List Token) × Stacked s a × (need s ≤ 0) × (ts ≡ a ++ IfWord ∷ [])
 Stacked (InThen c ∷ s) ts = (a : List Token) × (b : List Token) × Stacked s a × (need s ≤ 0) × Part 0 c b × (ts ≡ a ++ IfWord ∷ (b ++ ThenWord ∷ []))
@@ -67,12 +67,12 @@ choice c y x b d e p q r = record {
   tree_is = ap (λ z. If z (tree q.written) (tree r.written)) p.tree_is ∙ ap (λ z. If c z (tree r.written)) q.tree_is ∙ ap (λ z. If c y z) r.tree_is;
 }
 
-pub before : (op : Unary) (x : Tree) (b : List Token) → Part 7 x b → Part 7 (Apply op x) (mark op ∷ b)
+pub before : (op : Unary) (x : Tree) (b : List Token) → Part 7 x b → Part 7 (Apply op x) (prefix_sign op ∷ b)
 before op x b p = record {
   written = Before op p.written;
   grammar = (p.at_least, p.grammar);
   at_least = omega arith;
-  same = ap (λ z. mark op ∷ z) p.same;
+  same = ap (λ z. prefix_sign op ∷ z) p.same;
   tree_is = ap (Apply op) p.tree_is;
 }
 
@@ -92,7 +92,7 @@ pub settle_says : (s : Stack) (x : Tree) (a b ts : List Token) → Stacked s a �
 settle_says [] x a b ts st p e = (a, b, st, p, e)
 settle_says (InOpen ∷ s) x a b ts st p e = (a, b, st, p, e)
 settle_says (InPrefix op ∷ s) x a b ts st p e =
-    settle_says s (Apply op x) st.0 (mark op ∷ b) ts st.1 (before op x b p) (e ∙ ap (λ z. z ++ b) st.2 ∙ simp append_assoc)
+    settle_says s (Apply op x) st.0 (prefix_sign op ∷ b) ts st.1 (before op x b p) (e ∙ ap (λ z. z ++ b) st.2 ∙ simp append_assoc)
 settle_says (InRight y op ∷ s) x a b ts st p e = (a, b, st, p, e)
 settle_says (InTest ∷ s) x a b ts st p e = (a, b, st, p, e)
 settle_says (InThen c ∷ s) x a b ts st p e = (a, b, st, p, e)

@@ -25,9 +25,9 @@ sign Subtract = Minus
 sign op = Sign op
 
 -- the token of an operator before its operand
-abbrev pub mark : Unary → Token
-mark Negate = Minus
-mark Not = Bang
+abbrev pub prefix_sign : Unary → Token
+prefix_sign Negate = Minus
+prefix_sign Not = Bang
 
 -- a script as it is written, with its parentheses
 pub data Written : Type 0 where
@@ -41,7 +41,7 @@ pub data Written : Type 0 where
 abbrev pub tokens : Written → List Token
 tokens (Plain word) = W word ∷ []
 tokens (Inside w) = Opens ∷ (tokens w ++ Closes ∷ [])
-tokens (Before op w) = mark op ∷ tokens w
+tokens (Before op w) = prefix_sign op ∷ tokens w
 tokens (Between op a b) = tokens a ++ sign op ∷ tokens b
 tokens (Choice c a b) = IfWord ∷ (tokens c ++ ThenWord ∷ (tokens a ++ ElseWord ∷ tokens b))
 

@@ -1,7 +1,7 @@
 //! The levels of the grammar, and the tokens that operators are written as.
 
 ghost use Rattle.std.specs.Prelude.{◌≡◌, ◌≤◌};
-ghost use Rattle.script_grammar.specs.Grammar.{binds, left, mark, sign};
+ghost use Rattle.script_grammar.specs.Grammar.{binds, left, prefix_sign, sign};
 
 use crate::token::Token;
 use script_tree::expr::{Binary, Unary};
@@ -52,8 +52,8 @@ pub fn sign(op: Binary) -> Token
 }
 
 /// The token of an operator before its operand.
-pub fn mark(op: Unary) -> Token
-    ensures { result ≡ mark op }
+pub fn prefix_sign(op: Unary) -> Token
+    ensures { result ≡ prefix_sign op }
 {
     match op {
         Unary::Negate => Token::Minus,

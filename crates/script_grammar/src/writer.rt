@@ -5,7 +5,7 @@ ghost use Rattle.script_tree.specs.Tree.{tree_of};
 ghost use Rattle.script_grammar.specs.Grammar.{level, tokens};
 ghost use Rattle.script_grammar.specs.Canonical.{canonical, put};
 
-use crate::level::{ATOM, UNARY, binds, left, mark, sign};
+use crate::level::{ATOM, UNARY, binds, left, prefix_sign, sign};
 use crate::token::{Token, Word};
 use script_tree::expr::Expr;
 use std::alloc::{AllocError, Global};
@@ -47,7 +47,7 @@ fn write(out: &mut Vec<Token>, script: &Expr) -> Result<(), AllocError>
         Expr::Pick(place) => out.push(Token::Plain(Word::Pick(*place)))?,
         Expr::Acc => out.push(Token::Plain(Word::Acc))?,
         Expr::Unary(op, operand) => {
-            out.push(mark(*op))?;
+            out.push(prefix_sign(*op))?;
             write_part(out, UNARY, operand)?;
         }
         Expr::Binary(op, x, y) => {
