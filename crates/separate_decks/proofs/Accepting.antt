@@ -1,10 +1,11 @@
 -- A builder refuses none of the workload's declarations, and they make its graph.
 use Rattle.std.proofs.Common.{◌≡◌, ℕ, suc, ◌+◌, ◌<◌, ◌≤◌, Bool, true, false, List, [], ◌∷◌, ◌++◌, length, refl, sym, ap, ◌∙◌, subst, arith, length-append, append_assoc, append-nil, true≢false, Some, None}
-use Rattle.std.specs.Prelude.{map, find, not, ◌||◌, ◌&&◌, nat_lt, if◌then◌else◌}
+use Rattle.std.specs.Prelude.{map, find, not, ◌||◌, nat_lt, if◌then◌else◌}
 use Rattle.std.specs.List.{AllByRecursion, list_any}
 use Rattle.std.specs.Str.{bytes_eq}
 use Rattle.std.proofs.lemmas.Bool.Decides.{Decides-ltb}
 use Rattle.std.proofs.lemmas.List.Folds.{list_any-append}
+use Rattle.std.proofs.lemmas.Bool.{and_parts, not-true}
 use Rattle.signal_graph.specs.declared.node.Node.{Node}
 use Rattle.signal_graph.specs.declared.node.Node.TheVariants.{Signal, Fold}
 use Rattle.signal_graph.specs.declared.builder.DeclKind.{DeclKind}
@@ -12,6 +13,7 @@ use Rattle.signal_graph.specs.declared.builder.DeclKind.TheVariants as kinds
 use Rattle.signal_graph.specs.declared.builder.GraphFault.TheVariants.{DoubleName, TooManyNodes}
 use Rattle.script_tree.specs.declared.limits.TheConstants.{NODES}
 use Rattle.script_tree.specs.Names.{place_in}
+use Rattle.script_tree.proofs.Lists.{all_append}
 use Rattle.signal_graph.specs.Declarations.{Part, IsDeclaration, names_of, names_of_parts, names_of_part, is_undeclared, unknown_input, refusal, selector_of, choose_of, node_of}
 use Rattle.signal_graph.specs.Tables.{is_declared}
 use Rattle.signal_graph.specs.Graph.{IsSelector, IsNode, AreNodes, are_different}
@@ -80,10 +82,6 @@ known_among front back (name ∷ names) h =
       known_among front back names h.1,
     )
 
-all_append : {X : Type 0} (P : X → Type 0) (xs ys : List X) → AllByRecursion P xs → AllByRecursion P ys → AllByRecursion P (xs ++ ys)
-all_append P [] ys h k = k
-all_append P (x ∷ xs) ys h k = (h.0, all_append P xs ys h.1 k)
-
 known_parts : (front back : List (List ℕ)) (parts : List Part) → AllByRecursion (IsSelector (front ++ back) (length front)) (map (selector_of (front ++ back)) parts) → AllByRecursion (λ name. is_undeclared front name ≡ false) (names_of_parts parts)
 known_parts front back [] h = tt
 known_parts front back (part ∷ parts) h =
@@ -101,14 +99,6 @@ none_found : (test : List ℕ → Bool) (names : List (List ℕ)) → AllByRecur
 none_found test [] h = refl
 none_found test (name ∷ names) h = ap (λ b. if b then Some name else find test names) h.0 ∙ none_found test names h.1
 
-both : (a b : Bool) → (a && b) ≡ true → (a ≡ true) × (b ≡ true)
-both true b h = (refl, h)
-both false b h = absurd (true≢false (sym h))
-
-not_false : (b : Bool) → not b ≡ true → b ≡ false
-not_false true h = absurd (true≢false (sym h))
-not_false false h = refl
-
 second_false : (a b c : Bool) → (a || (b || c)) ≡ false → b ≡ false
 second_false true b c e = absurd (true≢false e)
 second_false false true c e = absurd (true≢false e)
@@ -118,9 +108,9 @@ second_false false false c e = refl
 new_name : (front back : List (List ℕ)) (name : List ℕ) → are_different (front ++ (name ∷ back)) ≡ true → place_in front name ≡ length front
 new_name [] back name h = refl
 new_name (first ∷ front) back name h =
-    let parts = both (not (list_any (bytes_eq first) (front ++ (name ∷ back)))) (are_different (front ++ (name ∷ back))) h in
+    let parts = and_parts (not (list_any (bytes_eq first) (front ++ (name ∷ back)))) (are_different (front ++ (name ∷ back))) h in
     let rest = new_name front back name parts.1 in
-    let other = second_false (list_any (bytes_eq first) front) (bytes_eq first name) (list_any (bytes_eq first) back) (sym (list_any-append (bytes_eq first) front (name ∷ back)) ∙ not_false (list_any (bytes_eq first) (front ++ (name ∷ back))) parts.0) in
+    let other = second_false (list_any (bytes_eq first) front) (bytes_eq first name) (list_any (bytes_eq first) back) (sym (list_any-append (bytes_eq first) front (name ∷ back)) ∙ not-true (list_any (bytes_eq first) (front ++ (name ∷ back))) parts.0) in
     ap (λ b. if b then 0 else place_in front name + 1) other ∙ (omega (arith, rest))
 
 refused_never : (front back : List (List ℕ)) (name : List ℕ) (nodes : List Node) (kind : DeclKind) → length nodes ≡ length front → length front < 216 → are_different (front ++ (name ∷ back)) ≡ true → IsNode (front ++ (name ∷ back)) (length front) (node_of (front ++ (name ∷ back)) kind) → refusal (record { names = front; nodes = nodes }) name kind ≡ None

@@ -16,11 +16,12 @@ use Rattle.signal_graph.specs.Values.{Values, at, node_value, values_from, value
 use Rattle.signal_graph.specs.Machine.{misnamed, after}
 use Rattle.signal_graph.specs.Legal.{state_from, state_after, finals}
 use Rattle.signal_graph.specs.OnePass.{after_call}
+use Rattle.signal_graph.proofs.GraphNodes.{is_node_at}
 use Rattle.call_log.specs.Made.{entries_of, calls_in, is_well_named, well_named, count_well_named, script_of}
 use Rattle.call_log.specs.Merge.{IsOfCaller, Merge}
 use Rattle.separate_decks.specs.Separate.{is_set_in, Separate}
 use Rattle.separate_decks.specs.Calls.{values_after, followed_by, Keeps, AreSources, SetsNone, AreNamed, OthersSetNone}
-use Rattle.separate_decks.proofs.OneCall.{AgreeAt, is_node_at, same_call, other_call}
+use Rattle.separate_decks.proofs.OneCall.{AgreeAt, same_call, other_call}
 use Rattle.separate_decks.proofs.Making.{callers_are, all_made, none_of_zero, of_each_caller, named_right, filter_keeps}
 use Rattle.separate_decks.proofs.Owning.{follows_sources, Owner, owner_at, none_set}
 

@@ -6,12 +6,14 @@ use Rattle.std.specs.List.{list_all}
 use Rattle.std.specs.Str.{bytes_eq}
 use Rattle.std.proofs.lemmas.Slice.Eq.{bytes_eq-Decides}
 use Rattle.std.proofs.lemmas.Bool.Decides.{eqb_tells}
+use Rattle.std.proofs.lemmas.Bool.{and_parts}
 use Rattle.script_tree.specs.declared.expr.Binary.TheVariants.{Add, Subtract}
 use Rattle.script_tree.specs.Names.{is_name, place_in}
 use Rattle.script_tree.specs.Tree.{Input, Acc, Join}
 use Rattle.script_tree.specs.Scripts.{WellFormed, different_names}
+use Rattle.script_tree.proofs.Texts.{other_text}
 use Rattle.separate_decks.specs.Workload.{all_names, name_of, two, second, signal_tree, choice_tree}
-use Rattle.separate_decks.proofs.Naming.{length-all_names, place_of_name, other_text, both}
+use Rattle.separate_decks.proofs.Naming.{length-all_names, place_of_name}
 
 pub all_are_names : list_all is_name all_names ≡ true
 unfolding all_names digits
@@ -19,8 +21,8 @@ all_are_names = refl
 
 passes_at : (names : List (List ℕ)) (k : ℕ) → list_all is_name names ≡ true → k < length names → is_name (slice_index_or names k []) ≡ true
 passes_at [] k h low = absurd (omega arith)
-passes_at (name ∷ names) zero h low = (both (is_name name) (list_all is_name names) h).0
-passes_at (name ∷ names) (suc k) h low = passes_at names k (both (is_name name) (list_all is_name names) h).1 (omega arith)
+passes_at (name ∷ names) zero h low = (and_parts (is_name name) (list_all is_name names) h).0
+passes_at (name ∷ names) (suc k) h low = passes_at names k (and_parts (is_name name) (list_all is_name names) h).1 (omega arith)
 
 pub name_is_one : (n : ℕ) → n < 216 → is_name (name_of n) ≡ true
 unfolding name_of

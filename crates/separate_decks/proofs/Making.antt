@@ -3,7 +3,7 @@ use Rattle.std.proofs.Common.{◌≡◌, ℕ, zero, suc, ◌+◌, ◌-◌, ◌<�
 use Rattle.std.specs.Prelude.{◌==◌, is_none, filter, All}
 use Rattle.std.specs.List.{AllByRecursion}
 use Rattle.std.proofs.lemmas.Bool.Decides.{eqb_tells}
-use Rattle.std.proofs.lemmas.List.{length-take, take_all}
+use Rattle.std.proofs.lemmas.List.{take_all}
 use Rattle.std.proofs.lemmas.List.Sums.{sum_by-cons}
 use Rattle.signal_graph.specs.declared.call.Call.{Call}
 use Rattle.signal_graph.specs.declared.log.Logged.{Logged}
@@ -12,6 +12,7 @@ use Rattle.signal_graph.specs.Graph.{Graph}
 use Rattle.signal_graph.specs.Machine.{misnamed}
 use Rattle.call_log.specs.Made.{entries_of, calls_in, is_well_named, well_named, count_well_named, script_of, IsPrefix}
 use Rattle.call_log.specs.Merge.{IsOfCaller, Merge}
+use Rattle.call_log.proofs.Prefixes.{as_many, prefix-length}
 
 -- the sum over the numbers below n
 abbrev total : (ℕ → ℕ) → ℕ → ℕ
@@ -100,13 +101,6 @@ named_total graph (calls ∷ scripts) =
     let rest = named_total graph scripts in
     omega (arith, rest, sum_by-cons (λ (cs : List Call). length (well_named graph cs)) calls scripts)
 
-as_many : (entries : List Logged) → length (calls_in entries) ≡ length entries
-as_many [] = refl
-as_many (e ∷ entries) = ap (λ n. suc n) (as_many entries)
-
-no_longer : (part whole : List Call) → IsPrefix part whole → length part ≤ length whole
-no_longer part whole h = omega (arith, ap length h, length-take (length part) whole)
-
 whole_prefix : (part whole : List Call) → IsPrefix part whole → length part ≡ length whole → part ≡ whole
 whole_prefix part whole h e = h ∙ take_all (length part) whole (omega arith)
 
@@ -117,7 +111,7 @@ all_made graph scripts limit log refused merge few k low =
     let size = merge.all_made few in
     let made = λ (i : ℕ). length (entries_of (i + 1) log) in
     let named = λ (i : ℕ). length (well_named graph (script_of scripts i)) in
-    let parts = λ (i : ℕ) (h : i < n). (let le = no_longer (calls_in (entries_of (i + 1) log)) (well_named graph (script_of scripts i)) (merge.in_order i h) in let e = as_many (entries_of (i + 1) log) in let r : made i ≤ named i = omega (arith, le, e) in r) in
+    let parts = λ (i : ℕ) (h : i < n). (let le = prefix-length (calls_in (entries_of (i + 1) log)) (well_named graph (script_of scripts i)) (merge.in_order i h) in let e = as_many (entries_of (i + 1) log) in let r : made i ≤ named i = omega (arith, le, e) in r) in
     let whole : total named n ≤ total made n = omega (arith, size, entries_total n log (callers_are n log merge.callers), named_total graph scripts) in
     let same = total_each made named n parts whole k low in
     whole_prefix (calls_in (entries_of (k + 1) log)) (well_named graph (script_of scripts k)) (merge.in_order k low) (as_many (entries_of (k + 1) log) ∙ same)

@@ -1,32 +1,15 @@
 -- The names of the workload's nodes are different, so that each is found where it stands.
-use Rattle.std.proofs.Common.{◌≡◌, ℕ, zero, suc, ◌+◌, ◌*◌, ◌^◌, ◌<◌, Bool, true, false, List, [], ◌∷◌, ◌++◌, length, refl, sym, ap, ◌∙◌, arith, true≢false, ◌⊎◌, inl, inr, drop}
+use Rattle.std.proofs.Common.{◌≡◌, ℕ, zero, suc, ◌+◌, ◌*◌, ◌^◌, ◌<◌, true, false, List, [], ◌∷◌, ◌++◌, length, refl, ap, ◌∙◌, arith, ◌⊎◌, inl, inr, drop}
 use Rattle.std.specs.Prelude.{not, ◌&&◌, ◌||◌, if◌then◌else◌, decimal, slice_index_or}
 use Rattle.std.specs.List.{list_any}
 use Rattle.std.specs.Str.{bytes_eq}
 use Rattle.std.proofs.lemmas.Slice.Eq.{bytes_eq-Decides}
 use Rattle.std.proofs.lemmas.Fmt.{decimal_injective}
+use Rattle.std.proofs.lemmas.Bool.{or_parts, and_parts, not-true}
 use Rattle.script_tree.specs.Names.{place_in}
+use Rattle.script_tree.proofs.Texts.{other_text}
 use Rattle.signal_graph.specs.Graph.{are_different}
 use Rattle.separate_decks.specs.Workload.{row_of_names, names_of_rows, all_names, name_of}
-
-decide : (b : Bool) → (b ≡ true → ⊥) → b ≡ false
-decide true h = absurd (h refl)
-decide false h = refl
-
-either : (a b : Bool) → (a || b) ≡ false → (a ≡ false) × (b ≡ false)
-either true b e = absurd (true≢false e)
-either false b e = (refl, e)
-
-pub both : (a b : Bool) → (a && b) ≡ true → (a ≡ true) × (b ≡ true)
-both true b h = (refl, h)
-both false b h = absurd (true≢false (sym h))
-
-not_false : (b : Bool) → not b ≡ true → b ≡ false
-not_false true h = absurd (true≢false (sym h))
-not_false false h = refl
-
-pub other_text : (a b : List ℕ) → (a ≡ b → ⊥) → bytes_eq a b ≡ false
-other_text a b ne = decide (bytes_eq a b) (λ e. ne ((bytes_eq-Decides a b).0 e))
 
 -- two names are different by their letter or by their number
 other_name : (l m v w : ℕ) → (l ≡ m → ⊥) ⊎ (v < w) → v < 2 ^ 60 → w < 2 ^ 60 → bytes_eq (l ∷ decimal v) (m ∷ decimal w) ≡ false
@@ -88,17 +71,17 @@ all_different =
 
 none_at : (name : List ℕ) (names : List (List ℕ)) (k : ℕ) → list_any (bytes_eq name) names ≡ false → k < length names → bytes_eq name (slice_index_or names k []) ≡ false
 none_at name [] k e low = absurd (omega arith)
-none_at name (first ∷ names) zero e low = (either (bytes_eq name first) (list_any (bytes_eq name) names) e).0
-none_at name (first ∷ names) (suc k) e low = none_at name names k (either (bytes_eq name first) (list_any (bytes_eq name) names) e).1 (omega arith)
+none_at name (first ∷ names) zero e low = (or_parts (bytes_eq name first) (list_any (bytes_eq name) names) e).0
+none_at name (first ∷ names) (suc k) e low = none_at name names k (or_parts (bytes_eq name first) (list_any (bytes_eq name) names) e).1 (omega arith)
 
 -- where no name stands twice, each is found where it stands
 place_at : (names : List (List ℕ)) → are_different names ≡ true → (k : ℕ) → k < length names → place_in names (slice_index_or names k []) ≡ k
 place_at [] h k low = absurd (omega arith)
 place_at (name ∷ names) h zero low = ap (λ b. if b then 0 else place_in names name + 1) ((bytes_eq-Decides name name).1 refl)
 place_at (name ∷ names) h (suc k) low =
-    let parts = both (not (list_any (bytes_eq name) names)) (are_different names) h in
+    let parts = and_parts (not (list_any (bytes_eq name) names)) (are_different names) h in
     let rest = place_at names parts.1 k (omega arith) in
-    ap (λ b. if b then 0 else place_in names (slice_index_or names k []) + 1) (none_at name names k (not_false (list_any (bytes_eq name) names) parts.0) (omega arith))
+    ap (λ b. if b then 0 else place_in names (slice_index_or names k []) + 1) (none_at name names k (not-true (list_any (bytes_eq name) names) parts.0) (omega arith))
     ∙ (omega (arith, rest))
 
 -- the name of a node names it

@@ -1,24 +1,26 @@
 -- What one call does to a source or a fold: it rests on the value there, on the nodes that it follows, and on the call.
-use Rattle.std.proofs.Common.{◌≡◌, ℕ, zero, suc, ◌+◌, ◌<◌, Bool, true, false, List, [], ◌∷◌, ◌++◌, length, refl, sym, ap, ◌∙◌, subst, arith, length-append, get_or-set_same, get_or-set_other, length-set, true≢false}
-use Rattle.std.specs.Prelude.{map, not, ◌||◌, ◌==◌, if◌then◌else◌, slice_set, slice_index_or}
+use Rattle.std.proofs.Common.{◌≡◌, ℕ, zero, suc, ◌+◌, ◌<◌, true, false, List, [], ◌∷◌, ◌++◌, length, refl, sym, ap, ◌∙◌, subst, arith, length-append, get_or-set_other}
+use Rattle.std.specs.Prelude.{not, ◌||◌, ◌==◌, if◌then◌else◌, slice_set, slice_index_or}
 use Rattle.std.specs.List.{AllByRecursion, list_any}
-use Rattle.std.proofs.lemmas.List.{get_or_append_left}
 use Rattle.std.proofs.Math.Seq.{get_or-append_seam}
 use Rattle.std.proofs.lemmas.Bool.Decides.{eqb_tells}
-use Rattle.std.proofs.lemmas.Cmp.{int_eq_equiv}
-use Rattle.script_tree.specs.declared.value.Fault.{Fault}
-use Rattle.script_tree.specs.declared.value.Fault.TheVariants.{NoChoice, Kind, Overflow, ZeroDivisor}
+use Rattle.std.proofs.lemmas.Bool.{or_parts}
+use Rattle.script_tree.specs.declared.value.Fault.TheVariants.{NoChoice, Kind}
 use Rattle.script_tree.specs.declared.value.Value.{Value}
-use Rattle.script_tree.specs.declared.value.Value.TheVariants.{Int, Bool as Truth, Fault as Faulty}
-use Rattle.script_tree.specs.Eval.{eval_script, same_truth}
+use Rattle.script_tree.specs.declared.value.Value.TheVariants.{Fault as Faulty}
+use Rattle.script_tree.specs.Eval.{eval_script}
 use Rattle.signal_graph.specs.declared.node.Node.{Node}
 use Rattle.signal_graph.specs.declared.node.Node.TheVariants.{Source, Signal, Fold, Choose}
 use Rattle.signal_graph.specs.declared.call.Call.{Call}
 use Rattle.signal_graph.specs.declared.call.Call.TheVariants.{Fire, Read}
-use Rattle.signal_graph.specs.Graph.{Graph, node_at, number_of, is_source, IsNode, AreNodes, IsGraph}
+use Rattle.signal_graph.specs.Graph.{Graph, node_at, number_of, is_source, IsNode, IsGraph}
 use Rattle.signal_graph.specs.Values.{Values, at, run}
-use Rattle.signal_graph.specs.Machine.{differs, same, same_fault, with_sets}
+use Rattle.signal_graph.specs.Machine.{differs, same, with_sets}
 use Rattle.signal_graph.specs.OnePass.{new_value, new_from, after_call}
+use Rattle.signal_graph.proofs.SameValues.{same-self}
+use Rattle.signal_graph.proofs.OnePassLaws.{new_stay, length-new_from, source_value, same_map}
+use Rattle.signal_graph.proofs.GraphNodes.{is_node_at}
+use Rattle.signal_graph.proofs.Literal.{sets_agree}
 use Rattle.separate_decks.specs.Calls.{followed_by, Keeps, AreSources, SetsNone}
 
 -- two tables of all values have the same values at a node and at those that it follows
@@ -36,39 +38,9 @@ pub all_both : {X : Type 0} (P Q R : X → Type 0) (xs : List X) → ((x : X) �
 all_both P Q R [] f h k = tt
 all_both P Q R (x ∷ xs) f h k = (f x h.0 k.0, all_both P Q R xs f h.1 k.1)
 
--- equal values are the same
-fault_itself : (f : Fault) → same_fault f f ≡ true
-fault_itself Overflow = refl
-fault_itself ZeroDivisor = refl
-fault_itself Kind = refl
-fault_itself NoChoice = refl
-
-truth_itself : (b : Bool) → same_truth b b ≡ true
-truth_itself true = refl
-truth_itself false = refl
-
-itself : (v : Value) → same v v ≡ true
-itself (Int x) = int_eq_equiv.refl x
-itself (Truth b) = truth_itself b
-itself (Faulty f) = fault_itself f
-
 none_differs : (a : Values) (ms : List ℕ) → list_any (differs a a) ms ≡ false
 none_differs a [] = refl
-none_differs a (m ∷ ms) = ap (λ b. not b || list_any (differs a a) ms) (itself (at a m)) ∙ none_differs a ms
-
--- one pass, node by node
-new_stay : (before set : Values) (nodes : List Node) (earlier : Values) (k : ℕ) → k < length earlier → at (new_from before set earlier nodes) k ≡ at earlier k
-new_stay before set [] earlier k h = refl
-new_stay before set (node ∷ rest) earlier k h =
-    let v = new_value node (at set (length earlier)) (at before (length earlier)) before earlier in
-    new_stay before set rest (earlier ++ v ∷ []) k (omega (arith, length-append earlier (v ∷ [])))
-    ∙ get_or_append_left earlier (v ∷ []) (Faulty NoChoice) k h
-
-length-new_from : (before set : Values) (nodes : List Node) (earlier : Values) → length (new_from before set earlier nodes) ≡ length earlier + length nodes
-length-new_from before set [] earlier = omega arith
-length-new_from before set (node ∷ rest) earlier =
-    let v = new_value node (at set (length earlier)) (at before (length earlier)) before earlier in
-    omega (arith, length-new_from before set rest (earlier ++ v ∷ []), length-append earlier (v ∷ []))
+none_differs a (m ∷ ms) = ap (λ b. not b || list_any (differs a a) ms) (same-self (at a m)) ∙ none_differs a ms
 
 -- what a pass has found where it comes to a node
 record Reached (before set whole : Values) (i : ℕ) (node : Node) : Type 0 where
@@ -96,33 +68,10 @@ reach_at graph before set n within =
     let e : 0 + n ≡ n = omega arith in
     subst (λ i. Reached before set (new_from before set [] graph.nodes) i (node_at graph n)) e (reach before set graph.nodes [] n within)
 
-node_is : (names : List (List ℕ)) (nodes : List Node) (from k : ℕ) → AreNodes names from nodes → k < length nodes → IsNode names (from + k) (slice_index_or nodes k (Source (Faulty Kind)))
-node_is names [] from k nodes_are h = absurd (omega arith)
-node_is names (node ∷ rest) from zero nodes_are h = let e : from ≡ from + 0 = omega arith in subst (λ n. IsNode names n node) e nodes_are.0
-node_is names (node ∷ rest) from (suc k) nodes_are h =
-    let e : from + 1 + k ≡ from + suc k = omega arith in
-    subst (λ n. IsNode names n (slice_index_or rest k (Source (Faulty Kind)))) e (node_is names rest (from + 1) k nodes_are.1 (omega arith))
-
-pub is_node_at : (graph : Graph) → IsGraph graph → (n : ℕ) → n < length graph.nodes → IsNode graph.names n (node_at graph n)
-is_node_at graph is_graph n within =
-    let e : 0 + n ≡ n = omega arith in
-    subst (λ i. IsNode graph.names i (node_at graph n)) e (node_is graph.names graph.nodes 0 n is_graph.nodes within)
-
--- a source has what is set
-source_value : (node : Node) (set old : Value) (before earlier : Values) → is_source node ≡ true → new_value node set old before earlier ≡ set
-source_value (Source start) set old before earlier e = refl
-source_value (Signal script inputs) set old before earlier e = absurd (true≢false (sym e))
-source_value (Fold start script inputs) set old before earlier e = absurd (true≢false (sym e))
-source_value (Choose selectors body inputs) set old before earlier e = absurd (true≢false (sym e))
-
 source_after : (graph : Graph) (before set : Values) (m : ℕ) → (m < length graph.nodes) × (is_source (node_at graph m) ≡ true) → at (new_from before set [] graph.nodes) m ≡ at set m
 source_after graph before set m h =
     let r = reach_at graph before set m h.0 in
     r.value ∙ source_value (node_at graph m) (at set m) (at before m) before r.earlier h.1
-
-same_run : (a b : Values) (ms : List ℕ) → AllByRecursion (λ m. at a m ≡ at b m) ms → map (at a) ms ≡ map (at b) ms
-same_run a b [] h = refl
-same_run a b (m ∷ ms) h = ap (λ v. v ∷ map (at a) ms) h.0 ∙ ap (λ vs. at b m ∷ vs) (same_run a b ms h.1)
 
 same_any : (a b x y : Values) (ms : List ℕ) → AllByRecursion (λ m. at a m ≡ at b m) ms → AllByRecursion (λ m. at x m ≡ at y m) ms → list_any (differs a x) ms ≡ list_any (differs b y) ms
 same_any a b x y [] h k = refl
@@ -138,7 +87,7 @@ same_new (Signal script inputs) n a b x y old new keeps e h k = absurd keeps
 same_new (Fold start script inputs) n a b x y old new keeps e h k =
     ap (λ o. new_value (Fold start script inputs) (at x n) o a x) e
     ∙ ap (λ t. if t then run script inputs x new else new) (same_any a b x y inputs h k)
-    ∙ ap (λ vs. if list_any (differs b y) inputs then eval_script script.tree vs new else new) (same_run x y inputs k)
+    ∙ ap (λ vs. if list_any (differs b y) inputs then eval_script script.tree vs new else new) (same_map x y inputs k)
 same_new (Choose selectors body inputs) n a b x y old new keeps e h k = absurd keeps
 
 -- in a pass a source or fold reads what is set alone
@@ -148,7 +97,7 @@ read_set (Signal script inputs) n names a earlier set whole u old keeps is_node 
 read_set (Fold start script inputs) n names a earlier set whole u old keeps is_node agree h =
     let same = all_both _ _ (λ m. at earlier m ≡ at set m) inputs (λ m low e. agree m low ∙ e) is_node.3 h in
     ap (λ t. if t then run script inputs earlier old else old) (same_any a a earlier set inputs (all_map _ (λ m. at a m ≡ at a m) inputs (λ m e. refl) same) same)
-    ∙ ap (λ vs. if list_any (differs a set) inputs then eval_script script.tree vs old else old) (same_run earlier set inputs same)
+    ∙ ap (λ vs. if list_any (differs a set) inputs then eval_script script.tree vs old else old) (same_map earlier set inputs same)
 read_set (Choose selectors body inputs) n names a earlier set whole u old keeps is_node agree h = absurd keeps
 
 value_after : (graph : Graph) → IsGraph graph → (before set : Values) (n : ℕ) → n < length graph.nodes → Keeps (node_at graph n) → AreSources graph (followed_by (node_at graph n) n) → at (new_from before set [] graph.nodes) n ≡ new_value (node_at graph n) (at set n) (at before n) before set
@@ -159,41 +108,11 @@ value_after graph is_graph before set n within keeps sources =
     ∙ read_set (node_at graph n) n graph.names before r.earlier set whole (at set n) (at before n) keeps (is_node_at graph is_graph n within) r.agree
     (all_map _ (λ m. at whole m ≡ at set m) (followed_by (node_at graph n) n) (λ m s. source_after graph before set m s) sources)
 
--- sets
-length-with_sets : (graph : Graph) (kept : Values) (sets : List (List ℕ × Value)) → length (with_sets graph kept sets) ≡ length kept
-length-with_sets graph kept [] = refl
-length-with_sets graph kept (s ∷ sets) = length-with_sets graph (slice_set kept (number_of graph s.0) s.1) sets ∙ length-set kept (number_of graph s.0) s.1
-
-set_agrees : (a b : Values) (k n : ℕ) (v : Value) → length a ≡ length b → n < length a → at a n ≡ at b n → at (slice_set a k v) n ≡ at (slice_set b k v) n
-set_agrees a b k n v long within e = cases (n == k) refl
-  where
-    cases : (t : Bool) → (n == k) ≡ t → at (slice_set a k v) n ≡ at (slice_set b k v) n
-    cases true here =
-        let e : k ≡ n = grind (arith, eqb_tells, here) in
-        subst (λ i. at (slice_set a i v) n ≡ at (slice_set b i v) n) (sym e)
-        (get_or-set_same a n v (Faulty NoChoice) within ∙ sym (get_or-set_same b n v (Faulty NoChoice) (omega arith)))
-    cases false there =
-        let ne : n ≡ k → ⊥ = λ i. grind (arith, eqb_tells, there) in
-        get_or-set_other a k n v (Faulty NoChoice) ne ∙ e ∙ sym (get_or-set_other b k n v (Faulty NoChoice) ne)
-
-sets_agree : (graph : Graph) (a b : Values) (sets : List (List ℕ × Value)) (n : ℕ) → length a ≡ length b → n < length a → at a n ≡ at b n → at (with_sets graph a sets) n ≡ at (with_sets graph b sets) n
-sets_agree graph a b [] n long within e = e
-sets_agree graph a b (s ∷ sets) n long within e =
-    let k = number_of graph s.0 in
-    sets_agree graph (slice_set a k s.1) (slice_set b k s.1) sets n
-    (length-set a k s.1 ∙ long ∙ sym (length-set b k s.1))
-    (omega (arith, length-set a k s.1))
-    (set_agrees a b k n s.1 long within e)
-
-either : (a b : Bool) → (a || b) ≡ false → (a ≡ false) × (b ≡ false)
-either true b e = absurd (true≢false e)
-either false b e = (refl, e)
-
 -- a node that is not set keeps its value
 sets_keep : (graph : Graph) (kept : Values) (sets : List (List ℕ × Value)) (m : ℕ) → list_any (λ (s : List ℕ × Value). number_of graph s.0 == m) sets ≡ false → at (with_sets graph kept sets) m ≡ at kept m
 sets_keep graph kept [] m h = refl
 sets_keep graph kept (s ∷ sets) m h =
-    let parts = either (number_of graph s.0 == m) (list_any (λ (s : List ℕ × Value). number_of graph s.0 == m) sets) h in
+    let parts = or_parts (number_of graph s.0 == m) (list_any (λ (s : List ℕ × Value). number_of graph s.0 == m) sets) h in
     let other = parts.0 in
     let ne : m ≡ number_of graph s.0 → ⊥ = λ e. grind (arith, eqb_tells, other, e) in
     sets_keep graph (slice_set kept (number_of graph s.0) s.1) sets m parts.1

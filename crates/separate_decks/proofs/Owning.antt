@@ -3,48 +3,30 @@ use Rattle.std.proofs.Common.{◌≡◌, ℕ, zero, suc, ◌+◌, ◌<◌, Bool,
 use Rattle.std.specs.Prelude.{◌==◌, ◌||◌}
 use Rattle.std.specs.List.{AllByRecursion, list_any}
 use Rattle.std.proofs.lemmas.Bool.Decides.{eqb_tells}
+use Rattle.std.proofs.Math.Bool.{or-true}
+use Rattle.std.proofs.lemmas.Bool.{or_parts, or_cases}
 use Rattle.signal_graph.specs.declared.node.Node.{Node}
 use Rattle.signal_graph.specs.declared.node.Node.TheVariants.{Source, Signal, Fold, Choose}
 use Rattle.signal_graph.specs.declared.call.Call.{Call}
 use Rattle.signal_graph.specs.Graph.{Graph, node_at, kind_of, is_source, is_in, inputs_of, IsNode}
+use Rattle.signal_graph.proofs.Members.{all-members}
 use Rattle.call_log.specs.Made.{script_of}
 use Rattle.separate_decks.specs.Separate.{sets_node, is_set_in, ThreadSets, Separate}
 use Rattle.separate_decks.specs.Calls.{followed_by, Keeps, AreSources, SetsNone}
 use Rattle.separate_decks.proofs.OneCall.{all_map, all_both}
 
-or_true : (b : Bool) → (b || true) ≡ true
-or_true true = refl
-or_true false = refl
-
-either : (a b : Bool) → (a || b) ≡ false → (a ≡ false) × (b ≡ false)
-either true b e = absurd (true≢false e)
-either false b e = (refl, e)
-
-one_of : (a b : Bool) → (a || b) ≡ true → (a ≡ true) ⊎ (b ≡ true)
-one_of true b e = inl refl
-one_of false b e = inr e
-
--- what holds of each number that is in a list holds of all its members
-pub all_in : (P : ℕ → Type 0) (ms : List ℕ) → ((m : ℕ) → is_in m ms ≡ true → P m) → AllByRecursion P ms
-all_in P [] h = tt
-all_in P (m ∷ ms) h =
-    let same : (m == m) ≡ true = grind (arith, eqb_tells) in (
-      h m (ap (λ b. b || is_in m ms) same),
-      all_in P ms (λ k there. h k (ap (λ b. (m == k) || b) there ∙ or_true (m == k))),
-    )
-
 -- a member that passes a test
 any_in : (test : ℕ → Bool) (ms : List ℕ) → list_any test ms ≡ true → (m : ℕ) × (is_in m ms ≡ true) × (test m ≡ true)
 any_in test [] e = absurd (true≢false (sym e))
-any_in test (m ∷ ms) e = cases (one_of (test m) (list_any test ms) e) (λ k. any_in test ms k)
+any_in test (m ∷ ms) e = cases (or_cases (test m) (list_any test ms) e) (λ k. any_in test ms k)
   where
     cases : (test m ≡ true) ⊎ (list_any test ms ≡ true) → (list_any test ms ≡ true → (k : ℕ) × (is_in k ms ≡ true) × (test k ≡ true)) → (k : ℕ) × (is_in k (m ∷ ms) ≡ true) × (test k ≡ true)
     cases (inl here) later = let same : (m == m) ≡ true = grind (arith, eqb_tells) in (m, ap (λ b. b || is_in m ms) same, here)
-    cases (inr there) later = let r = later there in (r.0, ap (λ b. (m == r.0) || b) r.1 ∙ or_true (m == r.0), r.2)
+    cases (inr there) later = let r = later there in (r.0, ap (λ b. (m == r.0) || b) r.1 ∙ or-true (m == r.0), r.2)
 
 none_in : (test : ℕ → Bool) (ms : List ℕ) → list_any test ms ≡ false → AllByRecursion (λ m. test m ≡ false) ms
 none_in test [] e = tt
-none_in test (m ∷ ms) e = let parts = either (test m) (list_any test ms) e in (parts.0, none_in test ms parts.1)
+none_in test (m ∷ ms) e = let parts = or_parts (test m) (list_any test ms) e in (parts.0, none_in test ms parts.1)
 
 -- a number below n that passes a test, or none
 first_or_none : (test : ℕ → Bool) (n : ℕ) → ((k : ℕ) × (k < n) × (test k ≡ true)) ⊎ ((k : ℕ) → k < n → test k ≡ false)
@@ -84,7 +66,7 @@ owner_of graph scripts ms alone = cases (first_or_none (touches graph scripts ms
         record {
           caller = found.0 + 1;
           is_one = inr (found.0, found.1, refl);
-          others = λ k low other. all_in (λ m. is_set_in graph m (script_of scripts k) ≡ false) ms (λ m there. decide (is_set_in graph m (script_of scripts k)) (λ set. ne k other (alone one.0 m found.0 k one.1 there one.2 set)));
+          others = λ k low other. all-members (λ m. is_set_in graph m (script_of scripts k) ≡ false) ms (λ m there. decide (is_set_in graph m (script_of scripts k)) (λ set. ne k other (alone one.0 m found.0 k one.1 there one.2 set)));
         }
       where
         ne : (k : ℕ) → (k + 1 == found.0 + 1) ≡ false → found.0 ≡ k → ⊥
@@ -105,7 +87,7 @@ follows_sources graph scripts separate n within (Source start) e keeps is_node =
 follows_sources graph scripts separate n within (Signal script inputs) e keeps is_node = absurd keeps
 follows_sources graph scripts separate n within (Fold start script inputs) e keeps is_node =
     all_both (λ m. m < n) (λ m. is_source (node_at graph m) ≡ true) (λ m. (m < length graph.nodes) × (is_source (node_at graph m) ≡ true)) inputs (λ m low source. (omega (arith, low, within), source)) is_node.3
-    (all_in (λ m. is_source (node_at graph m) ≡ true) inputs (λ m there. separate.inputs n m (within, ap kind_of e, ap (λ x. is_in m (inputs_of x)) e ∙ there)))
+    (all-members (λ m. is_source (node_at graph m) ≡ true) inputs (λ m there. separate.inputs n m (within, ap kind_of e, ap (λ x. is_in m (inputs_of x)) e ∙ there)))
 follows_sources graph scripts separate n within (Choose selectors body inputs) e keeps is_node = absurd keeps
 
 only_one : (m n : ℕ) → is_in m (n ∷ []) ≡ true → n ≡ m
@@ -137,6 +119,6 @@ owner_at graph scripts separate n within keeps = owner_of graph scripts (followe
 pub none_set : (graph : Graph) (ms : List ℕ) (calls : List Call) → AllByRecursion (λ m. is_set_in graph m calls ≡ false) ms → AllByRecursion (SetsNone graph ms) calls
 none_set graph ms [] h = tt
 none_set graph ms (call ∷ calls) h = (
-  all_map (λ m. is_set_in graph m (call ∷ calls) ≡ false) (λ m. sets_node graph m call ≡ false) ms (λ m e. (either (sets_node graph m call) (is_set_in graph m calls) e).0) h,
-  none_set graph ms calls (all_map (λ m. is_set_in graph m (call ∷ calls) ≡ false) (λ m. is_set_in graph m calls ≡ false) ms (λ m e. (either (sets_node graph m call) (is_set_in graph m calls) e).1) h),
+  all_map (λ m. is_set_in graph m (call ∷ calls) ≡ false) (λ m. sets_node graph m call ≡ false) ms (λ m e. (or_parts (sets_node graph m call) (is_set_in graph m calls) e).0) h,
+  none_set graph ms calls (all_map (λ m. is_set_in graph m (call ∷ calls) ≡ false) (λ m. is_set_in graph m calls ≡ false) ms (λ m e. (or_parts (sets_node graph m call) (is_set_in graph m calls) e).1) h),
 )

@@ -4,6 +4,7 @@ use Rattle.std.specs.Prelude.{◌==◌, map}
 use Rattle.std.specs.List.{AllByRecursion}
 use Rattle.std.proofs.lemmas.List.{length-map}
 use Rattle.std.proofs.lemmas.Bool.Decides.{eqb_tells}
+use Rattle.script_tree.proofs.Lists.{all_append}
 use Rattle.signal_graph.specs.declared.call.Call.{Call}
 use Rattle.signal_graph.specs.declared.call.Reply.TheVariants.{Read as Seen}
 use Rattle.signal_graph.specs.declared.log.Logged.{Logged}
@@ -63,10 +64,6 @@ made_by_each graph c (calls ∷ scripts) (suc k) low =
     let rest = one_by_one graph (c + 1) scripts in
     ap calls_in (other_entries (suc k + c) c (well_named graph calls) rest (λ i. omega arith))
     ∙ subst (λ i. calls_in (entries_of i rest) ≡ well_named graph (script_of scripts k)) e (made_by_each graph (c + 1) scripts k (omega arith))
-
-all_append : {X : Type 0} (P : X → Type 0) (xs ys : List X) → AllByRecursion P xs → AllByRecursion P ys → AllByRecursion P (xs ++ ys)
-all_append P [] ys h k = k
-all_append P (x ∷ xs) ys h k = (h.0, all_append P xs ys h.1 k)
 
 all_entries : (n caller : ℕ) (calls : List Call) → 1 ≤ caller → caller ≤ n → AllByRecursion (IsOfCaller n) (map (entry_by caller) calls)
 all_entries n caller [] low high = tt
