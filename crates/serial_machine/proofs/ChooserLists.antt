@@ -1,14 +1,13 @@
 -- The lists of chooses, with one node more.
-use Rattle.std.proofs.Common.{◌≡◌, ℕ, zero, suc, ◌+◌, ◌<◌, ◌≤◌, inl, inr, ◌⊎◌, Bool, true, false, List, [], ◌∷◌, ◌++◌, length, take, get_or, refl, sym, ap, ◌∙◌, subst, arith, add-one}
-use Rattle.std.specs.Prelude.{◌==◌, ◌||◌, slice_index_or}
-use Rattle.std.proofs.lemmas.Bool.{or_left, or_right, eq-eqb, eqb-true}
+use Rattle.std.proofs.Common.{◌≡◌, ℕ, ◌+◌, ◌<◌, ◌≤◌, inl, inr, Bool, true, List, [], ◌∷◌, ◌++◌, length, take, get_or, refl, sym, ap, ◌∙◌, arith, add-one}
+use Rattle.std.specs.Prelude.{slice_index_or}
+use Rattle.std.proofs.lemmas.Bool.{or_cases}
 use Rattle.std.proofs.lemmas.List.{append-nil, append_assoc}
-use Rattle.std.proofs.lemmas.List.Folds.{list_any-append}
-use Rattle.std.proofs.lemmas.Map.Views.{any-filter_same}
 use Rattle.std.proofs.Math.Seq.{take-suc}
 use Rattle.signal_graph.specs.declared.node.Selector.{Selector}
-use Rattle.signal_graph.specs.declared.node.Node.{Node}
-use Rattle.signal_graph.specs.Graph.{Graph, node_at, is_in, inputs_of, numbers, numbers_from, static_outs}
+use Rattle.signal_graph.specs.Graph.{Graph, node_at, is_in, inputs_of, static_outs}
+use Rattle.signal_graph.proofs.Members.{in-cases}
+use Rattle.signal_graph.proofs.ScriptNames.{in_static_outs}
 use Rattle.serial_machine.specs.Marking.{is_marked, AreMore}
 use Rattle.serial_machine.specs.Reading.{candidates_of_all, candidates_of, reads, HaveMore, AreChoosers}
 
@@ -24,13 +23,6 @@ pub record ListsBelow (graph : Graph) (end : ℕ) (lists : List (List ℕ)) : Ty
   pub there : (m n : ℕ) → m < length graph.nodes → n < end → is_in m (candidates_of (node_at graph n)) ≡ true → is_in n (slice_index_or lists m []) ≡ true
 
 -- ---- one more
-
-or_cases_true : (a b : Bool) → (a || b) ≡ true → (a ≡ true) ⊎ (b ≡ true)
-or_cases_true true b e = inl refl
-or_cases_true false b e = inr e
-
-in_append : (m : ℕ) (xs ys : List ℕ) → is_in m (xs ++ ys) ≡ true → (is_in m xs ≡ true) ⊎ (is_in m ys ≡ true)
-in_append m xs ys h = or_cases_true (is_in m xs) (is_in m ys) (sym (list_any-append (λ (k : ℕ). k == m) xs ys) ∙ h)
 
 candidates-append : (xs ys : List Selector) → candidates_of_all (xs ++ ys) ≡ candidates_of_all xs ++ candidates_of_all ys
 candidates-append [] ys = refl
@@ -48,7 +40,7 @@ lists_next old lists more node selectors i d candidates within is size grows add
     record {
       size = size ∙ have.size;
       grows = λ m n h. grows m n (have.grows m n h);
-      there = λ m inside h. elim (in_append m front (candidates ++ []) (sym (ap (is_in m) all) ∙ h)) [
+      there = λ m inside h. elim (in-cases m front (candidates ++ []) (sym (ap (is_in m) all) ∙ h)) [
         | inl earlier ↦ grows m node (have.there m inside earlier)
         | inr here ↦ added m (omega (arith, have.size)) (sym (ap (is_in m) (append-nil candidates)) ∙ here)
       ];
@@ -56,26 +48,12 @@ lists_next old lists more node selectors i d candidates within is size grows add
 
 -- ---- whom a node tells
 
-in_numbers : (nodes : List Node) (from k : ℕ) → k < length nodes → is_in (from + k) (numbers_from from nodes) ≡ true
-in_numbers [] from k h = absurd (omega arith)
-in_numbers (x ∷ xs) from zero h = or_left (from == from + 0) (is_in (from + 0) (numbers_from (from + 1) xs)) (eq-eqb from (from + 0) (omega arith))
-in_numbers (x ∷ xs) from (suc k) h =
-    let e : (from + 1) + k ≡ from + suc k = omega arith in
-    or_right (from == from + suc k) (is_in (from + suc k) (numbers_from (from + 1) xs)) (subst (λ n. is_in n (numbers_from (from + 1) xs) ≡ true) e (in_numbers xs (from + 1) k (omega arith)))
-
--- a node whose scripts name another is one of those that name it
-in_static_outs : (graph : Graph) (m n : ℕ) → n < length graph.nodes → is_in m (inputs_of (node_at graph n)) ≡ true → is_in n (static_outs graph m) ≡ true
-in_static_outs graph m n within h =
-    any-filter_same (λ (k : ℕ). k == n) (λ k. is_in m (inputs_of (node_at graph k))) true
-    (λ k e. ap (λ j. is_in m (inputs_of (node_at graph j))) (eqb-true k n e) ∙ h) (numbers graph)
-    ∙ subst (λ j. is_in j (numbers graph) ≡ true) (let e : 0 + n ≡ n = omega arith in e) (in_numbers graph.nodes 0 n within)
-
 -- where the nodes of both lists are marked, all that read a node are
 pub told : (graph : Graph) (choosers : List (List ℕ)) (m : ℕ) (outs listed : List ℕ) (marks more most : List Bool) → AreChoosers graph choosers → m < length graph.nodes → outs ≡ static_outs graph m → listed ≡ slice_index_or choosers m []
     → length marks ≡ length graph.nodes → length more ≡ length marks → ((n : ℕ) → n < length marks → is_in n outs ≡ true → is_marked more n ≡ true) → AreMore more most
     → ((n : ℕ) → n < length more → is_in n listed ≡ true → is_marked most n ≡ true) → (n : ℕ) → n < length graph.nodes → reads (node_at graph n) m ≡ true → is_marked most n ≡ true
 told graph choosers m outs listed marks more most are within outs_are listed_are size more_size first grows second n inside h =
-    elim (or_cases_true (is_in m (inputs_of (node_at graph n))) (is_in m (candidates_of (node_at graph n))) h) [
+    elim (or_cases (is_in m (inputs_of (node_at graph n))) (is_in m (candidates_of (node_at graph n))) h) [
       | inl named ↦ grows n (first n (omega (arith, size)) (ap (is_in n) outs_are ∙ in_static_outs graph m n inside named))
       | inr selected ↦ second n (omega (arith, size, more_size)) (ap (is_in n) listed_are ∙ are.all m n within inside selected)
     ]

@@ -1,18 +1,18 @@
 -- Loops over the nodes of a graph by their numbers.
 use Rattle.std.proofs.Common.{◌≡◌, ℕ, zero, suc, ◌+◌, ◌<◌, ◌≤◌, Bool, true, false, List, [], ◌∷◌, ◌++◌, length, drop, get_or, refl, ap, ◌∙◌, arith}
-use Rattle.std.specs.Prelude.{filter, cond, slice_set, slice_index_or, slice_get, Option, Some, None, ◌||◌}
+use Rattle.std.specs.Prelude.{filter, cond, slice_set, slice_index_or, ◌||◌}
 use Rattle.std.specs.List.{list_any}
 use Rattle.std.proofs.lemmas.List.{drop_more}
-use Rattle.std.proofs.lemmas.Option.{slice_get_within, get_or_from_slice_get}
 use Rattle.script_tree.specs.declared.value.Fault.TheVariants.{Kind}
 use Rattle.script_tree.specs.declared.value.Value.{Value}
 use Rattle.script_tree.specs.declared.value.Value.TheVariants.{Fault as Faulty}
 use Rattle.signal_graph.specs.declared.node.Node.{Node}
 use Rattle.signal_graph.specs.declared.node.Node.TheVariants.{Source}
 use Rattle.signal_graph.specs.Graph.{Graph, number_of, numbers_from}
-use Rattle.signal_graph.specs.Values.{Values, at, nodes_in}
+use Rattle.signal_graph.specs.Values.{Values, at}
 use Rattle.signal_graph.specs.Machine.{with_sets}
 use Rattle.signal_graph.specs.OnePass.{new_value, new_from}
+use Rattle.signal_graph.proofs.Members.{nodes_in-cons}
 
 -- how many nodes from a number on pass a test
 abbrev pub left : (ℕ → Bool) → List Node → ℕ → ℕ
@@ -37,17 +37,6 @@ pub new_step : (before set earlier : Values) (nodes : List Node) (n : ℕ) → n
 new_step before set earlier nodes n within here =
     ap (new_from before set earlier) (drop_more nodes n (Source (Faulty Kind)) within)
     ∙ ap (λ i. new_from before set (earlier ++ new_value (slice_index_or nodes n (Source (Faulty Kind))) (at set i) (at before i) before earlier ∷ []) (drop (n + 1) nodes)) here
-
-nodes_in_cons : (p : ℕ → Bool) (pick : Option ℕ) (rest : List (Option ℕ)) → list_any p (nodes_in (pick ∷ rest)) ≡ (list_any p (nodes_in (pick ∷ [])) || list_any p (nodes_in rest))
-nodes_in_cons p None rest = refl
-nodes_in_cons p (Some node) rest = grind arith
-
--- the nodes among picks from an index on
-pub pick_step : (p : ℕ → Bool) (picks : List (Option ℕ)) (i : ℕ) (pick : Option ℕ) → slice_get picks i ≡ Some pick → list_any p (nodes_in (drop i picks)) ≡ (list_any p (nodes_in (pick ∷ [])) || list_any p (nodes_in (drop (i + 1) picks)))
-pick_step p picks i pick h =
-    ap (λ ps. list_any p (nodes_in ps)) (drop_more picks i None (slice_get_within picks i pick h))
-    ∙ ap (λ o. list_any p (nodes_in (o ∷ drop (i + 1) picks))) (get_or_from_slice_get picks i pick None h)
-    ∙ nodes_in_cons p pick (drop (i + 1) picks)
 
 pub any_append : (p : ℕ → Bool) (xs ys : List ℕ) → list_any p (xs ++ ys) ≡ (list_any p xs || list_any p ys)
 any_append p [] ys = refl

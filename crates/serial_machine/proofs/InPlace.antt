@@ -1,7 +1,6 @@
 -- The pass in place: the values before a number are new, and from there on they are those with what is set.
 use Rattle.std.proofs.Common.{◌≡◌, ℕ, zero, suc, ◌+◌, ◌<◌, ◌≤◌, Bool, List, [], ◌∷◌, ◌++◌, length, take, drop, get_or, Option, refl, sym, ap, ◌∙◌, subst, arith, length-take, add-one}
 use Rattle.std.specs.Prelude.{not, filter, slice_set}
-use Rattle.std.specs.List.{AllByRecursion}
 use Rattle.std.proofs.Math.Seq.{take-suc, get_or-append_seam}
 use Rattle.std.proofs.lemmas.List.{length-map, get_or_append_left, take_more_set, get_or-set_same, get_or-set_other, length-set, take_all}
 use Rattle.std.proofs.Math.ListN.{drop_of_length-le}
@@ -10,16 +9,17 @@ use Rattle.script_tree.specs.declared.value.Value.TheVariants.{Fault as Faulty}
 use Rattle.signal_graph.specs.declared.node.Node.TheVariants.{Source}
 use Rattle.signal_graph.specs.Graph.{Graph, IsGraph, IsNode, node_at, inputs_of, numbers_from}
 use Rattle.script_tree.specs.declared.value.Value.{Value}
+use Rattle.script_tree.proofs.Lists.{all_weaker}
 use Rattle.signal_graph.specs.Values.{Values, at, values, start, start_value, picks, picks_of}
 use Rattle.signal_graph.specs.Machine.{same, differs}
 use Rattle.signal_graph.specs.OnePass.{new_value, new_from}
 use Rattle.signal_graph.proofs.GraphNodes.{node_is, earlier_inputs}
-use Rattle.signal_graph.proofs.OnePassLaws.{same_picks, values_of_values, new_values_from, length-new_from}
+use Rattle.signal_graph.proofs.OnePassLaws.{same_picks, values_of_values, new_values_from, length-new_from, new_stay}
 use Rattle.signal_graph.proofs.Values.{length-values}
 use Rattle.serial_machine.specs.State.{ArePicks, IsKept, IsAt}
 use Rattle.serial_machine.specs.Between.{one_if, is_evaluated, count_changed, count_evaluated}
 use Rattle.serial_machine.proofs.Counting.{left}
-use Rattle.serial_machine.proofs.OnePass.{HasCome, all_new, next_node, new_stay}
+use Rattle.serial_machine.proofs.OnePass.{HasCome, all_new, next_node}
 
 -- a pass in place has come to a number
 pub record Comes (graph : Graph) (before set : Values) (n : ℕ) (now : Values) (picked : List (List (Option ℕ))) (changed evaluated : ℕ) : Type 0 where
@@ -47,16 +47,12 @@ begins graph before set picked size are = record {
   stale = λ m h k. are.each m k;
 }
 
-all_map : (P Q : ℕ → Type 0) → ((m : ℕ) → P m → Q m) → (ns : List ℕ) → AllByRecursion P ns → AllByRecursion Q ns
-all_map P Q f [] h = tt
-all_map P Q f (n ∷ ns) h = (f n h.0, all_map P Q f ns h.1)
-
 -- what a node picks over the values before it is what it picks over all
 same_over_all : (graph : Graph) → IsGraph graph → (n : ℕ) (a b : Values) → n < length graph.nodes → ((m : ℕ) → m < n → at a m ≡ at b m) → picks_of (node_at graph n) a ≡ picks_of (node_at graph n) b
 same_over_all graph is_graph n a b within e =
     let is : IsNode graph.names (0 + n) (node_at graph n) = node_is graph.names 0 graph.nodes n (Source (Faulty Kind)) is_graph.nodes within in
     same_picks graph.names (0 + n) (node_at graph n) a b is
-    (all_map (λ m. m < 0 + n) (λ m. at a m ≡ at b m) (λ m h. e m (omega arith)) (inputs_of (node_at graph n)) (earlier_inputs graph.names (0 + n) (node_at graph n) is))
+    (all_weaker (λ m. m < 0 + n) (λ m. at a m ≡ at b m) (λ m h. e m (omega arith)) (inputs_of (node_at graph n)) (earlier_inputs graph.names (0 + n) (node_at graph n) is))
 
 -- what holds below a number and at it holds below the next
 pub at_next : (P : ℕ → Type 0) (n : ℕ) → ((m : ℕ) → m < n → P m) → P n → (m : ℕ) → m < n + 1 → P m

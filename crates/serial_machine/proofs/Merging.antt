@@ -6,6 +6,7 @@ use Rattle.std.proofs.lemmas.Bool.Decides.{eqb_tells}
 use Rattle.std.proofs.lemmas.List.{length-take, length-map, map-append, take-map, take_min}
 use Rattle.std.proofs.lemmas.List.Sums.{sum_by-cons}
 use Rattle.std.proofs.lemmas.List.Elements.{filter-append, All-append}
+use Rattle.script_tree.proofs.Numbers.{equal_to_itself}
 use Rattle.signal_graph.specs.declared.call.Call.{Call}
 use Rattle.signal_graph.specs.declared.log.Logged.{Logged}
 use Rattle.signal_graph.specs.declared.log.Why.{Why}
@@ -16,6 +17,7 @@ use Rattle.signal_graph.specs.Machine.{misnamed}
 use Rattle.call_log.specs.Made.{entries_of, calls_in, versions_in, well_named, count_well_named, script_of, IsPrefix}
 use Rattle.call_log.specs.LeftOut.{why_not, left_behind, refusal, left_out_from, left_out_of}
 use Rattle.call_log.specs.Merge.{IsOfCaller, AreVersions, Merge}
+use Rattle.call_log.proofs.Prefixes.{as_many}
 use Rattle.serial_machine.specs.SerialOrder.{made_in, made_by, serial_calls_from, serial_calls, CountsVersions}
 use Rattle.serial_machine.specs.Progress.{Progress, entry_of, with_entry, all_called, all_run, nothing_yet}
 
@@ -58,9 +60,6 @@ grown_by_none caller log = record {
     append_none [] = refl
     append_none (x ∷ xs) = ap (λ ys. x ∷ ys) (append_none xs)
 
-itself : (n : ℕ) → (n == n) ≡ true
-itself n = grind (arith, eqb_tells)
-
 all_one : (P : Logged → Type 0) (entry : Logged) → P entry → All P (entry ∷ [])
 all_one P entry h zero d within = h
 all_one P entry h (suc k) d within = absurd (omega arith)
@@ -69,7 +68,7 @@ grown_by_one : (graph : Graph) (caller : ℕ) (call : Call) (log : List Logged) 
 grown_by_one graph caller call log =
     let entry = entry_of graph caller log call in
     record {
-      own = ap calls_in (filter-append (λ (e : Logged). e.caller == caller) log (entry ∷ []) ∙ ap (λ b. entries_of caller log ++ cond b (entry ∷ []) []) (itself caller))
+      own = ap calls_in (filter-append (λ (e : Logged). e.caller == caller) log (entry ∷ []) ∙ ap (λ b. entries_of caller log ++ cond b (entry ∷ []) []) (equal_to_itself caller))
           ∙ map-append (λ (e : Logged). e.call) (entries_of caller log) (entry ∷ []);
       made_next = map-append (λ (e : Logged). (e.caller, e.call)) log (entry ∷ []);
       others = λ c other. filter-append (λ (e : Logged). e.caller == c) log (entry ∷ []) ∙ ap (λ b. entries_of c log ++ cond b (entry ∷ []) []) (apart c other) ∙ append_none (entries_of c log);
@@ -263,10 +262,6 @@ run_versions : (graph : Graph) (limit caller : ℕ) (scripts : List (List Call))
 run_versions graph limit caller [] progress h = h
 run_versions graph limit caller (calls ∷ scripts) progress h =
     run_versions graph limit (caller + 1) scripts (all_called graph limit caller 1 calls progress) ((grown_all graph limit caller 1 calls progress).versions h)
-
-as_many : (entries : List Logged) → length (calls_in entries) ≡ length entries
-as_many [] = refl
-as_many (e ∷ entries) = ap (λ n. suc n) (as_many entries)
 
 run_refused : (graph : Graph) (limit caller : ℕ) (scripts : List (List Call)) (progress : Progress) → Fresh caller progress.log → (all_run graph limit caller scripts progress).refused ≡ progress.refused ++ left_out_of graph limit (all_run graph limit caller scripts progress).log caller scripts
 run_refused graph limit caller [] progress fresh = sym (append_none progress.refused)

@@ -2,44 +2,23 @@
 use Rattle.std.proofs.Common.{◌≡◌, ℕ, zero, suc, ◌+◌, ◌<◌, ◌≤◌, Bool, true, false, List, [], ◌∷◌, ◌++◌, length, drop, Option, refl, sym, ap, ◌∙◌, subst, arith, length-append}
 use Rattle.std.specs.Prelude.{pos, negsuc, map, not, ◌&&◌, ◌||◌, if◌then◌else◌, slice_get}
 use Rattle.std.specs.List.{AllByRecursion, list_any}
-use Rattle.std.proofs.lemmas.List.{get_or_append_left}
 use Rattle.std.proofs.Math.Seq.{get_or-append_seam}
 use Rattle.script_tree.specs.declared.value.Fault.TheVariants.{NoChoice, Kind}
 use Rattle.script_tree.specs.declared.value.Value.{Value}
 use Rattle.script_tree.specs.declared.value.Value.TheVariants.{Int, Bool as Truth, Fault as Faulty}
 use Rattle.script_tree.specs.Scripts.{Scripted}
+use Rattle.script_tree.proofs.Lists.{all_append}
 use Rattle.signal_graph.specs.declared.node.Selector.{Selector}
 use Rattle.signal_graph.specs.declared.node.Node.{Node}
 use Rattle.signal_graph.specs.declared.node.Node.TheVariants.{Source, Signal, Fold, Choose}
-use Rattle.signal_graph.specs.Graph.{Graph, node_at, is_in, is_source, inputs_of, inputs_of_all, different_from, IsSelector, IsNode}
+use Rattle.signal_graph.specs.Graph.{Graph, node_at, is_source, inputs_of, inputs_of_all, IsSelector, IsNode}
 use Rattle.signal_graph.specs.Values.{Values, at, run, candidate, select, selected, taken, picks_of, nodes_in}
 use Rattle.signal_graph.specs.Machine.{same, differs}
 use Rattle.signal_graph.specs.OnePass.{new_value, new_from}
+use Rattle.signal_graph.proofs.OnePassLaws.{new_stay}
+use Rattle.signal_graph.proofs.GraphNodes.{all-different, earlier_in_selectors}
 use Rattle.serial_machine.specs.Between.{one_if, is_evaluated, count_changed, count_evaluated}
 use Rattle.serial_machine.proofs.Counting.{left, one_more, none_more, new_step}
-
--- a value that was found stays
-pub new_stay : (before set : Values) (nodes : List Node) (earlier : Values) (k : ℕ) → k < length earlier → at (new_from before set earlier nodes) k ≡ at earlier k
-new_stay before set [] earlier k h = refl
-new_stay before set (node ∷ rest) earlier k h =
-    let v = new_value node (at set (length earlier)) (at before (length earlier)) before earlier in
-    new_stay before set rest (earlier ++ v ∷ []) k (omega (arith, length-append earlier (v ∷ [])))
-    ∙ get_or_append_left earlier (v ∷ []) (Faulty NoChoice) k h
-
-pub all_append : (P : ℕ → Type 0) (xs ys : List ℕ) → AllByRecursion P xs → AllByRecursion P ys → AllByRecursion P (xs ++ ys)
-all_append P [] ys a b = b
-all_append P (x ∷ xs) ys a b = (a.0, all_append P xs ys a.1 b)
-
-all_different : (P : ℕ → Type 0) (seen ns : List ℕ) → AllByRecursion P ns → AllByRecursion P (different_from seen ns)
-all_different P seen [] a = tt
-all_different P seen (n ∷ ns) a =
-    elim (is_in n seen) as (λ b. AllByRecursion P (if b then different_from seen ns else n ∷ different_from (n ∷ seen) ns))
-    [ true ↦ all_different P seen ns a.1 | false ↦ (a.0, all_different P (n ∷ seen) ns a.1) ]
-
-earlier_in_all : (names : List (List ℕ)) (n : ℕ) (selectors : List Selector) → AllByRecursion (IsSelector names n) selectors → AllByRecursion (λ m. m < n) (inputs_of_all selectors)
-earlier_in_all names n [] h = tt
-earlier_in_all names n (selector ∷ rest) h =
-    all_append (λ m. m < n) selector.inputs (inputs_of_all rest) h.0.inputs_earlier (earlier_in_all names n rest h.1)
 
 picked_candidate : (P : ℕ → Type 0) (candidates : List ℕ) (i : ℕ) (rest : List (Option ℕ)) → AllByRecursion P candidates → AllByRecursion P (nodes_in rest) → AllByRecursion P (nodes_in (taken (candidate (slice_get candidates i)) ∷ rest))
 picked_candidate P [] i rest h later = later
@@ -65,7 +44,7 @@ earlier_deps names n (Signal script inputs) all h = all_append (λ m. m < n) inp
 earlier_deps names n (Fold start script inputs) all h = all_append (λ m. m < n) inputs [] h.3 tt
 earlier_deps names n (Choose selectors body inputs) all h =
     all_append (λ m. m < n) inputs (nodes_in (map (λ s. taken (selected all s)) selectors))
-    (subst (λ ns. AllByRecursion (λ m. m < n) ns) (sym h.4) (all_different (λ m. m < n) [] (inputs_of_all selectors) (earlier_in_all names n selectors h.2)))
+    (subst (λ ns. AllByRecursion (λ m. m < n) ns) (sym h.4) (all-different (λ m. m < n) [] (inputs_of_all selectors) (earlier_in_selectors names n selectors h.2)))
     (earlier_picks names n all selectors h.2)
 
 any_below : (n : ℕ) (p q : ℕ → Bool) → ((m : ℕ) → m < n → p m ≡ q m) → (ds : List ℕ) → AllByRecursion (λ m. m < n) ds → list_any p ds ≡ list_any q ds

@@ -2,14 +2,12 @@
 use Rattle.std.proofs.Common.{◌≡◌, ℕ, zero, suc, ◌+◌, ◌-◌, ◌<◌, ◌≤◌, inl, inr, Bool, true, false, List, [], ◌∷◌, ◌++◌, length, take, get_or, Option, refl, sym, ap, ◌∙◌, subst, arith}
 use Rattle.std.specs.Prelude.{not, map, ◌==◌, ◌||◌, ◌&&◌, slice_get, slice_set}
 use Rattle.std.specs.List.{AllByRecursion, list_any}
-use Rattle.std.proofs.lemmas.Bool.{cases_eq, cases_lt, true≢false, or_left, or_right, or_from, and_right, eq-eqb}
-use Rattle.std.proofs.lemmas.Bool.Decides.{Decides-int_eq}
+use Rattle.std.proofs.lemmas.Bool.{cases_eq, cases_lt, true≢false, or_left, or_right, or_from, and_right, false_from_ne_true}
 use Rattle.std.proofs.lemmas.List.{get_or_past, get_or-take, get_or-set_same, get_or-set_other, set-get_or}
 use Rattle.script_tree.specs.declared.value.Fault.TheVariants.{NoChoice, Kind}
 use Rattle.script_tree.specs.declared.value.Value.{Value}
-use Rattle.script_tree.specs.declared.value.Value.TheVariants.{Int, Bool as Truth, Fault as Faulty}
-use Rattle.script_tree.specs.declared.value.Fault.{Fault}
-use Rattle.script_tree.specs.declared.value.Fault.TheVariants.{Overflow, ZeroDivisor}
+use Rattle.script_tree.specs.declared.value.Value.TheVariants.{Fault as Faulty}
+use Rattle.script_tree.proofs.Lists.{all_append, all_weaker, all_front, all_behind}
 use Rattle.signal_graph.specs.declared.node.Selector.{Selector}
 use Rattle.signal_graph.specs.declared.node.Node.{Node}
 use Rattle.signal_graph.specs.declared.node.Node.TheVariants.{Source, Signal, Fold, Choose}
@@ -19,35 +17,23 @@ use Rattle.signal_graph.specs.Machine.{same, differs}
 use Rattle.signal_graph.specs.OnePass.{new_value}
 use Rattle.signal_graph.proofs.GraphNodes.{node_is}
 use Rattle.signal_graph.proofs.Values.{length-values}
+use Rattle.signal_graph.proofs.Members.{in_head}
+use Rattle.signal_graph.proofs.OnePassLaws.{source_value}
+use Rattle.signal_graph.proofs.SameValues.{same-self}
 use Rattle.serial_machine.specs.State.{ArePicks, IsReady}
 use Rattle.serial_machine.specs.Between.{one_if, is_evaluated, count_changed, count_evaluated}
 use Rattle.serial_machine.specs.Marking.{is_marked, AreUnmarked, AreMore, IsNextMarked}
 use Rattle.serial_machine.specs.Reading.{candidates_of_all, candidates_of, reads, AreChoosers}
-use Rattle.serial_machine.proofs.OnePass.{all_new, all_append, picked, earlier_deps}
+use Rattle.serial_machine.proofs.OnePass.{all_new, picked, earlier_deps}
 use Rattle.serial_machine.proofs.Resting.{rest_value, rest_picks}
 use Rattle.serial_machine.proofs.InPlace.{Comes, at_next, next, begins, ends, kept_after}
 
 -- ---- what a node rests on, it reads
 
-all_weaker : (P Q : ℕ → Type 0) → ((m : ℕ) → P m → Q m) → (ns : List ℕ) → AllByRecursion P ns → AllByRecursion Q ns
-all_weaker P Q f [] h = tt
-all_weaker P Q f (n ∷ ns) h = (f n h.0, all_weaker P Q f ns h.1)
-
-all_front : (P : ℕ → Type 0) (xs ys : List ℕ) → AllByRecursion P (xs ++ ys) → AllByRecursion P xs
-all_front P [] ys h = tt
-all_front P (x ∷ xs) ys h = (h.0, all_front P xs ys h.1)
-
-all_behind : (P : ℕ → Type 0) (xs ys : List ℕ) → AllByRecursion P (xs ++ ys) → AllByRecursion P ys
-all_behind P [] ys h = h
-all_behind P (x ∷ xs) ys h = all_behind P xs ys h.1
-
-in_first : (x : ℕ) (xs : List ℕ) → is_in x (x ∷ xs) ≡ true
-in_first x xs = or_left (x == x) (is_in x xs) (eq-eqb x x refl)
-
 -- a list has its elements
 in_itself : (xs : List ℕ) → AllByRecursion (λ m. is_in m xs ≡ true) xs
 in_itself [] = tt
-in_itself (x ∷ xs) = (in_first x xs, all_weaker (λ m. is_in m xs ≡ true) (λ m. is_in m (x ∷ xs) ≡ true) (λ m h. or_right (x == m) (is_in m xs) h) xs (in_itself xs))
+in_itself (x ∷ xs) = (in_head x xs, all_weaker (λ m. is_in m xs ≡ true) (λ m. is_in m (x ∷ xs) ≡ true) (λ m h. or_right (x == m) (is_in m xs) h) xs (in_itself xs))
 
 picked_among : (P : ℕ → Type 0) (all : Values) (selectors : List Selector) → AllByRecursion P (candidates_of_all selectors) → AllByRecursion P (nodes_in (map (λ s. taken (selected all s)) selectors))
 picked_among P all [] h = tt
@@ -82,10 +68,6 @@ unmarked_before marks more grows m h = go (is_marked marks m) refl
     go true e = absurd (true≢false (sym (grows m e) ∙ h))
     go false e = e
 
-untold : (b : Bool) → (b ≡ true → ⊥) → b ≡ false
-untold true f = absurd (f refl)
-untold false f = refl
-
 -- ---- the pass
 
 -- from a number on, a node without a mark has nothing set and reads no earlier node with another value; before the
@@ -113,26 +95,8 @@ begins_marked graph before set picked marks size marked unset are = record {
   size = marked;
 }
 
-same_faults : (f : Fault) → same (Faulty f) (Faulty f) ≡ true
-same_faults Overflow = refl
-same_faults ZeroDivisor = refl
-same_faults Kind = refl
-same_faults NoChoice = refl
-
-same_itself : (v : Value) → same v v ≡ true
-same_itself (Int x) = (Decides-int_eq x x).1 refl
-same_itself (Truth true) = refl
-same_itself (Truth false) = refl
-same_itself (Faulty f) = same_faults f
-
 not_differs : (before now : Values) (n : ℕ) → at before n ≡ at now n → differs before now n ≡ false
-not_differs before now n e = ap (λ v. not (same (at before n) v)) (sym e) ∙ ap not (same_itself (at before n))
-
-source_value : (node : Node) (set old : Value) (before earlier : Values) → is_source node ≡ true → new_value node set old before earlier ≡ set
-source_value (Source start) set old before earlier h = refl
-source_value (Signal script inputs) set old before earlier h = absurd (cc)
-source_value (Fold start script inputs) set old before earlier h = absurd (cc)
-source_value (Choose selectors body inputs) set old before earlier h = absurd (cc)
+not_differs before now n e = ap (λ v. not (same (at before n) v)) (sym e) ∙ ap not (same-self (at before n))
 
 source_picks : (node : Node) (a b : Values) → is_source node ≡ true → picks_of node a ≡ picks_of node b
 source_picks (Source start) a b h = refl
@@ -231,7 +195,7 @@ visit graph before set n now more picked renewed marks marked changed evaluated 
         unset = λ m from inside free. reaches.ahead.unset m (omega arith) inside (was m free);
         unread = λ m d from inside free below read. at_next (λ k. reads (node_at graph m) k ≡ true → differs before more k ≡ false) n
             (λ k lt r. ap (λ w. not (same (at before k) w)) (others k (λ e. omega (arith, e, lt))) ∙ reaches.ahead.unread m k (omega arith) inside (was m free) lt r)
-            (λ r. sym by_change ∙ untold differing (λ e. true≢false (sym (tells e m inside r) ∙ free))) d below read;
+            (λ r. sym by_change ∙ false_from_ne_true differing (λ e. true≢false (sym (tells e m inside r) ∙ free))) d below read;
         passed = λ m below free. at_next (λ k. is_marked marked k ≡ false → at before k ≡ at more k) n
             (λ k lt f. reaches.ahead.passed k lt (was k f) ∙ sym (others k (λ e. omega (arith, e, lt))))
             (λ f. absurd (true≢false (sym (grows n there) ∙ f))) m below free;

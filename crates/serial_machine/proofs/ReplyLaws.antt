@@ -2,12 +2,11 @@
 use Rattle.std.proofs.Common.{◌≡◌, ℕ, ◌+◌, ◌<◌, ◌≤◌, Bool, true, false, List, [], ◌∷◌, length, refl, sym, ap, ◌∙◌, subst, arith}
 use Rattle.std.specs.Prelude.{map, filter, cond, not, nat_lt, ◌&&◌, ◌||◌, ◌==◌}
 use Rattle.std.specs.List.{list_any}
-use Rattle.std.proofs.lemmas.Cmp.{int_eq_equiv}
 use Rattle.std.proofs.lemmas.List.{get_or_past}
 use Rattle.std.proofs.lemmas.Bool.Decides.{eqb_tells, nat_tests}
 use Rattle.script_tree.specs.declared.value.Value.{Value}
-use Rattle.script_tree.specs.declared.value.Value.TheVariants.{Int, Bool as Truth, Fault as Faulty}
-use Rattle.script_tree.specs.declared.value.Fault.TheVariants.{Overflow, ZeroDivisor, Kind, NoChoice}
+use Rattle.script_tree.specs.declared.value.Value.TheVariants.{Fault as Faulty}
+use Rattle.script_tree.specs.declared.value.Fault.TheVariants.{NoChoice}
 use Rattle.signal_graph.specs.declared.node.Node.{Node}
 use Rattle.signal_graph.specs.declared.call.Call.{Call}
 use Rattle.signal_graph.specs.declared.call.Call.TheVariants.{Fire, Read}
@@ -63,15 +62,6 @@ is_within p d n (node ∷ rest) low high =
     cases false false passes there below above =
         let ne : n ≡ d → ⊥ = λ i. grind (arith, eqb_tells, there) in
         above (grind arith)
-
-same_itself : (v : Value) → same v v ≡ true
-same_itself (Int x) = int_eq_equiv.refl x
-same_itself (Truth true) = refl
-same_itself (Truth false) = refl
-same_itself (Faulty Overflow) = refl
-same_itself (Faulty ZeroDivisor) = refl
-same_itself (Faulty Kind) = refl
-same_itself (Faulty NoChoice) = refl
 
 -- behind the end of both lists no value differs
 beyond : (values : Values) (d : ℕ) → length values ≤ d → at values d ≡ Faulty NoChoice

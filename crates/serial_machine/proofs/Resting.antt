@@ -2,56 +2,23 @@
 use Rattle.std.proofs.Common.{◌≡◌, ℕ, ◌+◌, ◌<◌, ◌≤◌, Bool, true, false, List, [], ◌∷◌, ◌++◌, length, take, get_or, Option, refl, sym, ap, ◌∙◌, subst, arith, length-take}
 use Rattle.std.specs.Prelude.{not, ◌&&◌, ◌||◌, if◌then◌else◌, slice_set}
 use Rattle.std.specs.List.{AllByRecursion, list_any}
-use Rattle.std.proofs.lemmas.Bool.Decides.{Decides-int_eq}
 use Rattle.std.proofs.lemmas.List.{get_or-take, take_more_set, get_or-set_same, get_or-set_other}
-use Rattle.script_tree.specs.declared.value.Fault.{Fault}
-use Rattle.script_tree.specs.declared.value.Fault.TheVariants.{Overflow, ZeroDivisor, NoChoice, Kind}
+use Rattle.script_tree.specs.declared.value.Fault.TheVariants.{Kind}
 use Rattle.script_tree.specs.declared.value.Value.{Value}
-use Rattle.script_tree.specs.declared.value.Value.TheVariants.{Int, Bool as Truth, Fault as Faulty}
+use Rattle.script_tree.specs.declared.value.Value.TheVariants.{Fault as Faulty}
 use Rattle.script_tree.specs.Scripts.{Scripted}
 use Rattle.signal_graph.specs.declared.node.Node.{Node}
 use Rattle.signal_graph.specs.declared.node.Node.TheVariants.{Source, Signal, Fold, Choose}
 use Rattle.signal_graph.specs.Graph.{Graph, IsGraph, IsNode, node_at, is_source, inputs_of}
 use Rattle.signal_graph.specs.Values.{Values, at, run, node_value, values, picks_of, nodes_in}
-use Rattle.signal_graph.specs.Machine.{same, same_fault, differs}
+use Rattle.signal_graph.specs.Machine.{same, differs}
 use Rattle.signal_graph.specs.OnePass.{new_value}
 use Rattle.signal_graph.proofs.GraphNodes.{node_is}
 use Rattle.signal_graph.proofs.Values.{values_are}
 use Rattle.signal_graph.proofs.OnePassLaws.{skips_node, same_picks}
+use Rattle.signal_graph.proofs.SameValues.{same-is}
 use Rattle.serial_machine.specs.Between.{is_evaluated}
 use Rattle.serial_machine.proofs.OnePass.{fold_value}
-
-faults_same : (f g : Fault) → same_fault f g ≡ true → f ≡ g
-faults_same Overflow Overflow h = refl
-faults_same Overflow ZeroDivisor h = absurd (cc)
-faults_same Overflow Kind h = absurd (cc)
-faults_same Overflow NoChoice h = absurd (cc)
-faults_same ZeroDivisor Overflow h = absurd (cc)
-faults_same ZeroDivisor ZeroDivisor h = refl
-faults_same ZeroDivisor Kind h = absurd (cc)
-faults_same ZeroDivisor NoChoice h = absurd (cc)
-faults_same Kind Overflow h = absurd (cc)
-faults_same Kind ZeroDivisor h = absurd (cc)
-faults_same Kind Kind h = refl
-faults_same Kind NoChoice h = absurd (cc)
-faults_same NoChoice Overflow h = absurd (cc)
-faults_same NoChoice ZeroDivisor h = absurd (cc)
-faults_same NoChoice Kind h = absurd (cc)
-faults_same NoChoice NoChoice h = refl
-
-values_same : (u v : Value) → same u v ≡ true → u ≡ v
-values_same (Int x) (Int y) h = ap Int ((Decides-int_eq x y).0 h)
-values_same (Int x) (Truth b) h = absurd (cc)
-values_same (Int x) (Faulty g) h = absurd (cc)
-values_same (Truth a) (Int y) h = absurd (cc)
-values_same (Truth true) (Truth true) h = refl
-values_same (Truth true) (Truth false) h = absurd (cc)
-values_same (Truth false) (Truth true) h = absurd (cc)
-values_same (Truth false) (Truth false) h = refl
-values_same (Truth a) (Faulty g) h = absurd (cc)
-values_same (Faulty f) (Int y) h = absurd (cc)
-values_same (Faulty f) (Truth b) h = absurd (cc)
-values_same (Faulty f) (Faulty g) h = ap Faulty (faults_same f g h)
 
 neither : (s t : Bool) → (not s || t) ≡ false → (s ≡ true) × (t ≡ false)
 neither true t h = (refl, h)
@@ -62,7 +29,7 @@ agree : (before now : Values) (ns : List ℕ) → list_any (differs before now) 
 agree before now [] h = tt
 agree before now (n ∷ ns) h =
     let both = neither (same (at before n) (at now n)) (list_any (differs before now) ns) h in
-    (values_same (at before n) (at now n) both.0, agree before now ns both.1)
+    (same-is (at before n) (at now n) both.0, agree before now ns both.1)
 
 -- a node that is not evaluated keeps its value
 rest_node : (names : List (List ℕ)) (n : ℕ) (node : Node) (set old : Value) (before now : Values) → IsNode names n node → old ≡ node_value node old before → is_source node ≡ false → is_evaluated before now node ≡ false → new_value node set old before now ≡ old

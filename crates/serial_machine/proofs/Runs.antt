@@ -6,9 +6,10 @@ use Rattle.signal_graph.specs.declared.log.Logged.{Logged}
 use Rattle.signal_graph.specs.declared.log.Why.{Why}
 use Rattle.signal_graph.specs.declared.log.Why.TheVariants.{VersionsUsedUp}
 use Rattle.signal_graph.specs.Graph.{Graph}
-use Rattle.signal_graph.specs.Values.{Values, start}
-use Rattle.signal_graph.specs.Machine.{after, reply}
-use Rattle.signal_graph.specs.Legal.{LegalFrom, Legal, state_from, state_after}
+use Rattle.signal_graph.specs.Values.{start}
+use Rattle.signal_graph.specs.Machine.{after}
+use Rattle.signal_graph.specs.Legal.{Legal, state_after}
+use Rattle.signal_graph.proofs.LegalLogs.{state_more, legal_more}
 use Rattle.call_log.specs.LeftOut.{why_not}
 use Rattle.serial_machine.specs.State.{State, IsAt}
 use Rattle.serial_machine.specs.Progress.{Progress, why_not_next, entry_of, with_entry, called, all_called, all_run, nothing_yet}
@@ -37,15 +38,6 @@ left_of limit left (Some place) h = absurd (cc)
 -- a call that is made finds a version
 pub is_below : (limit made : ℕ) (place : Option ℕ) → why_not limit (limit - made) place ≡ None → made < limit
 is_below limit made place h = omega (arith, left_of limit (limit - made) place h)
-
--- the state after one call more
-pub state_more : (graph : Graph) (kept : Values) (log : List Logged) (entry : Logged) → state_from graph kept (log ++ entry ∷ []) ≡ after graph (state_from graph kept log) entry.call
-state_more graph kept [] entry = refl
-state_more graph kept (first ∷ log) entry = state_more graph (after graph kept first.call) log entry
-
-legal_more : (graph : Graph) (kept : Values) (log : List Logged) (entry : Logged) → LegalFrom graph kept log → entry.reply ≡ reply graph (state_from graph kept log) entry.call → LegalFrom graph kept (log ++ entry ∷ [])
-legal_more graph kept [] entry h e = (e, tt)
-legal_more graph kept (first ∷ log) entry h e = (h.0, legal_more graph (after graph kept first.call) log entry h.1 e)
 
 legal_called : (graph : Graph) (caller : ℕ) (call : Call) (log : List Logged) (why : Option Why) → Legal graph log → Legal graph (with_entry log (entry_of graph caller log call) why)
 legal_called graph caller call log (Some why) h = h
