@@ -79,7 +79,7 @@ as_many [] (s ∷ sets) z = absurd z
 as_many (f ∷ forms) [] z = absurd z
 as_many (f ∷ forms) (s ∷ sets) z = omega (arith, as_many forms sets z.1)
 
-memory_read : (f : Option Form) → IsRead f (Err Memory)
+pub memory_read : (f : Option Form) → IsRead f (Err Memory)
 memory_read None = tt
 memory_read (Some form) = tt
 

@@ -3,6 +3,7 @@ use Rattle.std.proofs.Common.{◌≡◌, ℕ, ◌≤◌, true, false, List, [], 
 use Rattle.std.specs.Prelude.{min, map, codes, Option, Some, None, Result, Ok, Err, if◌then◌else◌}
 use Rattle.std.specs.Option.{option_map, option_and_then}
 use Rattle.script_tree.specs.declared.limits.TheConstants.{SELECTORS}
+use Rattle.script_tree.proofs.Lists.{all_append}
 use Rattle.deck_lines.specs.declared.fault.Limit.{Limit}
 use Rattle.deck_lines.specs.declared.fault.Limit.TheVariants.{Levels, Inputs, Candidates, Selectors as Selecting, Sets, Looks}
 use Rattle.deck_lines.specs.declared.fault.LineFault.{LineFault}
@@ -18,7 +19,7 @@ use Rattle.deck_lines.specs.Scripts.{IsBodyRead}
 use Rattle.deck_lines.specs.Selectors.{IsScript, Gathers, Adds}
 use Rattle.deck_lines.proofs.Cutting.{cut_none, cut_sign, cut_some, two_sides}
 use Rattle.deck_lines.proofs.Gathering.{all_scripts, one_before, one_behind}
-use Rattle.deck_lines.proofs.Judging.{all_both}
+use Rattle.deck_lines.proofs.Calling.{memory_read}
 
 abbrev pub Found : Type 0
 Found = List PartForm × Option Words
@@ -89,10 +90,6 @@ wrong_found : (name : List ℕ) (done : List PartForm) (form : PartForm) (rest :
 wrong_found name done form None w = tt
 wrong_found name done form (Some found) w = choose_wrong name (done ++ form ∷ found.0) found.1 (one_within done form found.0 w)
 
-memory_read : (f : Option Form) → IsRead f (Err Memory)
-memory_read None = tt
-memory_read (Some form) = tt
-
 told_wrong : (name : List ℕ) (done : List PartForm) (o : Option PartForm) (rest : Option Found) (old new : Selectors) → Adds o old new (Err Syntax) → IsRead (chosen_by name (option_map (prepended done) (option_and_then (λ part. option_map (behind_part part) rest) o))) (Err Syntax)
 told_wrong name done None rest old new a = tt
 told_wrong name done (Some form) rest old new a = wrong_found name done form rest a
@@ -153,7 +150,7 @@ with_body name words rest part done e h =
 pub body_fault : (name : List ℕ) (done : List PartForm) (rest : Words) (selectors : Selectors) (fault : LineFault) → Gathers done selectors → IsBodyRead (min (length done) SELECTORS) rest (Err fault) → IsReadAs (Choose name done (Some rest)) (Err fault)
 body_fault name done rest selectors Syntax g h = one_behind IsWrong (map selector_script done) (body_script (length done) (Some rest)) (inl h)
 body_fault name done rest selectors (TooMany Levels) g h = record {
-  scripts = all_both IsScript (map selector_script done) (body_script (length done) (Some rest)) (all_scripts done selectors.deep selectors.many selectors.within.items g.scripts) (inr h, tt);
+  scripts = all_append IsScript (map selector_script done) (body_script (length done) (Some rest)) (all_scripts done selectors.deep selectors.many selectors.within.items g.scripts) (inr h, tt);
   beyond = one_behind IsTooDeep (map selector_script done) (body_script (length done) (Some rest)) (inl h);
   before = tt;
 }

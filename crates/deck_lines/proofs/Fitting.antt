@@ -5,14 +5,16 @@ use Rattle.std.specs.Option.{option_map, option_and_then, is_some}
 use Rattle.std.specs.List.{AllByRecursion}
 use Rattle.std.specs.Str.{bytes_eq}
 use Rattle.std.proofs.lemmas.Option.{none-some, same_Some, cond_some, option_and_then_some}
+use Rattle.std.proofs.lemmas.Bool.{or_parts, or_from, and_parts, and_from}
+use Rattle.script_tree.proofs.Texts.{same_text}
 use Rattle.deck_lines.specs.declared.keyword.Keyword.{Keyword}
 use Rattle.deck_lines.specs.declared.keyword.Keyword.TheVariants as keyword
 use Rattle.deck_lines.specs.Forms.{Words, SetForm, PartForm, Form, Nothing, Source, Signal, Fold, Choose, Thread, Fire, Read, IsName, IsSet, IsPart, IsOver, IsProper, Fits, with_commas, spelled, spelled_set, spelled_part, spelled_looks, pieces_of}
 use Rattle.deck_lines.specs.Cuts.{has, before, behind, each_behind, separated}
 use Rattle.deck_lines.specs.Values.{value_of}
 use Rattle.deck_lines.specs.Reading.{cut, name_of, names_of, head_of, sets_of, part_of, last_of, behind_part, parts_of, choose_of, source_by, signal_by, fold_by, choose_by, fire_of, keyword_of, form_by, form_of}
-use Rattle.deck_lines.proofs.Cutting.{same_word, or_no, no_or, has_none, has_append, before_sign, behind_sign, has_sign, two_sides, cut_some, cut_separated, cut_whole, separated_cut}
-use Rattle.deck_lines.proofs.Wording.{both, and_yes, map_some, not_named, value_without, all_map, names_are, are_names, each_some, head_is, is_head, set_without, no_colon, no_look, sets_are, are_sets}
+use Rattle.deck_lines.proofs.Cutting.{has_none, has_append, before_sign, behind_sign, has_sign, two_sides, cut_some, cut_separated, cut_whole, separated_cut}
+use Rattle.deck_lines.proofs.Wording.{map_some, not_named, value_without, all_map, names_are, are_names, each_some, head_is, is_head, set_without, no_colon, no_look, sets_are, are_sets}
 
 -- a selector
 pub part_is : (words : Words) (part : PartForm) → has (codes ":") words ≡ false → part_of words ≡ Some part → (words ≡ spelled_part part) × IsPart part
@@ -23,7 +25,7 @@ part_is words part h e = by_test (has (codes "among") words) refl e
         let sides = two_sides (codes "among") words t in
         let m = map_some (λ names. (before (codes "among") words, names)) (names_of (behind (codes "among") words)) part g in
         let known = names_are (behind (codes "among") words) m.0 m.1 in
-        let whole = or_no (has (codes ":") (before (codes "among") words)) _ (sym (has_append (codes ":") (before (codes "among") words) (codes "among" ∷ behind (codes "among") words)) ∙ ap (has (codes ":")) (sym sides.0) ∙ h) in
+        let whole = or_parts (has (codes ":") (before (codes "among") words)) _ (sym (has_append (codes ":") (before (codes "among") words) (codes "among" ∷ behind (codes "among") words)) ∙ ap (has (codes ":")) (sym sides.0) ∙ h) in
         subst (λ (p : PartForm). (words ≡ spelled_part p) × IsPart p) m.2 (
           sides.0 ∙ ap (λ ws. before (codes "among") words ++ codes "among" ∷ ws) known.0,
           record { whole = whole.0; script = sides.1; some = omega (arith, each_some name_of (cut (codes ",") (behind (codes "among") words)) m.0 m.1, cut_some (codes ",") (behind (codes "among") words)); named = known.1 },
@@ -47,11 +49,11 @@ no_names sign (name ∷ names) q all = has_none sign (name ∷ []) _ all.0 (rest
   where
     rest : (more : List (List ℕ)) → AllByRecursion (λ p. has sign p ≡ false) (map (λ (n : List ℕ). n ∷ []) more) → has sign (each_behind (codes ",") (map (λ (n : List ℕ). n ∷ []) more)) ≡ false
     rest [] all = refl
-    rest (n ∷ more) all = no_or _ _ q (has_none sign (n ∷ []) _ all.0 (rest more all.1))
+    rest (n ∷ more) all = or_from _ _ q (has_none sign (n ∷ []) _ all.0 (rest more all.1))
 
 behind_without : (sign x : List ℕ) (parts : List Words) → bytes_eq sign x ≡ false → AllByRecursion (λ p. has x p ≡ false) parts → has x (each_behind sign parts) ≡ false
 behind_without sign x [] q all = refl
-behind_without sign x (part ∷ parts) q all = no_or _ _ q (has_none x part _ all.0 (behind_without sign x parts q all.1))
+behind_without sign x (part ∷ parts) q all = or_from _ _ q (has_none x part _ all.0 (behind_without sign x parts q all.1))
 
 separated_without : (sign x : List ℕ) (parts : List Words) → bytes_eq sign x ≡ false → AllByRecursion (λ p. has x p ≡ false) parts → has x (separated sign parts) ≡ false
 separated_without sign x [] q all = refl
@@ -101,7 +103,7 @@ parts_before part (next ∷ more) script all h =
 
 -- the colon stands between the parts alone
 whole_part : (part : PartForm) → IsPart part → has (codes ":") (spelled_part part) ≡ false
-whole_part part h = has_none (codes ":") part.0 _ h.whole (no_or _ _ refl (no_names (codes ":") part.1 refl (all_map (λ (name : List ℕ). name ∷ []) IsName (codes ":") (λ name n. no_or _ false (not_named name (codes ":") n refl) refl) part.1 h.named)))
+whole_part part h = has_none (codes ":") part.0 _ h.whole (or_from _ _ refl (no_names (codes ":") part.1 refl (all_map (λ (name : List ℕ). name ∷ []) IsName (codes ":") (λ name n. or_from _ false (not_named name (codes ":") n refl) refl) part.1 h.named)))
 
 all_push : (xs : List Words) (x : Words) → AllByRecursion (λ p. has (codes ":") p ≡ false) xs → has (codes ":") x ≡ false → AllByRecursion (λ p. has (codes ":") p ≡ false) (xs ++ x ∷ [])
 all_push [] x all h = (h, tt)
@@ -145,7 +147,7 @@ this_or : (word text : List ℕ) (j k : Keyword) (other : Option Keyword) → ke
 this_or word text j k other m e rest = by_test (bytes_eq word text) refl e
   where
     by_test : (t : Bool) → bytes_eq word text ≡ t → (if t then Some j else other) ≡ Some k → word ≡ keyword_text k
-    by_test true t g = same_word word text t ∙ sym m ∙ ap keyword_text (same_Some j k g)
+    by_test true t g = same_text word text t ∙ sym m ∙ ap keyword_text (same_Some j k g)
     by_test false t g = rest g
 
 keyword_is : (word : List ℕ) (k : Keyword) → keyword_of word ≡ Some k → word ≡ keyword_text k
@@ -202,7 +204,7 @@ fits_by keyword.Fold words form e = option_and_then_some fold_by (head_of words)
     let start = before (codes ":") head.1 in
     let script = behind (codes ":") head.1 in
     let c = cond_some (has (codes ":") head.1 && is_some (value_of start)) (Fold head.0 start script) form rest in
-    let t = both (has (codes ":") head.1) (is_some (value_of start)) c.0 in
+    let t = and_parts (has (codes ":") head.1) (is_some (value_of start)) c.0 in
     let known = head_is words head first in
     let sides = two_sides (codes ":") head.1 t.0 in
     subst (λ f. Fits (codes "fold" ∷ words) f) c.1 (record { same = ap (λ ws. codes "fold" ∷ ws) (known.0 ∙ ap (λ ws. head.0 ∷ codes "=" ∷ ws) sides.0); proper = (known.1, t.1) }))
@@ -260,7 +262,7 @@ form_found (Fold name start script) h =
     ap (option_and_then fold_by) (is_head name words h.0)
     ∙ ap (λ a. if has (codes ":") words && is_some (value_of a) then Some (Fold name a (behind (codes ":") words)) else None) (before_sign (codes ":") start script whole)
     ∙ ap (λ b. if has (codes ":") words && is_some (value_of start) then Some (Fold name start b) else None) (behind_sign (codes ":") start script whole)
-    ∙ ap (λ t. if t then Some (Fold name start script) else None) (and_yes _ _ (has_sign (codes ":") start script) h.1)
+    ∙ ap (λ t. if t then Some (Fold name start script) else None) (and_from _ _ (has_sign (codes ":") start script) h.1)
 form_found (Choose name parts over) h =
     ap (option_and_then choose_by) (is_head name (separated (codes ":") (pieces_of parts over)) h.0) ∙ is_choose_by name parts over h.1 h.2 h.3
 form_found Thread h = refl

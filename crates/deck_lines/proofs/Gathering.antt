@@ -6,6 +6,7 @@ use Rattle.std.specs.List.{AllByRecursion, AllZip}
 use Rattle.std.proofs.lemmas.Bool.Decides.{nat_tests}
 use Rattle.script_tree.specs.declared.limits.TheConstants.{CANDIDATES, SELECTORS}
 use Rattle.script_tree.specs.Scripts.{Scripted, HasNoPicks, HasNoAcc}
+use Rattle.script_tree.proofs.Lists.{all_end}
 use Rattle.expr_script.specs.declared.atoms.Atoms.TheVariants as atoms
 use Rattle.expr_script.specs.Spelled.{SpellsScript, SpellsTooMany}
 use Rattle.signal_graph.specs.Declarations.{Part}
@@ -20,10 +21,6 @@ use Rattle.deck_lines.specs.Forms.{Words, PartForm}
 use Rattle.deck_lines.specs.Limits.{Job, selector_script, IsTooDeep, IsShallow, One}
 use Rattle.deck_lines.specs.Lines.{SaysPart}
 use Rattle.deck_lines.specs.Selectors.{IsScript, HasMany, IsCrowded, HasRoom, Scripting, Crowding, IsSound, Gathers}
-
-pub all_end : {A : Type 0} (P : A → Type 0) (xs : List A) (x : A) → AllByRecursion P xs → P x → AllByRecursion P (xs ++ x ∷ [])
-all_end P [] x all p = (p, tt)
-all_end P (y ∷ xs) x all p = (all.0, all_end P xs x all.1 p)
 
 pub one_before : {A : Type 0} (P : A → Type 0) (xs ys : List A) → One P xs → One P (xs ++ ys)
 one_before P [] ys o = absurd o

@@ -4,6 +4,7 @@ use Rattle.std.specs.Prelude.{min, map, Option, Some, None, Ok}
 use Rattle.std.specs.List.{AllByRecursion, AllZip}
 use Rattle.script_tree.specs.declared.limits.TheConstants.{INPUTS, CANDIDATES, SELECTORS}
 use Rattle.script_tree.specs.Scripts.{Scripted}
+use Rattle.script_tree.proofs.Lists.{all_append}
 use Rattle.expr_script.specs.Tokens.{script_names}
 use Rattle.signal_graph.specs.declared.builder.DeclKind.TheVariants as kind
 use Rattle.signal_graph.specs.Declarations as declarations
@@ -16,10 +17,6 @@ use Rattle.deck_lines.specs.Limits.{selector_script, body_script, scripts_of, Is
 use Rattle.deck_lines.specs.Lines.{IsReadAs, SaysPart, SaysBody}
 use Rattle.deck_lines.specs.Selectors.{IsScript, HasMany, HasFew, HasRoom, Scripting, Crowding, IsSound}
 use Rattle.deck_lines.proofs.Gathering.{one_before, all_shallow, scripts_are}
-
-pub all_both : {A : Type 0} (P : A → Type 0) (xs ys : List A) → AllByRecursion P xs → AllByRecursion P ys → AllByRecursion P (xs ++ ys)
-all_both P [] ys p q = q
-all_both P (x ∷ xs) ys p q = (p.0, all_both P xs ys p.1 q)
 
 -- a body that is there is within all limits
 body_shallow : (n : ℕ) (words : Option Words) (over : Option Scripted) → SaysBody n words over → AllByRecursion IsShallow (body_script n words)
@@ -46,13 +43,13 @@ same_names (f ∷ forms) (q ∷ parts) z = ap (λ ns. ns ++ declarations.script_
 
 pub too_deep : (name : List ℕ) (forms : List PartForm) (words : Option Words) (over : Option Scripted) (many : Bool) (parts : List Part) → Scripting forms true many parts → SaysBody (length forms) words over → IsBeyond (Choose name forms words) Levels
 too_deep name forms words over many parts s b = record {
-  scripts = all_both IsScript (map selector_script forms) (body_script (length forms) words) s.0 (scripts_are (body_script (length forms) words) (body_shallow (length forms) words over b));
+  scripts = all_append IsScript (map selector_script forms) (body_script (length forms) words) s.0 (scripts_are (body_script (length forms) words) (body_shallow (length forms) words over b));
   beyond = one_before IsTooDeep (map selector_script forms) (body_script (length forms) words) s.1;
   before = tt;
 }
 
 shallow_all : (name : List ℕ) (forms : List PartForm) (words : Option Words) (over : Option Scripted) → AllByRecursion IsShallow (map selector_script forms) → SaysBody (length forms) words over → Keeps (Choose name forms words) Levels
-shallow_all name forms words over s b = all_both IsShallow (map selector_script forms) (body_script (length forms) words) s (body_shallow (length forms) words over b)
+shallow_all name forms words over s b = all_append IsShallow (map selector_script forms) (body_script (length forms) words) s (body_shallow (length forms) words over b)
 
 pub too_many : (name : List ℕ) (forms : List PartForm) (words : Option Words) (over : Option Scripted) (parts : List Part) → Scripting forms false true parts → SaysBody (length forms) words over → IsBeyond (Choose name forms words) Inputs
 too_many name forms words over parts s b =
@@ -74,7 +71,7 @@ many_together name forms words over parts n z b e h =
 
 few_inputs : (name : List ℕ) (forms : List PartForm) (words : Option Words) (parts : List Part) (n : ℕ) → AllZip SaysPart forms parts → n ≡ length (different_names (declarations.script_names parts)) → n ≤ INPUTS → Keeps (Choose name forms words) Inputs
 few_inputs name forms words parts n z e h = (
-  all_both HasFew (map selector_script forms) (body_script (length forms) words) (few_names forms parts z) (body_few (length forms) words),
+  all_append HasFew (map selector_script forms) (body_script (length forms) words) (few_names forms parts z) (body_few (length forms) words),
   subst (λ (k : ℕ). k ≤ INPUTS) (e ∙ ap (λ ns. length (different_names ns)) (same_names forms parts z)) h,
 )
 

@@ -3,11 +3,13 @@ use Rattle.std.proofs.Common.{◌≡◌, ℕ, Bool, true, false, List, [], ◌�
 use Rattle.std.specs.Prelude.{◌&&◌, codes, if◌then◌else◌, nat_lt}
 use Rattle.std.specs.List.{list_any}
 use Rattle.std.specs.Str.{bytes_eq}
+use Rattle.std.proofs.lemmas.Bool.{or_parts, or_from, false≢true}
 use Rattle.script_tree.specs.declared.expr.Unary.{Unary}
 use Rattle.script_tree.specs.declared.expr.Unary.TheVariants.{Negate, Not}
 use Rattle.script_tree.specs.declared.expr.Binary.{Binary}
 use Rattle.script_tree.specs.declared.expr.Binary.TheVariants.{OrElse, Or, And, Equal, Unequal, Less, AtMost, Greater, AtLeast, Add, Subtract, Multiply, Divide, Remainder}
 use Rattle.script_tree.specs.Scripts.{Scripted}
+use Rattle.script_tree.proofs.Texts.{same_text}
 use Rattle.script_grammar.specs.declared.token.Token.{Token}
 use Rattle.script_grammar.specs.declared.token.Token.TheVariants.{Closes, ThenWord, ElseWord, Stray}
 use Rattle.script_grammar.specs.Grammar.{Written, Plain, Inside, Before, Between, Choice, sign, prefix_sign, tokens}
@@ -18,8 +20,6 @@ use Rattle.expr_script.specs.Tokens.{inputs, tokens_among}
 use Rattle.expr_script.specs.Spelled.{SpellsWith}
 use Rattle.deck_lines.specs.Forms.{Words}
 use Rattle.deck_lines.specs.Cuts.{has}
-use Rattle.deck_lines.proofs.Cutting.{same_word, or_no, no_or}
-use Rattle.deck_lines.proofs.Wording.{no_yes}
 
 abbrev pub is_stray : Token → Bool
 is_stray Stray = true
@@ -30,7 +30,7 @@ has_stray ts = list_any is_stray ts
 
 none_stray : (a b : List Token) → has_stray a ≡ false → has_stray b ≡ false → has_stray (a ++ b) ≡ false
 none_stray [] b p q = q
-none_stray (t ∷ a) b p q = let parts = or_no (is_stray t) (has_stray a) p in no_or (is_stray t) (has_stray (a ++ b)) parts.0 (none_stray a b parts.1 q)
+none_stray (t ∷ a) b p q = let parts = or_parts (is_stray t) (has_stray a) p in or_from (is_stray t) (has_stray (a ++ b)) parts.0 (none_stray a b parts.1 q)
 
 sign_stands : (op : Binary) → is_stray (sign op) ≡ false
 sign_stands OrElse = refl
@@ -56,18 +56,18 @@ mark_stands Not = refl
 written_stands : (w : Written) → has_stray (tokens w) ≡ false
 written_stands (Plain word) = refl
 written_stands (Inside w) = none_stray (tokens w) (Closes ∷ []) (written_stands w) refl
-written_stands (Before op w) = no_or (is_stray (prefix_sign op)) (has_stray (tokens w)) (mark_stands op) (written_stands w)
-written_stands (Between op a b) = none_stray (tokens a) (sign op ∷ tokens b) (written_stands a) (no_or (is_stray (sign op)) (has_stray (tokens b)) (sign_stands op) (written_stands b))
+written_stands (Before op w) = or_from (is_stray (prefix_sign op)) (has_stray (tokens w)) (mark_stands op) (written_stands w)
+written_stands (Between op a b) = none_stray (tokens a) (sign op ∷ tokens b) (written_stands a) (or_from (is_stray (sign op)) (has_stray (tokens b)) (sign_stands op) (written_stands b))
 written_stands (Choice c a b) = none_stray (tokens c) (ThenWord ∷ (tokens a ++ ElseWord ∷ tokens b)) (written_stands c) (none_stray (tokens a) (ElseWord ∷ tokens b) (written_stands a) (written_stands b))
 
 without : (atoms : Atoms) (known : List (List ℕ)) (word : List ℕ) → token atoms known word ≡ Stray → (ws : Words) → has_stray (tokens_among atoms known ws) ≡ false → has word ws ≡ false
 without atoms known word s [] h = refl
 without atoms known word s (w ∷ ws) h =
-    let parts = or_no (is_stray (token atoms known w)) (has_stray (tokens_among atoms known ws)) h in
-    no_or (bytes_eq w word) (has word ws) (by_test parts.0 (bytes_eq w word) refl) (without atoms known word s ws parts.1)
+    let parts = or_parts (is_stray (token atoms known w)) (has_stray (tokens_among atoms known ws)) h in
+    or_from (bytes_eq w word) (has word ws) (by_test parts.0 (bytes_eq w word) refl) (without atoms known word s ws parts.1)
   where
     by_test : is_stray (token atoms known w) ≡ false → (t : Bool) → bytes_eq w word ≡ t → t ≡ false
-    by_test n true e = absurd (no_yes (sym n ∙ ap (λ x. is_stray (token atoms known x)) (same_word w word e) ∙ ap is_stray s))
+    by_test n true e = absurd (false≢true (sym n ∙ ap (λ x. is_stray (token atoms known x)) (same_text w word e) ∙ ap is_stray s))
     by_test n false e = refl
 
 -- all words of a script stand in scripts

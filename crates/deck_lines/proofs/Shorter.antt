@@ -8,6 +8,7 @@ use Rattle.std.proofs.lemmas.Bool.Decides.{nat_tests}
 use Rattle.std.proofs.lemmas.Fmt.{decimal_nonempty}
 use Rattle.std.proofs.lemmas.Grind.{common_steps}
 use Rattle.std.proofs.lemmas.List.Elements.{recursion_from_All, All-from_recursion}
+use Rattle.std.proofs.lemmas.Bool.{and_parts}
 use Rattle.script_tree.specs.declared.limits.TheConstants.{SELECTORS}
 use Rattle.script_tree.specs.declared.value.Value.{Value}
 use Rattle.script_tree.specs.declared.value.Value.TheVariants.{Int}
@@ -18,7 +19,7 @@ use Rattle.expr_script.specs.Pieces.{words}
 use Rattle.expr_script.specs.Printed.{printed_words}
 use Rattle.expr_script.specs.Spelled.{SpellsScript, SpellsBody}
 use Rattle.expr_script.specs.Words.{value}
-use Rattle.expr_script.proofs.CutBack.{length_behind}
+use Rattle.expr_script.proofs.CutBack.{length_behind, between_short}
 use Rattle.expr_script.proofs.Lean.{digits_begin}
 use Rattle.expr_script.proofs.Numerals.{decimal_digits, decimal_short}
 use Rattle.signal_graph.specs.Declarations.{Part}
@@ -31,7 +32,6 @@ use Rattle.deck_lines.specs.Lines.{SaysSet, SaysPart, SaysBody, Says, IsLine}
 use Rattle.deck_lines.specs.Texts.{without_return, without_comment, said, line_words}
 use Rattle.deck_lines.specs.Values.{is_digits, value_of}
 use Rattle.deck_lines.proofs.ValueBack.{by_spelling}
-use Rattle.deck_lines.proofs.Wording.{both}
 
 -- words are written in no more bytes than others, whatever is before them
 pub record NoLonger (a b : Words) : Type 0 where
@@ -68,13 +68,6 @@ alike last other (w ∷ more) e = ap (λ b. gap b w ++ (w ++ behind w more)) e
 between_alike : (last w v : List ℕ) → begins_word w ≡ begins_word v → length (between last w) ≡ length (between last v)
 between_alike last w v e = ap (λ b. length (if begins_word last && b then codes " " else [])) e
 
-between_short : (last w : List ℕ) → length (between last w) ≤ 1
-between_short last w = by_test (begins_word last && begins_word w)
-  where
-    by_test : (t : Bool) → length (if t then codes " " else []) ≤ 1
-    by_test true = omega arith
-    by_test false = omega arith
-
 -- a shorter word for another one
 shorter_word : (w v : List ℕ) → length w ≤ length v → begins_word w ≡ true → begins_word v ≡ true → Lean (w ∷ []) (v ∷ [])
 shorter_word w v s p q = record {
@@ -106,7 +99,7 @@ record Digits (word : List ℕ) : Type 0 where
 
 are_digits : (word : List ℕ) → is_digits word ≡ true → Digits word
 are_digits word d =
-    let parts = both (nat_lt 0 (length word)) (list_all is_ascii_digit word) d in
+    let parts = and_parts (nat_lt 0 (length word)) (list_all is_ascii_digit word) d in
     record { some = some parts.0; all = parts.1 }
   where
     some : nat_lt 0 (length word) ≡ true → 0 < length word

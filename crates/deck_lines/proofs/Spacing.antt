@@ -5,6 +5,7 @@ use Rattle.std.specs.Option.{option_map}
 use Rattle.std.specs.List.{list_all, list_any, AllByRecursion, AllZip}
 use Rattle.std.specs.Char.{is_ascii_digit}
 use Rattle.std.proofs.lemmas.Bool.Decides.{nat_tests}
+use Rattle.std.proofs.lemmas.Bool.{and_parts}
 use Rattle.script_tree.specs.declared.limits.TheConstants.{SELECTORS}
 use Rattle.script_tree.specs.declared.value.Value.{Value}
 use Rattle.script_tree.specs.Scripts.{Scripted}
@@ -26,7 +27,6 @@ use Rattle.deck_lines.proofs.Cleaning.{script_clean, behind_clean, all_said}
 use Rattle.deck_lines.proofs.Restating.{Canons}
 use Rattle.deck_lines.proofs.ValueBack.{by_spelling, value_back}
 use Rattle.deck_lines.proofs.Wholes.{IsWord, IsClean, name_word, digits_word, Apart, word_apart, minus_apart, both_apart, then_behind, none_behind, sign_behind, separated_apart, comma, colon, equals}
-use Rattle.deck_lines.proofs.Wording.{both}
 
 -- the canonical words of scripts and bodies stand apart
 pub record ScriptsApart : Type 0 where
@@ -47,7 +47,7 @@ body_apart k picks list s few h = record { stand = λ last more m. k.stand.body 
 -- words that spell a value stand apart
 some_digits : (word : List ℕ) → is_digits word ≡ true → IsWord word
 some_digits word d =
-    let parts = both (nat_lt 0 (length word)) (list_all is_ascii_digit word) d in
+    let parts = and_parts (nat_lt 0 (length word)) (list_all is_ascii_digit word) d in
     digits_word word (some parts.0) parts.1
   where
     some : nat_lt 0 (length word) ≡ true → 0 < length word

@@ -4,17 +4,16 @@ use Rattle.std.specs.Prelude.{◌==◌, ◌&&◌, ◌||◌, not, nat_le, codes}
 use Rattle.std.specs.List.{list_all, list_any, AllByRecursion}
 use Rattle.std.specs.Char.{is_ascii_digit}
 use Rattle.std.proofs.lemmas.Bool.Decides.{nat_tests}
+use Rattle.std.proofs.lemmas.Bool.{or_from, false≢true, and_parts}
 use Rattle.script_tree.specs.declared.limits.TheConstants.{NAME_BYTES}
 use Rattle.script_tree.specs.Names.{is_word, is_reserved, starts_well}
+use Rattle.script_tree.proofs.Lists.{all_append}
 use Rattle.expr_script.specs.Joined.{merges, IsWhole, StandApart}
 use Rattle.expr_script.proofs.Apart.{follow_more, word_closed, word_after}
 use Rattle.expr_script.proofs.TokenBack.{digits_words, word_whole}
 use Rattle.deck_lines.specs.Forms.{Words, IsName}
 use Rattle.deck_lines.specs.Texts.{is_end}
 use Rattle.deck_lines.specs.Cuts.{each_behind, separated}
-use Rattle.deck_lines.proofs.Cutting.{no_or}
-use Rattle.deck_lines.proofs.Judging.{all_both}
-use Rattle.deck_lines.proofs.Wording.{no_yes, both}
 
 -- a word of the language by itself
 pub record IsWord (w : List ℕ) : Type 0 where
@@ -22,10 +21,10 @@ pub record IsWord (w : List ℕ) : Type 0 where
   pub all : list_all is_word w ≡ true
 
 pub name_word : (name : List ℕ) → IsName name → IsWord name
-name_word [] h = absurd (no_yes h)
+name_word [] h = absurd (false≢true h)
 name_word (b ∷ bs) h = record {
   some = omega arith;
-  all = (both (list_all is_word (b ∷ bs)) (nat_le (length (b ∷ bs)) NAME_BYTES && not (is_reserved (b ∷ bs))) (both (starts_well (b ∷ bs)) (list_all is_word (b ∷ bs) && (nat_le (length (b ∷ bs)) NAME_BYTES && not (is_reserved (b ∷ bs)))) h).1).0;
+  all = (and_parts (list_all is_word (b ∷ bs)) (nat_le (length (b ∷ bs)) NAME_BYTES && not (is_reserved (b ∷ bs))) (and_parts (starts_well (b ∷ bs)) (list_all is_word (b ∷ bs) && (nat_le (length (b ∷ bs)) NAME_BYTES && not (is_reserved (b ∷ bs)))) h).1).0;
 }
 
 pub digits_word : (ds : List ℕ) → 0 < length ds → list_all is_ascii_digit ds ≡ true → IsWord ds
@@ -39,16 +38,16 @@ word_no_end : (b : ℕ) → is_word b ≡ true → is_end b ≡ false
 word_no_end b h = by_tests (b == 35) refl (b == 13) refl (b == 10) refl
   where
     by_tests : (t : Bool) → (b == 35) ≡ t → (u : Bool) → (b == 13) ≡ u → (v : Bool) → (b == 10) ≡ v → (t || (u || v)) ≡ false
-    by_tests true e u f v g = let same : b ≡ 35 = grind (arith, nat_tests, e) in absurd (no_yes (sym (ap is_word same) ∙ h))
-    by_tests false e true f v g = let same : b ≡ 13 = grind (arith, nat_tests, f) in absurd (no_yes (sym (ap is_word same) ∙ h))
-    by_tests false e false f true g = let same : b ≡ 10 = grind (arith, nat_tests, g) in absurd (no_yes (sym (ap is_word same) ∙ h))
+    by_tests true e u f v g = let same : b ≡ 35 = grind (arith, nat_tests, e) in absurd (false≢true (sym (ap is_word same) ∙ h))
+    by_tests false e true f v g = let same : b ≡ 13 = grind (arith, nat_tests, f) in absurd (false≢true (sym (ap is_word same) ∙ h))
+    by_tests false e false f true g = let same : b ≡ 10 = grind (arith, nat_tests, g) in absurd (false≢true (sym (ap is_word same) ∙ h))
     by_tests false e false f false g = refl
 
 pub bytes_clean : (w : List ℕ) → list_all is_word w ≡ true → IsClean w
 bytes_clean [] h = refl
 bytes_clean (b ∷ bs) h =
-    let parts = both (is_word b) (list_all is_word bs) h in
-    no_or (is_end b) (list_any is_end bs) (word_no_end b parts.0) (bytes_clean bs parts.1)
+    let parts = and_parts (is_word b) (list_all is_word bs) h in
+    or_from (is_end b) (list_any is_end bs) (word_no_end b parts.0) (bytes_clean bs parts.1)
 
 -- words that stand apart from whatever is before them, and from what stands apart behind them
 pub record Apart (ws : Words) : Type 0 where
@@ -78,10 +77,10 @@ minus_apart w i = record {
     after (b ∷ b' ∷ w) = refl
 
 pub both_apart : (a b : Words) → Apart a → Apart b → Apart (a ++ b)
-both_apart a b p q = record { stand = λ last more s. subst (StandApart last) (sym (append_assoc a b more)) (p.stand last (b ++ more) (q.stand [] more s)); clean = all_both IsClean a b p.clean q.clean }
+both_apart a b p q = record { stand = λ last more s. subst (StandApart last) (sym (append_assoc a b more)) (p.stand last (b ++ more) (q.stand [] more s)); clean = all_append IsClean a b p.clean q.clean }
 
 pub then_behind : (a b : Words) → Apart a → Behind b → Apart (a ++ b)
-then_behind a b p q = record { stand = λ last more s. subst (StandApart last) (sym (append_assoc a b more)) (p.stand last (b ++ more) (q.stand more s)); clean = all_both IsClean a b p.clean q.clean }
+then_behind a b p q = record { stand = λ last more s. subst (StandApart last) (sym (append_assoc a b more)) (p.stand last (b ++ more) (q.stand more s)); clean = all_append IsClean a b p.clean q.clean }
 
 pub none_behind : Behind []
 none_behind = record { stand = λ more s. s; clean = tt }

@@ -5,25 +5,17 @@ use Rattle.std.specs.Option.{option_map, option_and_then, is_some}
 use Rattle.std.specs.List.{AllByRecursion}
 use Rattle.std.specs.Str.{bytes_eq}
 use Rattle.std.proofs.lemmas.Option.{none-some, same_Some, cond_some, option_and_then_some}
+use Rattle.std.proofs.lemmas.Bool.{or_from, false≢true, and_parts}
 use Rattle.script_tree.specs.Names.{is_name}
+use Rattle.script_tree.proofs.Texts.{same_text}
 use Rattle.deck_lines.specs.Forms.{Words, SetForm, IsName, IsValue, IsSet, with_commas, spelled_set}
 use Rattle.deck_lines.specs.Cuts.{has, separated}
 use Rattle.deck_lines.specs.Values.{one_word, below_zero, value_of}
 use Rattle.deck_lines.specs.Reading.{cut, each, name_of, names_of, head_of, set_by, set_of, sets_of}
-use Rattle.deck_lines.proofs.Cutting.{same_word, no_or, cut_separated, separated_cut}
-
-pub no_yes : false ≡ true → ⊥
-no_yes e = cc
-
-pub both : (p q : Bool) → (p && q) ≡ true → (p ≡ true) × (q ≡ true)
-both true q e = (refl, e)
-both false q e = absurd (no_yes e)
-
-pub and_yes : (p q : Bool) → p ≡ true → q ≡ true → (p && q) ≡ true
-and_yes p q e f = ap (λ t. t && q) e ∙ f
+use Rattle.deck_lines.proofs.Cutting.{cut_separated, separated_cut}
 
 pub there : {A : Type 0} (o : Option A) → is_some o ≡ true → (x : A) × (o ≡ Some x)
-there None e = absurd (no_yes e)
+there None e = absurd (false≢true e)
 there (Some x) e = (x, refl)
 
 pub some_there : {A : Type 0} (o : Option A) → IsSome o → (x : A) × (o ≡ Some x)
@@ -38,7 +30,7 @@ pub not_named : (name sign : List ℕ) → IsName name → is_name sign ≡ fals
 not_named name sign h n = by_test (bytes_eq name sign) refl
   where
     by_test : (t : Bool) → bytes_eq name sign ≡ t → t ≡ false
-    by_test true e = absurd (no_yes (sym n ∙ ap is_name (sym (same_word name sign e)) ∙ h))
+    by_test true e = absurd (false≢true (sym n ∙ ap is_name (sym (same_text name sign e)) ∙ h))
     by_test false e = refl
 
 -- a word that no value has
@@ -51,21 +43,21 @@ other : {A : Type 0} (f : List ℕ → Option A) (word sign : List ℕ) → f si
 other f word sign n h = by_test (bytes_eq word sign) refl
   where
     by_test : (t : Bool) → bytes_eq word sign ≡ t → t ≡ false
-    by_test true e = absurd (none-some (some_there (f word) h).0 (sym n ∙ ap f (sym (same_word word sign e)) ∙ (some_there (f word) h).1))
+    by_test true e = absurd (none-some (some_there (f word) h).0 (sym n ∙ ap f (sym (same_text word sign e)) ∙ (some_there (f word) h).1))
     by_test false e = refl
 
 minus : {A : Type 0} (t : Bool) (o : Option A) → IsSome (if t then o else None) → (t ≡ true) × IsSome o
 minus true o h = (refl, h)
-minus false o h = absurd (no_yes h)
+minus false o h = absurd (false≢true h)
 
 pub value_without : (sign : List ℕ) (words : Words) → NoValue sign → IsValue words → has sign words ≡ false
 value_without sign [] n h = refl
-value_without sign (word ∷ []) n h = no_or _ false (other one_word word sign n.no_word h) refl
+value_without sign (word ∷ []) n h = or_from _ false (other one_word word sign n.no_word h) refl
 value_without sign (m ∷ word ∷ []) n h =
     let parts = minus (bytes_eq m (codes "-")) (below_zero word) h in
-    no_or _ _ (subst (λ x. bytes_eq x sign ≡ false) (sym (same_word m (codes "-") parts.0)) n.no_minus)
-    (no_or _ false (other below_zero word sign n.no_number parts.1) refl)
-value_without sign (a ∷ b ∷ c ∷ more) n h = absurd (no_yes h)
+    or_from _ _ (subst (λ x. bytes_eq x sign ≡ false) (sym (same_text m (codes "-") parts.0)) n.no_minus)
+    (or_from _ false (other below_zero word sign n.no_number parts.1) refl)
+value_without sign (a ∷ b ∷ c ∷ more) n h = absurd (false≢true h)
 
 -- what each item of a list is, both ways
 pub each_is : {A B : Type 0} (f : A → Option B) (g : B → A) (P : B → Type 0) → ((x : A) (y : B) → f x ≡ Some y → (x ≡ g y) × P y) → (xs : List A) (ys : List B) → each f xs ≡ Some ys → (xs ≡ map g ys) × AllByRecursion P ys
@@ -115,7 +107,7 @@ pub names_are : (words : Words) (names : List (List ℕ)) → names_of words ≡
 names_are words names e = found_between (codes ",") name_of (λ name. name ∷ []) IsName name_is words names e
 
 pub are_names : (names : List (List ℕ)) → 1 ≤ length names → AllByRecursion IsName names → names_of (with_commas names) ≡ Some names
-are_names names some all = between_found (codes ",") name_of (λ name. name ∷ []) IsName is_name_of (λ name h. no_or _ false (not_named name (codes ",") h refl) refl) names some all
+are_names names some all = between_found (codes ",") name_of (λ name. name ∷ []) IsName is_name_of (λ name h. or_from _ false (not_named name (codes ",") h refl) refl) names some all
 
 -- no list of what one list is cut into is empty
 pub each_some : {A B : Type 0} (f : A → Option B) (xs : List A) (ys : List B) → each f xs ≡ Some ys → length ys ≡ length xs
@@ -133,9 +125,9 @@ head_is [] head e = absurd (none-some head e)
 head_is (a ∷ []) head e = absurd (none-some head e)
 head_is (name ∷ sign ∷ rest) head e =
     let c = cond_some (is_name name && bytes_eq sign (codes "=")) (name, rest) head e in
-    let t = both (is_name name) (bytes_eq sign (codes "=")) c.0 in
+    let t = and_parts (is_name name) (bytes_eq sign (codes "=")) c.0 in
     subst (λ (h : List ℕ × Words). (name ∷ sign ∷ rest ≡ h.0 ∷ codes "=" ∷ h.1) × IsName h.0) c.1
-    (ap (λ s. name ∷ s ∷ rest) (same_word sign (codes "=") t.1), t.0)
+    (ap (λ s. name ∷ s ∷ rest) (same_text sign (codes "=") t.1), t.0)
 
 pub is_head : (name : List ℕ) (rest : Words) → IsName name → head_of (name ∷ codes "=" ∷ rest) ≡ Some (name, rest)
 is_head name rest h = ap (λ t. if t && bytes_eq (codes "=") (codes "=") then Some (name, rest) else None) h
@@ -151,7 +143,7 @@ is_set_of : (s : SetForm) → IsSet s → set_of (spelled_set s) ≡ Some s
 is_set_of s h = ap (option_and_then set_by) (is_head s.0 s.1 h.named) ∙ ap (λ t. if t then Some s else None) h.start
 
 pub set_without : (sign : List ℕ) → is_name sign ≡ false → NoValue sign → bytes_eq (codes "=") sign ≡ false → (s : SetForm) → IsSet s → has sign (spelled_set s) ≡ false
-set_without sign n v q s h = no_or _ _ (not_named s.0 sign h.named n) (no_or _ _ q (value_without sign s.1 v h.start))
+set_without sign n v q s h = or_from _ _ (not_named s.0 sign h.named n) (or_from _ _ q (value_without sign s.1 v h.start))
 
 pub no_comma : NoValue (codes ",")
 no_comma = record { no_word = refl; no_minus = refl; no_number = refl }

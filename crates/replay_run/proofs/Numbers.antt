@@ -5,7 +5,7 @@ use Rattle.std.specs.Char.{is_ascii_digit}
 use Rattle.std.proofs.Math.Nat.{mul-le-mul_right, mul_assoc, pow-succ', pow-le-pow_right}
 use Rattle.script_tree.proofs.Truths.{and_left, and_right}
 use Rattle.expr_script.specs.Words.{value}
-use Rattle.deck_lines.proofs.Numbers.{value_take_more, value_take}
+use Rattle.expr_script.proofs.Numbers.{value_take_more, value_take}
 
 digit_small : (d : ℕ) → is_ascii_digit d ≡ true → d - 48 ≤ 9
 digit_small d h = grind (arith, h)
