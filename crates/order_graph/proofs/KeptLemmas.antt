@@ -1,14 +1,14 @@
 -- What is kept of an order through its calls.
-use Rattle.std.proofs.Common.{◌≡◌, ◌≢◌, ℕ, ◌+◌, ◌*◌, ◌<◌, ◌≤◌, ◌⊎◌, inl, inr, Bool, true, false, not, ◌&&◌, ◌||◌, ◌==◌, eqb, cond, List, [], ◌∷◌, ◌++◌, length, get_or, set, map, take, drop, replicate, Option, Some, None, refl, sym, ap, ◌∙◌, subst, arith}
+use Rattle.std.proofs.Common.{◌≡◌, ◌≢◌, ℕ, ◌+◌, ◌*◌, ◌<◌, ◌≤◌, ◌⊎◌, inl, inr, Bool, true, false, not, ◌&&◌, ◌||◌, ◌==◌, eqb, cond, List, [], ◌∷◌, ◌++◌, length, get_or, set, map, replicate, Option, Some, None, refl, sym, ap, ◌∙◌, subst, arith}
 use Rattle.std.specs.Prelude.{IsTrue, IfSome, IfNone, ◌↔◌}
 use Rattle.std.specs.Option.{is_some, option_map, option_or}
 use Rattle.std.specs.List.{list_any, filter, find, AllByRecursion, IsDistinct}
-use Rattle.std.specs.Ordering.{nat_cmp, eq_by_cmp}
+use Rattle.std.specs.Ordering.{nat_cmp}
 use Rattle.std.specs.Cmp.{nat_cmp_total}
 use Rattle.std.specs.FinSet as finset
 use Rattle.std.proofs.lemmas.Bool.{cases_eq, cases_lt, cases_Bool, or_cases, or_from, or_parts, and_right, and_parts, and_from, eqb-true, eq-eqb, ne_eqb, false_from_ne_true, both_ways, false≢true}
 use Rattle.std.proofs.lemmas.Bool.Decides.{nat_tests}
-use Rattle.std.proofs.lemmas.List.{get_or-set_same, get_or-set_other, get_or_past, get_or_default, length-set, take_at, length-map, get_or-replicate, length-replicate, length-append}
+use Rattle.std.proofs.lemmas.List.{get_or-set_same, get_or-set_other, get_or_past, get_or_default, length-set, length-map, get_or-replicate, length-replicate, length-append}
 use Rattle.std.proofs.lemmas.List.Folds.{find-append, list_any-append}
 use Rattle.std.proofs.lemmas.Map.Views.{any-filter_same}
 use Rattle.std.proofs.lemmas.Map.Steps.{length-le_from_distinct_below}
@@ -19,13 +19,7 @@ use Rattle.order_graph.specs.Order.{Pair, joins, is_recorded, node_of, Precedes,
 use Rattle.order_graph.specs.Order.Precedes.{by_pair, by_chain}
 use Rattle.order_graph.specs.Kept.{AreOfSlots, AreMirrored, IsKept, IsPassedOn}
 use Rattle.order_graph.proofs.Closure.{Adds, Drops, Precedes-join, masks_added, masks_dropped, last_pair, Precedes-fewer, no_cycle-added}
-
--- what a list is after a loan of the whole of it
-pub whole_slice : {X : Type 0} (len : ℕ) (new old : List X) → length new ≡ length old → len ≡ length old → take len (new ++ drop (length new) old) ≡ new
-whole_slice len new old h e = take_at new (drop (length new) old) len (h ∙ sym e)
-
-tied : (q a : ℕ) → eq_by_cmp nat_cmp q a ≡ (q == a)
-tied q a = grind (arith, nat_tests)
+use Rattle.order_graph.proofs.SlotLemmas.{tied}
 
 has-insert : (s : Slots) (a x : ℕ) → finset.contains (finset.insert s a) x ≡ ((x == a) || finset.contains s x)
 has-insert s a x = finset.contains-insert nat_cmp_total s a x ∙ ap (λ b. b || finset.contains s x) (tied x a)

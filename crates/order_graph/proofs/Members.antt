@@ -6,9 +6,11 @@ use Rattle.std.proofs.lemmas.Bool.{cases_lt, cases_eq}
 use Rattle.std.proofs.lemmas.List.{get_or-set_same, get_or-set_other, get_or_default}
 use Rattle.std.proofs.lemmas.Nat.{and_le_r}
 use Rattle.std.proofs.lemmas.Nat.Bits.{bit_at_and, bit_at_lowest, bit_at-suc, bit_at-trailing_zeros, bit_at-zero}
-use Rattle.order_graph.specs.Slots.{Slots, slots_of, IsLowestBit, IsLeastFrom}
+use Rattle.script_tree.specs.Bits.{IsLowestBit}
+use Rattle.script_tree.proofs.BitLemmas.{clear_in_word}
+use Rattle.order_graph.specs.Slots.{Slots, slots_of, IsLeastFrom}
 use Rattle.order_graph.specs.Sets.{HasAllBelow, slots_at, changed}
-use Rattle.order_graph.proofs.SlotLemmas.{least_in_word, no_slot, clear_in_word}
+use Rattle.order_graph.proofs.SlotLemmas.{least_in_word, no_slot}
 
 -- the sets of the members below i have changed, and the rest are as they were
 pub record ChangedBelow (i : ℕ) (change : Slots → Slots) (members : Slots) (old new : List Slots) : Type 0 where

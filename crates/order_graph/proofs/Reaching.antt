@@ -8,14 +8,14 @@ use Rattle.order_graph.specs.Order.Precedes.{by_pair, by_chain}
 use Rattle.order_graph.proofs.Closure.{Adds, Precedes-join, masks_added, masks_dropped}
 use Rattle.order_graph.proofs.KeptLemmas.{adds-with_pair, drops-retired, with_pair}
 
-reaches-cons : (p : Pair) (pairs : List Pair) (a b : ℕ) → reaches (p ∷ pairs) a b ≡ (reaches pairs a b || (((p.from == a) || reaches pairs a p.from) && ((p.to == b) || reaches pairs p.to b)))
+pub reaches-cons : (p : Pair) (pairs : List Pair) (a b : ℕ) → reaches (p ∷ pairs) a b ≡ (reaches pairs a b || (((p.from == a) || reaches pairs a p.from) && ((p.to == b) || reaches pairs p.to b)))
 reaches-cons p pairs a b = grind arith
 
-recorded-reaches : (pairs : List Pair) (a b : ℕ) → is_recorded pairs a b ≡ true → reaches pairs a b ≡ true
+pub recorded-reaches : (pairs : List Pair) (a b : ℕ) → is_recorded pairs a b ≡ true → reaches pairs a b ≡ true
 recorded-reaches [] a b h = h
 recorded-reaches (p ∷ pairs) a b h = let r = recorded-reaches pairs a b in grind (arith, eqb_tells, r)
 
-reaches-join : (pairs : List Pair) (a b c : ℕ) → reaches pairs a b ≡ true → reaches pairs b c ≡ true → reaches pairs a c ≡ true
+pub reaches-join : (pairs : List Pair) (a b c : ℕ) → reaches pairs a b ≡ true → reaches pairs b c ≡ true → reaches pairs a c ≡ true
 reaches-join [] a b c h k = h
 reaches-join (p ∷ pairs) a b c h k =
     let r1 = reaches-join pairs a b c in

@@ -1,6 +1,7 @@
 // A set of slots as four words of 64 bits, and what changes the sets of its members.
 ghost use Rattle.std.specs.Prelude.{◌≡◌, ◌<◌, ◌≤◌, ℕ, length, IfSome, IfNone};
-ghost use Rattle.order_graph.specs.Slots.{HasNoBit, IsLowestBit, IsLeastFrom, HasNoneFrom};
+ghost use Rattle.script_tree.specs.Bits.{HasNoBit, IsLowestBit};
+ghost use Rattle.order_graph.specs.Slots.{IsLeastFrom, HasNoneFrom};
 ghost use Rattle.order_graph.specs.Sets.{HasAllBelow, slots_at, changed};
 ghost use Rattle.std.specs.FinSet as set;
 

@@ -1,6 +1,6 @@
 use Rattle.std.proofs.Common.{arith}
 use Rattle.std.proofs.lemmas.Nat.Bits.{ones_shl}
-use Rattle.order_graph.proofs.SlotLemmas.{lowest_masked, none_masked}
+use Rattle.script_tree.proofs.BitLemmas.{lowest_masked, none_masked}
 use Rattle.order_graph.proofs.slot_set.lowest_bit.Goals as goal
 
 pub returns-then-rest-eq0-clause-none : goal.returns-then-rest-eq0-clause-none

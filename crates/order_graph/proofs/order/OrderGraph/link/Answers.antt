@@ -1,7 +1,8 @@
 use Rattle.std.proofs.Common.{◌≡◌, ◌<◌, false, ◌∙◌, sym, ap, subst, arith}
 use Rattle.std.specs.Vec.{vec_capacity}
+use Rattle.script_tree.proofs.Lists.{whole_slice}
 use Rattle.order_graph.specs.Order.{Order, Precedes, is_recorded}
-use Rattle.order_graph.proofs.KeptLemmas.{after_link, after_pass, known_stays, recorded_there, room_for_pair, whole_slice}
+use Rattle.order_graph.proofs.KeptLemmas.{after_link, after_pass, known_stays, recorded_there, room_for_pair}
 use Rattle.order_graph.proofs.order.OrderGraph.link.Goals as goal
 
 pub push_reserved-requires : goal.push_reserved-requires

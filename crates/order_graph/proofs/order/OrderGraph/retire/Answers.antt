@@ -1,7 +1,8 @@
 use Rattle.std.proofs.Common.{◌≡◌, ℕ, ◌<◌, ◌∙◌, not, sym, ap, subst, arith}
 use Rattle.std.specs.Vec.{vec_capacity}
+use Rattle.script_tree.proofs.Lists.{whole_slice}
 use Rattle.order_graph.specs.Order.{Order, Precedes, retired}
-use Rattle.order_graph.proofs.KeptLemmas.{after_retire, later_slots, retired_alone, whole_slice}
+use Rattle.order_graph.proofs.KeptLemmas.{after_retire, later_slots, retired_alone}
 use Rattle.order_graph.proofs.order.OrderGraph.retire.Goals as goal
 
 pub returns-then-is_none-clause-pairs : goal.returns-then-is_none-clause-pairs

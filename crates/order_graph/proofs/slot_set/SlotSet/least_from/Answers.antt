@@ -1,6 +1,7 @@
 use Rattle.std.proofs.Common.{◌+◌, ◌*◌, subst, arith}
+use Rattle.script_tree.proofs.BitLemmas.{search_more}
 use Rattle.order_graph.specs.Slots.{Slots, IsLeastFrom, HasNoneFrom}
-use Rattle.order_graph.proofs.SlotLemmas.{least_in_word, search_more, searched_all}
+use Rattle.order_graph.proofs.SlotLemmas.{least_in_word, searched_all}
 use Rattle.order_graph.proofs.slot_set.SlotSet.least_from.Goals as goal
 
 pub returns-in-Some-clause-some : goal.returns-in-Some-clause-some
