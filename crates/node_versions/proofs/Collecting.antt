@@ -80,7 +80,7 @@ pub record IsLastDoneOf (es : List Entry) (n k : ℕ) : Type 0 where
   pub done : is_done entry.state ≡ true
   pub found : (k < length (take n es)) × (slice_get (take n es) k ≡ last_done (take n es))
 
-last_is_done : (es : List Entry) (d : Entry) → last_done es ≡ Some d → is_done d.state ≡ true
+pub last_is_done : (es : List Entry) (d : Entry) → last_done es ≡ Some d → is_done d.state ≡ true
 last_is_done [] d h = cc
 last_is_done (e ∷ es) d h = let r = last_is_done es d in grind (arith, h, r)
 

@@ -1,5 +1,5 @@
 -- What is found in a list by looking through it from its end.
-use Rattle.std.proofs.Common.{◌≡◌, ℕ, ◌+◌, ◌-◌, ◌<◌, ◌≤◌, Bool, true, false, not, ◌==◌, List, [], ◌∷◌, ◌++◌, length, drop, refl, sym, ap, ◌∙◌, arith, subst, cond, zero, suc, Some, append-nil, append_assoc, length-append, true≢false}
+use Rattle.std.proofs.Common.{◌≡◌, ℕ, ◌+◌, ◌-◌, ◌<◌, ◌≤◌, Bool, true, false, not, ◌==◌, List, [], ◌∷◌, ◌++◌, length, drop, refl, sym, ap, ◌∙◌, arith, subst, cond, zero, suc, Some, append-nil, length-append, true≢false}
 use Rattle.std.specs.List.{position_or_len, slice_get, slice_index_or}
 use Rattle.std.proofs.lemmas.Bool.Decides.{eqb_tells}
 use Rattle.std.proofs.lemmas.Bool.{eqb-true}
@@ -7,6 +7,8 @@ use Rattle.std.proofs.lemmas.Option.{slice_get-get_or}
 use Rattle.node_versions.specs.Entries.{Entry, has, IsUnique, rest, AllStop, StopsFrom, StopsToTheEnd}
 use Rattle.node_versions.proofs.Lists.{has-append}
 use Rattle.node_versions.proofs.Places.{place}
+use Rattle.node_versions.proofs.LastDone.{longer}
+use Rattle.node_versions.proofs.Indexes.{moved}
 
 -- ---- the entry of a version
 
@@ -33,9 +35,6 @@ place_behind (x ∷ xs) ys e t h k = let r = place_behind xs ys e t in grind (ar
 place_none : (es : List Entry) (t : ℕ) → has es t ≡ false → place es t ≡ length es
 place_none [] t h = refl
 place_none (x ∷ xs) t h = let r = place_none xs t in grind (arith, h, r)
-
-longer : (es left front more : List Entry) (e : Entry) → es ≡ left ++ more → left ≡ front ++ e ∷ [] → es ≡ front ++ e ∷ more
-longer es left front more e h k = h ∙ ap (λ (xs : List Entry). xs ++ more) k ∙ append_assoc front (e ∷ []) more
 
 pub look_on : (es left front : List Entry) (e : Entry) (t : ℕ) → IsLookedThrough es left t → left ≡ front ++ e ∷ [] → (e.version == t) ≡ false → IsLookedThrough es front t
 look_on es left front e t s k h = record {
@@ -98,9 +97,6 @@ stops_from_place stops (e ∷ es) (suc i) h from le = go (stops e) refl h (λ (a
         → suc i ≡ cond (not b) (1 + position_or_len stops es) 0
     go true k all r = absurd (true≢false (sym (stop_at stops (e ∷ es) i d all (slice_get-get_or (e ∷ es) i e (omega (arith, le)))) ∙ fails))
     go false k all r = omega (arith, r all)
-
-moved : (i : ℕ) → suc (i + 1) ≡ suc i + 1
-moved i = omega arith
 
 pub drop_at : (es : List Entry) (i : ℕ) (e : Entry) → slice_get es i ≡ Some e → drop i es ≡ e ∷ drop (i + 1) es
 drop_at [] i e h = cc

@@ -4,10 +4,7 @@ use Rattle.std.specs.List.{position_or_len, slice_get, list_any}
 use Rattle.std.proofs.lemmas.Bool.Decides.{eqb_tells, nat_tests}
 use Rattle.std.proofs.lemmas.Bool.{eqb-true}
 use Rattle.node_versions.specs.Entries.{Entry, State, is_frame, is_of, has, at, behind, served, up_to, IsUnique, IsEntryAt, IsFirstOpenAt, first_open, version_at, is_active}
-use Rattle.node_versions.proofs.Places.{place, has-place, place_fits}
-
-one_more : (n : ℕ) → 1 + n ≡ suc n
-one_more n = omega arith
+use Rattle.node_versions.proofs.Places.{place, has-place, place_fits, one_more}
 
 entry_at_place : (es : List Entry) (t : ℕ) (e : Entry) → slice_get es (place es t) ≡ Some e → (e.version ≡ t) × ((test : State → Bool) → at test es t ≡ test e.state)
 entry_at_place [] t e h = cc
@@ -115,7 +112,7 @@ has_version_at [] i le = absurd (omega (arith, le))
 has_version_at (e ∷ es) zero le = grind (arith, eqb_tells)
 has_version_at (e ∷ es) (suc i) le = let r = has_version_at es i in grind (arith, eqb_tells, le, r)
 
-moved : (i : ℕ) → suc (i + 1) ≡ suc i + 1
+pub moved : (i : ℕ) → suc (i + 1) ≡ suc i + 1
 moved i = omega arith
 
 behind_index : (es : List Entry) (i s : ℕ) → IsUnique es → i < length es → behind es (version_at es i) s ≡ has (drop (i + 1) es) s

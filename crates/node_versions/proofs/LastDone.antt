@@ -27,7 +27,7 @@ pub record IsSearched (es rest : List Entry) : Type 0 where
 pub start : (es : List Entry) → IsSearched es es
 start es = record { more = []; list = sym (append-nil es); same = refl }
 
-longer : (es rest front more : List Entry) (e : Entry) → es ≡ rest ++ more → rest ≡ front ++ e ∷ [] → es ≡ front ++ e ∷ more
+pub longer : (es rest front more : List Entry) (e : Entry) → es ≡ rest ++ more → rest ≡ front ++ e ∷ [] → es ≡ front ++ e ∷ more
 longer es rest front more e h k = h ∙ ap (λ (xs : List Entry). xs ++ more) k ∙ append_assoc front (e ∷ []) more
 
 pub step : (es rest front : List Entry) (e : Entry) → IsSearched es rest → rest ≡ front ++ e ∷ [] → is_done e.state ≡ false → IsSearched es front

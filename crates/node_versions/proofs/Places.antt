@@ -17,7 +17,7 @@ pub has-place : (es : List Entry) (t : ℕ) → has es t ≡ nat_lt (place es t)
 has-place [] t = refl
 has-place (e ∷ es) t = let r = has-place es t in grind (arith, nat_tests, r)
 
-one_more : (n : ℕ) → 1 + n ≡ suc n
+pub one_more : (n : ℕ) → 1 + n ≡ suc n
 one_more n = omega arith
 
 one_more_twice : (n : ℕ) → 1 + n + 1 ≡ suc (n + 1)
@@ -86,7 +86,7 @@ pub at-has : (test : State → Bool) (es : List Entry) (t : ℕ) → at test es 
 at-has test [] t h = h
 at-has test (e ∷ es) t h = let r = at-has test es t in grind (arith, h, r)
 
-at_implies : (test other : State → Bool) → ((s : State) → test s ≡ true → other s ≡ true) → (es : List Entry) (t : ℕ) → at test es t ≡ true → at other es t ≡ true
+pub at_implies : (test other : State → Bool) → ((s : State) → test s ≡ true → other s ≡ true) → (es : List Entry) (t : ℕ) → at test es t ≡ true → at other es t ≡ true
 at_implies test other more [] t h = h
 at_implies test other more (e ∷ es) t h = go (e.version == t) h (at_implies test other more es t)
   where
