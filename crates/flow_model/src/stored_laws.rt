@@ -6,7 +6,7 @@ ghost use Rattle.std.specs.Option.{option_map};
 ghost use Rattle.std.specs.List.{list_any};
 ghost use Rattle.signal_graph.specs.declared.call.Call.{Call};
 ghost use Rattle.signal_graph.specs.Graph.{Graph, IsGraph, numbers};
-ghost use Rattle.signal_graph.specs.Machine.{looks_of};
+ghost use Rattle.signal_graph.specs.Machine.{looks_of, looks_of_reply};
 ghost use Rattle.order_graph.specs.Order.{is_recorded, reaches, linked, retired};
 ghost use Rattle.node_versions.specs.declared.entry.Entry.{Entry};
 ghost use Rattle.node_versions.specs.Entries.{has, placed, collected, has_node};
@@ -20,7 +20,7 @@ ghost use Rattle.flow_model.specs.Machine.Steps.{allowed, apply, can_begin, begi
 ghost use Rattle.flow_model.specs.Machine.Next.{next, next_at, least_version, why_not_ended};
 ghost use Rattle.flow_model.specs.Kept.Lawful.{IsLawful, HasSlot};
 ghost use Rattle.flow_model.specs.Machine.Histories.{Move, state, is_history};
-ghost use Rattle.flow_model.specs.Follows.Bounds.{NamesNodes, HasBounds, looks_of_reply, choosers};
+ghost use Rattle.flow_model.specs.Follows.Bounds.{NamesNodes, HasBounds, choosers};
 ghost use Rattle.flow_model.specs.Parts.Operations.{ListsAnswer, OrderTakes, IsFirstSlot};
 ghost use Rattle.flow_model.specs.Parts.SlotPairs.{slot_pairs, slot_of, renamed, linked_at_by_slot, entry_lives, stops_by_slot, ended_by_slot, any_before_by_slot, recorded_by_slot, is_framing_before_by_slot, presses_by_slot};
 ghost use Rattle.flow_model.specs.Parts.Books.{Book, Listing, AgreeOn, book_of, listing, bare, allowed_in, reads_of_step, read_of_step, book_after, listing_after, begun_in};

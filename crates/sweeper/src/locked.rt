@@ -4,7 +4,7 @@ ghost use Rattle.std.specs.Prelude.{◌≡◌, ◌≢◌, ◌<◌, ◌≤◌, �
 ghost use Rattle.std.specs.Prelude.{replicate, vec_capacity, ℕ, IfOk, IfErr, OnOk, OnErr};
 ghost use Rattle.script_tree.specs.declared.limits.TheConstants.{NODES, THREADS, VERSIONS};
 ghost use Rattle.node_set.specs.Members.{no_members, first_from};
-ghost use Rattle.signal_graph.specs.Machine.{looks_of};
+ghost use Rattle.signal_graph.specs.Machine.{looks_of, looks_of_reply};
 ghost use Rattle.chronicle.specs.Entries.{events};
 ghost use Rattle.chronicle.specs.Keys.{is_out, out_with, out_without};
 ghost use Rattle.flow_state.specs.Answers.{step_of, IsRight};
@@ -16,7 +16,6 @@ ghost use Rattle.flow_model.specs.Machine.Next.{next, next_at, why_not_ended};
 ghost use Rattle.flow_model.specs.Machine.Histories.{Begin, Make, state, is_history};
 ghost use Rattle.flow_model.specs.Follows.Callers.{IsWithin, count_begins};
 ghost use Rattle.flow_model.specs.Follows.Others.{caller_of};
-ghost use Rattle.flow_model.specs.Follows.Bounds.{looks_of_reply};
 ghost use Rattle.interleave_core.specs.Beginning.{why_of};
 ghost use Rattle.interleave_core.specs.Rooms.{IsRoomFor};
 ghost use Rattle.interleave_core.specs.Whole.{IsDue};

@@ -2,8 +2,10 @@
 use Rattle.std.proofs.Common.{◌≡◌, ℕ, Bool, true, false, not, ◌&&◌, ◌||◌, ◌==◌, refl, ap, List, [], ◌∷◌, ◌++◌, find, if◌then◌else◌, is_some, is_none, ◌∙◌, Option, Some, None}
 use Rattle.std.specs.List.{list_any}
 use Rattle.std.proofs.lemmas.List.Folds.{list_any-append}
+use Rattle.std.proofs.lemmas.Bool.{or_left, or_right}
 use Rattle.signal_graph.specs.Graph.{Graph, node_at, is_in, is_source, inputs_of, body_of}
 use Rattle.signal_graph.specs.Values.{nodes_in}
+use Rattle.signal_graph.proofs.Members.{in_head}
 use Rattle.node_versions.specs.declared.entry.Entry.{Entry}
 use Rattle.node_versions.specs.Entries.{OutEdge, first_open, has, has_out, has_node}
 use Rattle.flow_model.specs.declared.step.Step.{Step}
@@ -18,9 +20,8 @@ use Rattle.flow_model.specs.Machine.Steps.{has_body_value}
 use Rattle.flow_model.specs.Machine.Next as Next
 use Rattle.flow_model.specs.Parts.Books.{Book, Listing, book_of, listing, bare, prior_in, one_of, AgreeOn}
 use Rattle.flow_model.specs.Parts.BookNext.{next_in, next_at_in, reads_at, reads_open, reads_first, reads_of_next, reads_of_next_at}
-use Rattle.flow_model.proofs.General.Truths.{or_left, or_right}
 use Rattle.flow_model.proofs.Together.WorkIsAllowed.{find-some}
-use Rattle.flow_model.proofs.Books.BooksAllow.{same-cell, first-in}
+use Rattle.flow_model.proofs.Books.BooksAllow.{same-cell}
 
 -- ---- from the state's book and listings
 
@@ -62,7 +63,7 @@ find-in test xs m h = (find-some test xs m h).0
 
 find-alike : (f g : ℕ → Bool) (xs : List ℕ) → ((x : ℕ) → is_in x xs ≡ true → f x ≡ g x) → find f xs ≡ find g xs
 find-alike f g [] h = refl
-find-alike f g (x ∷ xs) h = let a = h x (first-in x xs) in let r = find-alike f g xs (λ y k. h y (or_right (x == y) (is_in y xs) k)) in both (f x) (g x) a r
+find-alike f g (x ∷ xs) h = let a = h x (in_head x xs) in let r = find-alike f g xs (λ y k. h y (or_right (x == y) (is_in y xs) k)) in both (f x) (g x) a r
   where
     both : (a c : Bool) → a ≡ c → find f xs ≡ find g xs → (if a then Some x else find f xs) ≡ (if c then Some x else find g xs)
     both true true e r = refl
@@ -100,7 +101,7 @@ reading-alike graph b lists others t m step e = ap (λ (l : Listing). Next.readi
 
 module _ (graph : Graph) (b : Book) (lists others : ℕ → Listing) (t n : ℕ) (h : AgreeOn (reads_at graph b lists t n) lists others) where
   own : others n ≡ lists n
-  own = h n (first-in n _)
+  own = h n (in_head n _)
 
   of_input : (m : ℕ) → is_in m (inputs_of (node_at graph n)) ≡ true → others m ≡ lists m
   of_input m k = h m (or_right (n == m) (is_in m (inputs_of (node_at graph n) ++ found_candidates (bare b) n ++ prior_in (lists n) t))
@@ -180,7 +181,7 @@ next-reads graph b lists others t h = first (least (call (bare b) t).wanted) h
 
     look : (o : Option ℕ) → AgreeOn (one_of o) lists others → Next.first_of (Next.for_some o (looks_at others) ∷ []) ≡ Next.first_of (Next.for_some o (looks_at lists) ∷ [])
     look None k = refl
-    look (Some m) k = reading-alike graph b lists others t m (steps.Look t) (k m (first-in m []))
+    look (Some m) k = reading-alike graph b lists others t m (steps.Look t) (k m (in_head m []))
 
     opened : (o : Option ℕ) → AgreeOn (reads_open graph b lists t o) lists others
         → Next.first_of (Next.for_some o (works_at others) ∷ Next.for_some (next_look (bare b) t) (looks_at others) ∷ []) ≡ Next.first_of (Next.for_some o (works_at lists) ∷ Next.for_some (next_look (bare b) t) (looks_at lists) ∷ [])
@@ -193,7 +194,7 @@ next-reads graph b lists others t h = first (least (call (bare b) t).wanted) h
     first : (o : Option ℕ) → AgreeOn (reads_first o (reads_open graph b lists t (least (call (bare b) t).open_nodes))) lists others
         → Next.first_of (Next.for_some o (Next.framing graph (bare b) (lists_of others) (edges_of others) t t) ∷ starts ∷ points others) ≡ Next.first_of (Next.for_some o (Next.framing graph (bare b) (lists_of lists) (edges_of lists) t t) ∷ starts ∷ points lists)
     first None k = behind starts (points others) (points lists) (opened (least (call (bare b) t).open_nodes) k)
-    first (Some n) k = framing-alike graph b lists others t t n (k n (first-in n []))
+    first (Some n) k = framing-alike graph b lists others t t n (k n (in_head n []))
 
 -- So it is at a given node.
 pub next_at-reads : (graph : Graph) (b : Book) (lists others : ℕ → Listing) (t n : ℕ) → AgreeOn (reads_of_next_at graph b lists t n) lists others → next_at_in graph b others t n ≡ next_at_in graph b lists t n
@@ -211,4 +212,4 @@ next_at-reads graph b lists others t n h = first (least (call (bare b) t).wanted
     first : (o : Option ℕ) → AgreeOn (reads_first o (reads_at graph b lists t n)) lists others
         → Next.first_of (Next.for_some o (Next.framing graph (bare b) (lists_of others) (edges_of others) t t) ∷ starts ∷ not_open ∷ points others) ≡ Next.first_of (Next.for_some o (Next.framing graph (bare b) (lists_of lists) (edges_of lists) t t) ∷ starts ∷ not_open ∷ points lists)
     first None k = behind starts _ _ (behind not_open (points others) (points lists) (ap Next.first_of (points-read graph b lists others t n k true)))
-    first (Some m) k = framing-alike graph b lists others t t m (k m (first-in m []))
+    first (Some m) k = framing-alike graph b lists others t t m (k m (in_head m []))

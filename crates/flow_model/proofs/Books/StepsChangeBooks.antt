@@ -4,6 +4,7 @@ use Rattle.script_tree.specs.declared.value.Value.{Value}
 use Rattle.script_tree.specs.declared.value.Value.TheVariants.{Fault as Faulty}
 use Rattle.script_tree.specs.declared.value.Fault.TheVariants.{NoChoice}
 use Rattle.script_tree.specs.Scripts.{Scripted}
+use Rattle.script_tree.proofs.Truths.{and_right}
 use Rattle.signal_graph.specs.Machine.{same}
 use Rattle.signal_graph.specs.Graph.{Graph, node_at, is_source, body_of, static_outs}
 use Rattle.order_graph.specs.declared.pair.Pair.{Pair}
@@ -19,19 +20,18 @@ use Rattle.flow_model.specs.Machine.Words.{finds, found_now, gathered_of, value_
 use Rattle.flow_model.specs.Machine.Changes.{linked_at, enter, raise, place_entry, set_state, opened, closed, cleared, tell, tell_call, add_edge, drop_edge}
 use Rattle.flow_model.specs.Machine.Steps.{allowed, apply, open_node, frame, gather, keep_found, keep_body, collect, counted, is_change, look_value, served_look, with_look}
 use Rattle.flow_model.specs.Parts.Books.{Listing, Work, work_in, book_of, listing, bare_cell, bare, placed_in, linked_in, with_gathered, with_found, with_body, forgotten, is_change_in, read_of_step, book_after}
-use Rattle.flow_model.proofs.OneStep.WhoMayStep.{and_right}
 use Rattle.flow_model.proofs.OneStep.SameLengths.{change_at-length}
 use Rattle.flow_model.proofs.OrderStays.OpenNodesHaveFrames.{cell-there}
 
 -- ---- works
 
 -- what a change of a cell makes of the work there
-changed-works : (n : ℕ) (f : Cell → Cell) (g : Work → Work) → ((c : Cell) → work_in (f c) ≡ g (work_in c)) → (cs : List Cell) → map work_in (change_at n f cs) ≡ change_at n g (map work_in cs)
+pub changed-works : (n : ℕ) (f : Cell → Cell) (g : Work → Work) → ((c : Cell) → work_in (f c) ≡ g (work_in c)) → (cs : List Cell) → map work_in (change_at n f cs) ≡ change_at n g (map work_in cs)
 changed-works n f g k [] = refl
 changed-works zero f g k (c ∷ cs) = ap (λ (w : Work). w ∷ map work_in cs) (k c)
 changed-works (suc n) f g k (c ∷ cs) = ap (λ (ws : List Work). work_in c ∷ ws) (changed-works n f g k cs)
 
-kept-works : (n : ℕ) (f : Cell → Cell) → ((c : Cell) → work_in (f c) ≡ work_in c) → (cs : List Cell) → map work_in (change_at n f cs) ≡ map work_in cs
+pub kept-works : (n : ℕ) (f : Cell → Cell) → ((c : Cell) → work_in (f c) ≡ work_in c) → (cs : List Cell) → map work_in (change_at n f cs) ≡ map work_in cs
 kept-works n f k [] = refl
 kept-works zero f k (c ∷ cs) = ap (λ (w : Work). w ∷ map work_in cs) (k c)
 kept-works (suc n) f k (c ∷ cs) = ap (λ (ws : List Work). work_in c ∷ ws) (kept-works n f k cs)

@@ -2,8 +2,11 @@
 use Rattle.std.proofs.Common.{◌≡◌, ℕ, zero, suc, ◌<◌, Bool, true, false, ◌==◌, ◌||◌, ◌&&◌, not, ◌⊎◌, inl, inr, refl, sym, ap, arith, List, [], ◌∷◌, length, nat_lt, ◌∙◌, subst, Some, slice_index_or}
 use Rattle.std.specs.List.{list_any}
 use Rattle.std.proofs.lemmas.Bool.Decides.{eqb_tells}
+use Rattle.std.proofs.lemmas.Bool.{or_cases, or_left, or_right}
 use Rattle.std.proofs.lemmas.List.Folds.{list_any-append}
+use Rattle.script_tree.proofs.Truths.{and_left, and_right}
 use Rattle.signal_graph.specs.Graph.{Graph, IsGraph, node_at, numbers, is_in, inputs_of}
+use Rattle.signal_graph.proofs.Members.{get-in}
 use Rattle.node_versions.specs.declared.entry.State.TheVariants.{Mark, Frame, Done}
 use Rattle.node_versions.specs.declared.entry.Entry.{Entry}
 use Rattle.node_versions.specs.Entries.{has, at, is_mark, value_before, picks_before, with_state, with_out}
@@ -16,14 +19,13 @@ use Rattle.flow_model.specs.Machine.Changes.{enter, raise, ensure_mark, place_en
 use Rattle.flow_model.specs.Machine.Steps.{allowed, apply, open_node, frame, is_change, collect, collected_at, asks_for}
 use Rattle.flow_model.specs.Kept.Lawful.{IsLawful}
 use Rattle.flow_model.specs.Parts.Books.{Listing, listing_in, book_of, listing, placed_in, listing_after, read_of_step, book_after}
-use Rattle.flow_model.proofs.General.Truths.{or_cases, or_left, or_right}
-use Rattle.flow_model.proofs.OneStep.WhoMayStep.{and_left, and_right, frame-wants, skip-can_work, resolve-can_work, discover-due, drop-due, due-can_work, can_work-at_front, at_front-heads, mark-executes, executes-live}
+use Rattle.flow_model.proofs.OneStep.WhoMayStep.{frame-wants, skip-can_work, resolve-can_work, discover-due, drop-due, due-can_work, can_work-at_front, at_front-heads, mark-executes, executes-live}
 use Rattle.flow_model.proofs.OneStep.SameLengths.{change_at-length}
 use Rattle.flow_model.proofs.OrderStays.OpenNodesHaveFrames.{cell-there, cell-other}
 use Rattle.flow_model.proofs.Lengths.SameWork.{same-part}
 use Rattle.flow_model.proofs.Wants.FramedWith.{heads-opens}
 use Rattle.flow_model.proofs.Edges.EdgesFitCandidates.{candidate-listed, discover-candidate}
-use Rattle.flow_model.proofs.Opening.OpeningLists.{candidate-earlier, slice_get-is_in}
+use Rattle.flow_model.proofs.Opening.OpeningLists.{candidate-earlier}
 use Rattle.flow_model.proofs.Wants.EarlierNodes.{dep-earlier}
 use Rattle.flow_model.proofs.General.Counting.{some-member}
 use Rattle.flow_model.proofs.Known.Bounds.{opens-node, names-nodes}
@@ -175,7 +177,7 @@ changed-node graph g s h step a m e = go step a e
 
     marked : (t m : ℕ) → executes s t ≡ true → (list_any (asks_for graph s t m) (numbers graph) ≡ true) ⊎ ((is_idle s t && is_some_of (next_look s t) m) ≡ true) → m < length graph.nodes
     marked t m x (inl k) = let y = some-member (asks_for graph s t m) (numbers graph) k in asked t m y.it y.passes
-    marked t m x (inr k) = (names-nodes graph g s h).looks t m (executes-live s t x) (slice_get-is_in (call s t).looks (length (call s t).looked) m (some-is (next_look s t) m (and_right (is_idle s t) (is_some_of (next_look s t) m) k)))
+    marked t m x (inr k) = (names-nodes graph g s h).looks t m (executes-live s t x) (get-in (call s t).looks (length (call s t).looked) m (some-is (next_look s t) m (and_right (is_idle s t) (is_some_of (next_look s t) m) k)))
 
     just : (n : ℕ) → Some n ≡ Some m → n < length graph.nodes → m < length graph.nodes
     just n x k = subst (λ (j : ℕ). j < length graph.nodes) same k

@@ -7,23 +7,23 @@ use Rattle.std.specs.List.Sorted.{IsStrictlyIncreasing}
 use Rattle.std.proofs.lemmas.List.Elements.{All-from_recursion}
 use Rattle.std.proofs.lemmas.List.Folds.{list_any-append}
 use Rattle.std.proofs.lemmas.List.Sums.{length-filter, sum_by-cons}
+use Rattle.std.proofs.lemmas.Bool.{or_left, or_right, eqb-true, eq-eqb, both_ways, cases_Bool}
 use Rattle.signal_graph.specs.declared.call.Call.{Call}
 use Rattle.signal_graph.specs.declared.log.Logged.{Logged}
 use Rattle.signal_graph.specs.Graph.{Graph, is_in}
 use Rattle.call_log.specs.Made.{entries_of, calls_in, versions_in, well_named, count_well_named, script_of, IsPrefix}
 use Rattle.call_log.specs.LeftOut.{left_out}
 use Rattle.call_log.specs.Merge.{IsOfCaller, AreVersions, Merge}
+use Rattle.call_log.proofs.Prefixes.{prefix-length}
 use Rattle.flow_model.specs.declared.step.Step.{Step}
 use Rattle.flow_model.specs.Machine.State.{Core, LiveCall, opening}
 use Rattle.flow_model.specs.Machine.Histories.{Move, Begin, Make, after_move, may_all, state, is_history}
 use Rattle.flow_model.specs.Kept.Lawful.{VersionsAreFresh, AreDistinct, times, versions}
 use Rattle.flow_model.specs.Follows.Callers.{count_begins, begun_from, begun_by, calls_of, logged_of, live_of, IsFinishedRun}
-use Rattle.flow_model.proofs.General.Truths.{or_left, or_right, same_number, equal_test, is_not_true, true_or_false}
 use Rattle.flow_model.proofs.General.Pigeons.{total-all, total-missing}
 use Rattle.flow_model.proofs.Callers.OnlyBeginningsAdd.{IsCounted, logged_callers, live_callers, begin-caller, step-within}
 use Rattle.flow_model.proofs.Histories.Moves.{may_first}
 use Rattle.flow_model.proofs.Callers.CallersHaveTheirCalls.{Counts, history-counts, history-made, history-begun}
-use Rattle.flow_model.proofs.Schedules.ThreadsTakeTheirScripts.{prefix-length}
 
 -- the versions of a caller's calls
 abbrev versions_of : List (ℕ × Call) → List ℕ
@@ -162,7 +162,7 @@ begins-other k zero caller c moves l = refl
 begins-other k (suc n) caller c moves l = ap₂ (λ (a b : ℕ). a + b) (one (caller == k) refl) (begins-other (suc k) n caller c moves (omega (arith, l)))
   where
     one : (b : Bool) → (caller == k) ≡ b → elim b as (λ _. ℕ) [ true ↦ suc (begins_of k moves) | false ↦ begins_of k moves ] ≡ begins_of k moves
-    one true e = let s = same_number caller k e in absurd (omega (arith, s, l))
+    one true e = let s = eqb-true caller k e in absurd (omega (arith, s, l))
     one false e = refl
 
 begins-one : (k n caller : ℕ) (c : Call) (moves : List Move) → k ≤ caller → caller < k + n → begins_among k n (Begin caller c ∷ moves) ≡ suc (begins_among k n moves)
@@ -171,9 +171,9 @@ begins-one k (suc n) caller c moves a b = go (caller == k) refl (λ p q. begins-
   where
     go : (t : Bool) → (caller == k) ≡ t → (suc k ≤ caller → caller < suc k + n → begins_among (suc k) n (Begin caller c ∷ moves) ≡ suc (begins_among (suc k) n moves))
         → elim t as (λ _. ℕ) [ true ↦ suc (begins_of k moves) | false ↦ begins_of k moves ] + begins_among (suc k) n (Begin caller c ∷ moves) ≡ suc (begins_of k moves + begins_among (suc k) n moves)
-    go true e further = let s = same_number caller k e in let o = begins-other (suc k) n caller c moves (omega (arith, s)) in omega (arith, o)
+    go true e further = let s = eqb-true caller k e in let o = begins-other (suc k) n caller c moves (omega (arith, s)) in omega (arith, o)
     go false e further =
-        let ne : (caller ≡ k) → ⊥ = λ s. is_not_true _ e (equal_test caller k s) in
+        let ne : (caller ≡ k) → ⊥ = λ s. both_ways _ e (eq-eqb caller k s) in
         let f = further (above caller k a ne) (omega (arith, b)) in
         omega (arith, f)
       where
@@ -223,11 +223,11 @@ all_or P Q (suc n) f = go (f n (omega arith)) (all_or P Q n (λ i l. f i (omega 
     go : P n ⊎ Q → ((i : ℕ) → i < n → P i) ⊎ Q → ((i : ℕ) → i < suc n → P i) ⊎ Q
     go (inr q) r = inr q
     go (inl p) (inr q) = inr q
-    go (inl p) (inl f) = inl (λ i l. last i l (true_or_false (i == n)))
+    go (inl p) (inl f) = inl (λ i l. last i l (cases_Bool (i == n)))
       where
         last : (i : ℕ) → i < suc n → ((i == n) ≡ true) ⊎ ((i == n) ≡ false) → P i
-        last i l (inl e) = subst P (sym (same_number i n e)) p
-        last i l (inr e) = f i (below i n l (λ s. is_not_true _ e (equal_test i n s)))
+        last i l (inl e) = subst P (sym (eqb-true i n e)) p
+        last i l (inr e) = f i (below i n l (λ s. both_ways _ e (eq-eqb i n s)))
           where
             below : (a b : ℕ) → a < suc b → ((a ≡ b) → ⊥) → a < b
             below a b l ne = grind (arith, l, ne)
@@ -240,7 +240,7 @@ callers-fit s h = All-from_recursion (IsOfCaller s.callers) s.log (each s.log (�
 
     each : (log : List Logged) → ((k : ℕ) → is_in k (logged_callers log) ≡ true → (1 ≤ k) × (k ≤ s.callers)) → AllByRecursion (IsOfCaller s.callers) log
     each [] f = tt
-    each (x ∷ xs) f = (f x.caller (or_left _ _ (equal_test x.caller x.caller refl)), each xs (λ k i. f k (or_right _ _ i)))
+    each (x ∷ xs) f = (f x.caller (or_left _ _ (eq-eqb x.caller x.caller refl)), each xs (λ k i. f k (or_right _ _ i)))
 
 pub finished-Merge : (graph : Graph) (scripts : List (List Call)) (limit : ℕ) (moves : List Move) → IsFinishedRun graph scripts limit moves
     → Merge graph scripts limit (state graph (length scripts) limit moves).log (left_out graph limit (state graph (length scripts) limit moves).log scripts)

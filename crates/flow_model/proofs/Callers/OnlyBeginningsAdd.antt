@@ -1,9 +1,11 @@
 -- Only a beginning adds to a caller's calls, logged and live; a step leaves them, and End moves one from the live to the log.
-use Rattle.std.proofs.Common.{◌≡◌, ℕ, zero, suc, ◌+◌, ◌<◌, ◌≤◌, Bool, true, false, ◌||◌, ◌==◌, nat_lt, ◌⊎◌, inl, inr, refl, sym, ap, ap₂, arith, List, [], ◌∷◌, ◌++◌, map, true≢false, ◌∙◌, subst, Option, Some, append_assoc}
+use Rattle.std.proofs.Common.{◌≡◌, ℕ, zero, suc, ◌+◌, ◌≤◌, Bool, true, false, ◌||◌, ◌==◌, ◌⊎◌, inl, inr, refl, sym, ap, ap₂, arith, List, [], ◌∷◌, ◌++◌, map, true≢false, ◌∙◌, subst, Option, Some, append_assoc}
 use Rattle.std.specs.Prelude.{filter}
 use Rattle.std.proofs.lemmas.Bool.Decides.{eqb_tells}
+use Rattle.std.proofs.lemmas.Bool.{or_cases, or_left, or_right, eqb-true, false_from_ne_true, both_ways, cases_Bool, ltb-true, leb-true}
 use Rattle.std.proofs.lemmas.List.{map-append}
 use Rattle.std.proofs.lemmas.List.Folds.{list_any-append}
+use Rattle.script_tree.proofs.Truths.{and_right}
 use Rattle.signal_graph.specs.declared.call.Call.{Call}
 use Rattle.signal_graph.specs.declared.log.Logged.{Logged}
 use Rattle.signal_graph.specs.Graph.{Graph, is_in}
@@ -17,12 +19,10 @@ use Rattle.flow_model.specs.Machine.Changes.{enter, raise, ensure_mark, opened, 
 use Rattle.flow_model.specs.Machine.Steps.{allowed, apply, can_begin, begin, new_call, open_node, frame, started, counted, is_change, without_call, logged}
 use Rattle.flow_model.specs.Kept.Lawful.{VersionsAreFresh, AreDistinct, times}
 use Rattle.flow_model.specs.Follows.Callers.{logged_of, live_of, made_by}
-use Rattle.flow_model.proofs.General.Truths.{or_cases, or_left, or_right, same_number, not_true, is_not_true, true_or_false}
-use Rattle.flow_model.proofs.OneStep.WhoMayStep.{and_right, executes-live, idle-executes, end-idle}
+use Rattle.flow_model.proofs.OneStep.WhoMayStep.{executes-live, idle-executes, end-idle}
 use Rattle.flow_model.proofs.OneStep.VersionsStayFresh.{times-append, times-in, in-times, same-VersionsAreFresh, begin-VersionsAreFresh, end-VersionsAreFresh, tail-distinct, head-distinct}
 use Rattle.flow_model.proofs.General.Pigeons.{any-field}
 use Rattle.flow_model.proofs.Others.CallsAreLeft.{live-call}
-use Rattle.flow_model.proofs.General.AnyAndAll.{at_most}
 use Rattle.flow_model.proofs.OneStep.BegunCalls.{begin-first, begin-last, begin-none}
 
 -- ---- what tells a live call
@@ -185,10 +185,10 @@ live_of-without k t (x ∷ xs) c d g h = go (x.version == t) refl h (live_of-wit
     it false w = rw (w, one_of) refl
 
     gone : (x.version == t) ≡ true → without_call t xs ≡ xs
-    gone v = none-without t xs (subst (λ (u : ℕ). is_in u (map (λ (c : LiveCall). c.version) xs) ≡ false) (same_number x.version t v) (head-distinct x.version (map (λ (c : LiveCall). c.version) xs) d))
+    gone v = none-without t xs (subst (λ (u : ℕ). is_in u (map (λ (c : LiveCall). c.version) xs) ≡ false) (eqb-true x.version t v) (head-distinct x.version (map (λ (c : LiveCall). c.version) xs) d))
 
     there : call_of xs t ≡ Some c → (x.caller == k) ≡ true → (c.caller == k) ≡ false
-    there e w = not_true _ (λ y. is_not_true _ (head-distinct x.caller (live_callers xs) g) (subst (λ (u : ℕ). is_in u (live_callers xs) ≡ true) (same_number c.caller k y ∙ sym (same_number x.caller k w)) (caller-in xs t c e)))
+    there e w = false_from_ne_true _ (λ y. both_ways _ (head-distinct x.caller (live_callers xs) g) (subst (λ (u : ℕ). is_in u (live_callers xs) ≡ true) (eqb-true c.caller k y ∙ sym (eqb-true x.caller k w)) (caller-in xs t c e)))
 
     later : call_of xs t ≡ Some c → (b : Bool) → (x.caller == k) ≡ b → one_of k c.caller (c.version, c.call) ++ live_of k (without_call t xs) ≡ live_of k xs → one_of k c.caller (c.version, c.call) ++ live_of k (x ∷ without_call t xs) ≡ live_of k (x ∷ xs)
     later e true w r =
@@ -253,7 +253,7 @@ in-logged k log x h = go (or_cases _ _ (sym (ap (is_in k) (map-append (λ (y : L
   where
     go : (is_in k (logged_callers log) ≡ true) ⊎ (((x.caller == k) || false) ≡ true) → (is_in k (logged_callers log) ≡ true) ⊎ (x.caller ≡ k)
     go (inl e) = inl e
-    go (inr e) = inr (same_number x.caller k (only (x.caller == k) e))
+    go (inr e) = inr (eqb-true x.caller k (only (x.caller == k) e))
       where
         only : (b : Bool) → (b || false) ≡ true → b ≡ true
         only true y = refl
@@ -320,23 +320,20 @@ step-idle graph s step a k h = go (step-makers graph s step a)
 
     go : MakerStep s q → is_in k (live_callers q.calls) ≡ false
     go (stays e) = ap (is_in k) (makers-callers q.calls ∙ ap (map (λ (p : ℕ × (ℕ × Call)). p.0)) e.calls ∙ sym (makers-callers s.calls)) ∙ h
-    go (logs t e) = not_true _ (λ i. is_not_true _ h (without-in t k s.calls (subst (λ (cs : List LiveCall). is_in k (live_callers cs) ≡ true) e.calls i)))
+    go (logs t e) = false_from_ne_true _ (λ i. both_ways _ h (without-in t k s.calls (subst (λ (cs : List LiveCall). is_in k (live_callers cs) ≡ true) e.calls i)))
 
 -- ---- a beginning
 
-pub less : (a b : ℕ) → nat_lt a b ≡ true → a < b
-less a b h = grind arith
-
 -- The caller of a call that may begin is one that there is.
 pub begin-caller : (graph : Graph) (s : Core) (caller : ℕ) (c : Call) → can_begin graph s caller c ≡ true → (1 ≤ caller) × (caller ≤ s.callers)
-begin-caller graph s caller c a = (at_most 1 caller (begin-first graph s caller c a), at_most caller s.callers (begin-last graph s caller c a))
+begin-caller graph s caller c a = (leb-true 1 caller (begin-first graph s caller c a), leb-true caller s.callers (begin-last graph s caller c a))
 
 pub begin-IsCounted : (graph : Graph) (s : Core) (caller : ℕ) (c : Call) → can_begin graph s caller c ≡ true → IsCounted s → IsCounted (begin graph s caller c)
 begin-IsCounted graph s caller c a h = record {
   fresh = begin-VersionsAreFresh graph s caller c h.fresh;
-  apart = λ x. subst (λ (ks : List ℕ). times x ks ≤ 1) (sym callers) (apart x (true_or_false (caller == x)) (times-append x (live_callers s.calls) (caller ∷ [])));
+  apart = λ x. subst (λ (ks : List ℕ). times x ks ≤ 1) (sym callers) (apart x (cases_Bool (caller == x)) (times-append x (live_callers s.calls) (caller ∷ [])));
   fit = λ k i. fit k (or_cases _ _ (sym (list_any-append (λ (m : ℕ). m == k) (live_callers s.calls ++ caller ∷ []) (logged_callers s.log)) ∙ (ap (λ (ks : List ℕ). is_in k (ks ++ logged_callers s.log)) (sym callers) ∙ i)));
-  within = less s.begun s.limit (and_right _ _ a);
+  within = ltb-true s.begun s.limit (and_right _ _ a);
 }
   where
     callers : live_callers (s.calls ++ new_call graph s caller c ∷ []) ≡ live_callers s.calls ++ caller ∷ []
@@ -348,7 +345,7 @@ begin-IsCounted graph s caller c a h = record {
     apart : (x : ℕ) → ((caller == x) ≡ true) ⊎ ((caller == x) ≡ false) → times x (live_callers s.calls ++ caller ∷ []) ≡ times x (live_callers s.calls) + times x (caller ∷ []) → times x (live_callers s.calls ++ caller ∷ []) ≤ 1
     apart x (inl e) p =
         let o : times x (caller ∷ []) ≡ 1 = rw e refl in
-        let z = λ (k : 1 ≤ times x (live_callers s.calls)). is_not_true _ none (subst (λ (n : ℕ). is_in n (live_callers s.calls) ≡ true) (sym (same_number caller x e)) (in-times x (live_callers s.calls) k)) in
+        let z = λ (k : 1 ≤ times x (live_callers s.calls)). both_ways _ none (subst (λ (n : ℕ). is_in n (live_callers s.calls) ≡ true) (sym (eqb-true caller x e)) (in-times x (live_callers s.calls) k)) in
         small (times x (live_callers s.calls)) z (subst (λ (n : ℕ). times x (live_callers s.calls ++ caller ∷ []) ≡ times x (live_callers s.calls) + n) o p)
       where
         small : (n : ℕ) → (1 ≤ n → ⊥) → times x (live_callers s.calls ++ caller ∷ []) ≡ n + 1 → times x (live_callers s.calls ++ caller ∷ []) ≤ 1
@@ -362,7 +359,7 @@ begin-IsCounted graph s caller c a h = record {
 
     new : (k : ℕ) → (is_in k (live_callers s.calls) ≡ true) ⊎ (((caller == k) || false) ≡ true) → (1 ≤ k) × (k ≤ s.callers)
     new k (inl i) = old k (inl i)
-    new k (inr i) = subst (λ (n : ℕ). (1 ≤ n) × (n ≤ s.callers)) (same_number caller k (only (caller == k) i)) (begin-caller graph s caller c a)
+    new k (inr i) = subst (λ (n : ℕ). (1 ≤ n) × (n ≤ s.callers)) (eqb-true caller k (only (caller == k) i)) (begin-caller graph s caller c a)
       where
         only : (b : Bool) → (b || false) ≡ true → b ≡ true
         only true y = refl

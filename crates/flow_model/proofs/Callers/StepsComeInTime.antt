@@ -1,5 +1,6 @@
 -- In a history the steps of a call come after its beginning, and none comes after its end.
 use Rattle.std.proofs.Common.{◌≡◌, ℕ, zero, suc, ◌≤◌, true, false, refl, sym, ap, arith, List, [], ◌∷◌, ◌++◌, ◌∙◌, subst, Some}
+use Rattle.std.proofs.lemmas.Bool.{eqb-true, false_from_ne_true, both_ways}
 use Rattle.std.specs.Prelude.{is_some}
 use Rattle.signal_graph.specs.declared.call.Call.{Call}
 use Rattle.signal_graph.specs.Graph.{Graph}
@@ -10,7 +11,6 @@ use Rattle.flow_model.specs.Machine.Steps.{allowed, apply, new_call}
 use Rattle.flow_model.specs.Machine.Keys.{version_of_step}
 use Rattle.flow_model.specs.Machine.Histories.{Move, Begin, Make, may, after_move, after_moves, may_all, state, is_history}
 use Rattle.flow_model.specs.Follows.Callers.{count_begins, IsBegunIn}
-use Rattle.flow_model.proofs.General.Truths.{same_number, not_true, is_not_true}
 use Rattle.flow_model.proofs.OneStep.WhoMayStep.{executes-live, wants-live, is_framing-live, frame-wants, start-is_framing, can_work-at_front, due-can_work, idle-executes, skip-can_work, gather-due, evaluate-at_front, body-at_front, discover-due, drop-due, resolve-can_work, mark-executes, look-idle, end-idle}
 use Rattle.flow_model.proofs.OneList.CallsAndCells.{without_call-same, call_of-append, last_call-other}
 use Rattle.flow_model.proofs.OneStep.WhoLivesAndFrames.{step-phases, phase-ended}
@@ -83,7 +83,7 @@ record HasEnded (s : Core) (t : ℕ) : Type 0 where
 move-ended : (graph : Graph) (s : Core) (move : Move) (t : ℕ) → may graph s move ≡ true → HasEnded s t → HasEnded (after_move graph s move) t
 move-ended graph s (Begin caller c) t m h = record {
   begun = let b = h.begun in omega (arith, b);
-  ended = ap is_some (call_of-append s.calls (new_call graph s caller c) t ∙ last_call-other (call_of s.calls t) (new_call graph s caller c) t (not_true _ (λ e. let x = same_number (suc s.begun) t e in let b = h.begun in omega (arith, x, b)))) ∙ h.ended;
+  ended = ap is_some (call_of-append s.calls (new_call graph s caller c) t ∙ last_call-other (call_of s.calls t) (new_call graph s caller c) t (false_from_ne_true _ (λ e. let x = eqb-true (suc s.begun) t e in let b = h.begun in omega (arith, x, b)))) ∙ h.ended;
 }
 move-ended graph s (Make step) t m h = record {
   begun = subst (λ (n : ℕ). t ≤ n) (sym (step-begun graph s step)) h.begun;
@@ -96,7 +96,7 @@ moves-ended graph (move ∷ moves) s t m h = let f = may_first graph s move move
 
 -- No step of a call comes after the call's end.
 pub ended-no_step : (graph : Graph) (callers limit : ℕ) (first more rest : List Move) (step : Step) (t : ℕ) → version_of_step step ≡ Some t → is_history graph callers limit (first ++ (Make (steps.End t) ∷ (more ++ (Make step ∷ rest)))) ≡ false
-ended-no_step graph callers limit first more rest step t v = not_true _ go
+ended-no_step graph callers limit first more rest step t v = false_from_ne_true _ go
   where
     s0 : Core
     s0 = opening graph callers limit
@@ -120,4 +120,4 @@ ended-no_step graph callers limit first more rest step t v = not_true _ go
         let l = step_of-live graph s1 (steps.End t) t e.0 refl in
         let f = c.counted.fresh.fit t (live-version s1 t l) in
         let d = moves-ended graph more s2 t q.0 (record { begun = f.1; ended = ap is_some (without_call-same t s1.calls) }) in
-        is_not_true _ d.ended (step_of-live graph s3 step t m.0 v)
+        both_ways _ d.ended (step_of-live graph s3 step t m.0 v)

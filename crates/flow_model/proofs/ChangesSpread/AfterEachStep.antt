@@ -1,6 +1,7 @@
 -- Where a call has changed a node, all that reacts is framed for it or wanted by it, after each step.
 -- The cases are Frame, Skip, Resolve and Discover.
 use Rattle.std.proofs.Common.{◌≡◌, ℕ, ◌<◌, Bool, true, false, ◌&&◌, ◌||◌, not, ◌==◌, ◌⊎◌, inl, inr, refl, sym, ap, arith, List, length, true≢false, ◌∙◌, subst, Option, Some, None}
+use Rattle.std.proofs.lemmas.Bool.{or_cases, or_left, or_right, eqb-true, eq-eqb, both_ways, cases_Bool}
 use Rattle.std.specs.Prelude.{is_some}
 use Rattle.script_tree.specs.declared.value.Value.{Value}
 use Rattle.signal_graph.specs.Graph.{Graph, is_in}
@@ -8,6 +9,7 @@ use Rattle.node_versions.specs.declared.entry.State.{State}
 use Rattle.node_versions.specs.declared.entry.State.TheVariants.{Mark, Frame, Done}
 use Rattle.node_versions.specs.declared.entry.Entry.{Entry}
 use Rattle.node_versions.specs.Entries.{has, at, is_mark, is_done, changed_of, behind, up_to, value_before, picks_before}
+use Rattle.node_versions.proofs.Places.{at_implies, at-has}
 use Rattle.flow_model.specs.declared.step.Step.{Step}
 use Rattle.flow_model.specs.declared.step.Step.TheVariants as steps
 use Rattle.flow_model.specs.Machine.Sets.{put}
@@ -17,10 +19,8 @@ use Rattle.flow_model.specs.Machine.Changes.{stops_call, new_entry, place_entry,
 use Rattle.flow_model.specs.Machine.Steps.{allowed, apply, open_node, frame, is_change}
 use Rattle.flow_model.specs.Kept.Runs.{covers, reacts, framed}
 use Rattle.flow_model.specs.Kept.Lawful.{IsLawful, ChangesSpread}
-use Rattle.flow_model.proofs.General.Truths.{or_cases, or_left, or_right, same_number, equal_test, is_not_true, true_or_false}
 use Rattle.flow_model.proofs.OneStep.WhoMayStep.{frame-wants, wants-live, executes-live, at_front-executes, at_front-heads, can_work-at_front, due-can_work, discover-due}
 use Rattle.flow_model.proofs.General.Sets.{in-put}
-use Rattle.flow_model.proofs.OneList.StatesAndPlaces.{at-has}
 use Rattle.flow_model.proofs.OneList.OneEntryACall.{placed-at_other}
 use Rattle.flow_model.proofs.OneList.CallsAndCells.{with_call-field, with_call-keeps, map_call-live, map_call-keeps, map_call-reads, option_call}
 use Rattle.flow_model.proofs.OneList.Entering.{with_cell-cell}
@@ -38,7 +38,7 @@ use Rattle.flow_model.proofs.FramesSpread.AfterDones.{IsFinishing, stated-reacts
 use Rattle.flow_model.proofs.FramesSpread.NewFrames.{framed-back}
 use Rattle.flow_model.proofs.FramesSpread.AfterFrame.{raised-framed, entered-framed}
 use Rattle.flow_model.proofs.Reactions.WhoReactsAfterSteps.{discovered-reacts_at}
-use Rattle.flow_model.proofs.ChangesSpread.AfterOtherSteps.{at-wider, changes-live, changes-done, changes-entry, frame-framed, framed-stays, Reacted, step-changes, kept-changes, started-changes, gathered-changes, evaluated-changes, body-changes, marked-changes, looked-changes, dropped-changes, ended-changes, collected-changes}
+use Rattle.flow_model.proofs.ChangesSpread.AfterOtherSteps.{changes-live, changes-done, changes-entry, frame-framed, framed-stays, Reacted, step-changes, kept-changes, started-changes, gathered-changes, evaluated-changes, body-changes, marked-changes, looked-changes, dropped-changes, ended-changes, collected-changes}
 
 -- ---- a node that is open after a step is framed
 
@@ -59,7 +59,7 @@ framed-wants : (q : Core) (t m0 : ℕ) (xs : List ℕ) (u n : ℕ) → live q t 
 framed-wants q t m0 xs u n l w =
     let o = opened-opens q t m0 xs u n l in
     let v = opened-wants q t m0 xs u n l in
-    let e = λ (x : (u == t) ≡ true). ap (λ (j : ℕ). wants q j n) (same_number u t x) in
+    let e = λ (x : (u == t) ≡ true). ap (λ (j : ℕ). wants q j n) (eqb-true u t x) in
     keeps (u == t) (n == m0) (opens q u n) (wants q u n) (wants q t n) (is_in n xs && not ((n == m0) || opens q t n)) _ _ o v e w
   where
     keeps : (x e o w wt a o2 w2 : Bool) → o2 ≡ (o || (x && e)) → w2 ≡ elim x as (λ _. Bool) [ true ↦ a || (wt && not e) | false ↦ w ] → (x ≡ true → w ≡ wt) → w ≡ true → (o2 || w2) ≡ true
@@ -96,7 +96,7 @@ framed-changes graph s t m0 h a = step-changes graph s (steps.Frame t m0) h a (�
 
     -- the call has no Done at the node that it frames
     apart : (u m : ℕ) → changes s u m ≡ true → ((t == u) ≡ false) ⊎ ((m == m0) ≡ false)
-    apart u m c = cases (true_or_false (t == u)) (true_or_false (m == m0))
+    apart u m c = cases (cases_Bool (t == u)) (cases_Bool (m == m0))
       where
         done_of : (x : State) → changed_of x ≡ true → is_done x ≡ true
         done_of Mark k = absurd (true≢false (sym k))
@@ -107,8 +107,8 @@ framed-changes graph s t m0 h a = step-changes graph s (steps.Frame t m0) h a (�
         cases (inr x) y = inl x
         cases (inl x) (inr y) = inr y
         cases (inl x) (inl y) =
-            let d : at is_done (entries s m) u ≡ true = at-wider changed_of is_done done_of (entries s m) u (changes-done graph s h u m c) in
-            absurd (is_not_true _ (h.wants_are_free t m0 wanted).not_done (subst (λ (w : ℕ). at is_done (entries s w) t ≡ true) (same_number m m0 y) (subst (λ (w : ℕ). at is_done (entries s m) w ≡ true) (sym (same_number t u x)) d)))
+            let d : at is_done (entries s m) u ≡ true = at_implies changed_of is_done done_of (entries s m) u (changes-done graph s h u m c) in
+            absurd (both_ways _ (h.wants_are_free t m0 wanted).not_done (subst (λ (w : ℕ). at is_done (entries s w) t ≡ true) (eqb-true m m0 y) (subst (λ (w : ℕ). at is_done (entries s m) w ≡ true) (sym (eqb-true t u x)) d)))
 
     back : (u m n : ℕ) → changes s u m ≡ true → reacts graph (frame graph s t m0) u m n ≡ true → reacts graph s u m n ≡ true
     back u m n c r = go (at is_mark (entries s m0) t) refl r
@@ -129,7 +129,7 @@ skipped-changes graph s t n0 h a =
 
 -- A call has changed at most one node more, the one that it closes.
 closed-changes : (q : Core) (t n0 : ℕ) (b : Bool) (u m : ℕ) → live q t ≡ true → changes (with_call q t (closed n0 b)) u m ≡ true → (changes q u m ≡ true) ⊎ ((u ≡ t) × (m ≡ n0))
-closed-changes q t n0 b u m lt k = go (true_or_false (u == t)) (with_call-field (λ c. is_in m c.changed) q t (closed n0 b) (λ c. refl) u lt)
+closed-changes q t n0 b u m lt k = go (cases_Bool (u == t)) (with_call-field (λ c. is_in m c.changed) q t (closed n0 b) (λ c. refl) u lt)
   where
     new : (b : Bool) (xs : List ℕ) → is_in m (elim b as (λ _. List ℕ) [ true ↦ put n0 xs | false ↦ xs ]) ≡ true → (is_in m xs ≡ true) ⊎ ((m == n0) ≡ true)
     new false xs x = inl x
@@ -145,8 +145,8 @@ closed-changes q t n0 b u m lt k = go (true_or_false (u == t)) (with_call-field 
     go (inl x) e = cases (new b (call_or (call_of q.calls t)).changed (sym (rw x at e) ∙ k))
       where
         cases : (changes q t m ≡ true) ⊎ ((m == n0) ≡ true) → (changes q u m ≡ true) ⊎ ((u ≡ t) × (m ≡ n0))
-        cases (inl y) = inl (subst (λ (v : ℕ). changes q v m ≡ true) (sym (same_number u t x)) y)
-        cases (inr y) = inr (same_number u t x, same_number m n0 y)
+        cases (inl y) = inl (subst (λ (v : ℕ). changes q v m ≡ true) (sym (eqb-true u t x)) y)
+        cases (inr y) = inr (eqb-true u t x, eqb-true m n0 y)
 
 resolved-changes : (graph : Graph) (s : Core) (t n0 : ℕ) → IsLawful graph s → allowed graph s (steps.Resolve t n0) ≡ true → ChangesSpread graph (apply graph s (steps.Resolve t n0))
 resolved-changes graph s t n0 h a = step-changes graph s (steps.Resolve t n0) h a (λ u n l w. or_right _ _ (wants-same u n ∙ w)) (λ u m n c r. go u m n (closed-changes q t n0 b u m lt c) (back u m n r))
@@ -201,7 +201,7 @@ tell-reaches s c t n u l b f = ap (λ (x : Bool). opens s u n || x) (ap (λ (o :
         let b2 = subst (λ (w : ℕ). behind (entries s c) t w ≡ true) (sym v) b in
         let f2 = subst (λ (w : ℕ). at hands_on (entries s c) w ≡ true) (sym v) f in
         let w = told-wants (is_told (entries s c) t n x) n n x.wanted in
-        let e = equal_test n n refl in
+        let e = eq-eqb n n refl in
         join (is_in n x.open_nodes) (is_in n x.wanted) (behind (entries s c) t x.version) (at hands_on (entries s c) x.version) (n == n) _ b2 f2 e w
       where
         join : (o w b f e r : Bool) → b ≡ true → f ≡ true → e ≡ true → r ≡ (w || (e && (b && f && not o))) → (o || r) ≡ true
@@ -218,7 +218,7 @@ ensured-at test s t c u k = go (has (entries s c) t) refl
   where
     entered : has (entries s c) t ≡ false → (cell (enter s t c Mark) c ≡ cell s c) ⊎ ((c ≡ c) × (cell (enter s t c Mark) c ≡ place_entry s t Mark (cell s c))) → at test (entries (enter s t c Mark) c) u ≡ true
     entered fresh (inl e) = ap (λ (x : Cell). at test x.entries u) e ∙ k
-    entered fresh (inr e) = ap (λ (x : Cell). at test x.entries u) e.1 ∙ placed-at_other test (stops_call s t) (new_entry s t Mark) (entries s c) u (λ z. is_not_true _ fresh (subst (λ (v : ℕ). has (entries s c) v ≡ true) z (at-has test (entries s c) u k))) ∙ k
+    entered fresh (inr e) = ap (λ (x : Cell). at test x.entries u) e.1 ∙ placed-at_other test (stops_call s t) (new_entry s t Mark) (entries s c) u (λ z. both_ways _ fresh (subst (λ (v : ℕ). has (entries s c) v ≡ true) z (at-has test (entries s c) u k))) ∙ k
 
     go : (b : Bool) → has (entries s c) t ≡ b → at test (entries (elim b as (λ _. Core) [ true ↦ s | false ↦ enter s t c Mark ]) c) u ≡ true
     go true e = k
@@ -257,7 +257,7 @@ discovered-changes graph s t n0 c h a = step-changes graph s (steps.Discover t n
 
     -- the run that the edge begins covers the call: the call is the discoverer, or stands behind it and is told
     told : (u : ℕ) → changes s u c ≡ true → covers q c u (new_run t) ≡ true → (framed after u n0 || wants after u n0) ≡ true
-    told u d x = cases (true_or_false (u == t))
+    told u d x = cases (cases_Bool (u == t))
       where
         parts : Covers q c u (new_run t)
         parts = covers-parts q c u (new_run t) x
@@ -275,11 +275,11 @@ discovered-changes graph s t n0 c h a = step-changes graph s (steps.Discover t n
             take a b x y = grind (arith, x, y)
 
         cases : ((u == t) ≡ true) ⊎ ((u == t) ≡ false) → (framed after u n0 || wants after u n0) ≡ true
-        cases (inl y) = or_left _ _ (subst (λ (v : ℕ). framed after v n0 ≡ true) (sym (same_number u t y))
+        cases (inl y) = or_left _ _ (subst (λ (v : ℕ). framed after v n0 ≡ true) (sym (eqb-true u t y))
             (framed-stays graph s (steps.Discover t n0 c) h a t n0 (executes-live s t (at_front-executes graph s t n0 front)) (frame-framed s t n0 (opens-frame graph s h t n0 (heads-opens graph s h t n0 head)))))
         cases (inr y) =
             let b = active-behind (entries q c) t u entry parts.has_it up y in
-            let f : at hands_on (entries q c) u ≡ true = ap (λ (es : List Entry). at hands_on es u) lists ∙ at-wider changed_of hands_on (λ z k. or_right _ _ k) (entries p c) u (ensured-at changed_of s t c u (changes-done graph s h u c d)) in
+            let f : at hands_on (entries q c) u ≡ true = ap (λ (es : List Entry). at hands_on es u) lists ∙ at_implies changed_of hands_on (λ z k. or_right _ _ k) (entries p c) u (ensured-at changed_of s t c u (changes-done graph s h u c d)) in
             opens-framed graph s (steps.Discover t n0 c) h a u n0 (ap (λ (z : Bool). z || wants after u n0) (opens-same u n0) ∙ tell-reaches q c t n0 u (ensured-live s t c u ∙ changes-live s u c d) b f)
 
     go : (u m n : ℕ) → changes s u m ≡ true → (reacts graph s u m n ≡ true) ⊎ NewRun q t c n0 u m n → Reacted graph s after u m n

@@ -1,13 +1,15 @@
 -- Where a call has changed a node, all that reacts is framed for it or wanted by it, after a beginning and most steps.
-use Rattle.std.proofs.Common.{◌≡◌, ℕ, suc, Bool, true, false, ◌&&◌, ◌||◌, not, ◌==◌, ◌⊎◌, inl, inr, refl, sym, ap, arith, List, [], ◌∷◌, true≢false, ◌∙◌, subst, Option, Some, None}
+use Rattle.std.proofs.Common.{◌≡◌, ℕ, suc, Bool, true, false, ◌&&◌, ◌||◌, not, ◌==◌, ◌⊎◌, inl, inr, refl, sym, ap, arith, List, [], true≢false, ◌∙◌, subst, Option, Some, None}
+use Rattle.std.proofs.lemmas.Bool.{or_cases, or_left, or_right, both_ways}
 use Rattle.std.specs.Prelude.{is_some}
 use Rattle.script_tree.specs.declared.value.Value.{Value}
+use Rattle.script_tree.proofs.Truths.{and_left, and_right}
 use Rattle.signal_graph.specs.declared.call.Call.{Call}
 use Rattle.signal_graph.specs.Graph.{Graph, is_in}
-use Rattle.node_versions.specs.declared.entry.State.{State}
 use Rattle.node_versions.specs.declared.entry.State.TheVariants.{Mark, Frame, Done}
 use Rattle.node_versions.specs.declared.entry.Entry.{Entry}
 use Rattle.node_versions.specs.Entries.{has, at, is_mark, is_frame, changed_of, has_node, value_at}
+use Rattle.node_versions.proofs.Places.{at_implies, at-has}
 use Rattle.flow_model.specs.declared.step.Step.{Step}
 use Rattle.flow_model.specs.declared.step.Step.TheVariants as steps
 use Rattle.flow_model.specs.Machine.State.{Core, LiveCall, call, call_of, call_or, live, entries, outs, wants, changes, with_cell}
@@ -16,10 +18,9 @@ use Rattle.flow_model.specs.Machine.Changes.{stops_call, new_entry, ensure_mark}
 use Rattle.flow_model.specs.Machine.Steps.{allowed, apply, begin, started, counted, with_look, look_value, keep_found, gather, keep_body, new_call, nodes_set, sets_in}
 use Rattle.flow_model.specs.Kept.Runs.{reacts, is_framed_state, framed}
 use Rattle.flow_model.specs.Kept.Lawful.{IsLawful, ChangesSpread}
-use Rattle.flow_model.proofs.General.Truths.{or_cases, or_left, or_right, is_not_true, true_or_false}
-use Rattle.flow_model.proofs.OneStep.WhoMayStep.{and_left, and_right, at_front-heads, mark-no_entry}
+use Rattle.flow_model.proofs.OneStep.WhoMayStep.{at_front-heads, mark-no_entry}
 use Rattle.flow_model.proofs.General.Sets.{in-put_all}
-use Rattle.flow_model.proofs.OneList.StatesAndPlaces.{at-has, with_state-at}
+use Rattle.flow_model.proofs.OneList.StatesAndPlaces.{with_state-at}
 use Rattle.flow_model.proofs.OneList.OneEntryACall.{placed-at_other, collected-at_live}
 use Rattle.flow_model.proofs.OneList.CallsAndCells.{with_call-keeps, without_call-other, without_call-same}
 use Rattle.flow_model.proofs.OrderStays.PartsOfStepsKeepOrder.{reads_without}
@@ -33,15 +34,6 @@ use Rattle.flow_model.proofs.FramesSpread.AfterOtherSteps.{same_lists-reacts, wo
 use Rattle.flow_model.proofs.Reactions.WhoReactsAfterSteps.{marked-reacts_at, ensured-reacts_at, collected-reacts_at}
 
 -- ---- entries
-
--- An entry that passes a test passes a wider one.
-pub at-wider : (test wider : State → Bool) → ((x : State) → test x ≡ true → wider x ≡ true) → (es : List Entry) (u : ℕ) → at test es u ≡ true → at wider es u ≡ true
-at-wider test wider f [] u h = absurd (true≢false (sym h))
-at-wider test wider f (e ∷ es) u h = go (true_or_false (e.version == u)) (at-wider test wider f es u)
-  where
-    go : ((e.version == u) ≡ true) ⊎ ((e.version == u) ≡ false) → (at test es u ≡ true → at wider es u ≡ true) → at wider (e ∷ es) u ≡ true
-    go (inl w) further = rw (w, at) (f e.state (rw (w, at) at h))
-    go (inr w) further = rw (w, at) (further (rw (w, at) at h))
 
 -- A call that has changed a node lives, and has a Done there that changed.
 pub changes-live : (s : Core) (u m : ℕ) → changes s u m ≡ true → live s u ≡ true
@@ -58,16 +50,16 @@ pub changes-entry : (graph : Graph) (s : Core) → IsLawful graph s → (u m : �
 changes-entry graph s h u m c = at-has changed_of (entries s m) u (changes-done graph s h u m c)
 
 pub frame-framed : (s : Core) (u n : ℕ) → at is_frame (entries s n) u ≡ true → framed s u n ≡ true
-frame-framed s u n h = at-wider is_frame is_framed_state (λ x k. or_left _ _ k) (entries s n) u h
+frame-framed s u n h = at_implies is_frame is_framed_state (λ x k. or_left _ _ k) (entries s n) u h
 
 -- ---- what is framed stays so
 
 list-framed : (graph : Graph) (s : Core) → IsLawful graph s → (n u : ℕ) → live s u ≡ true → framed s u n ≡ true → (es : List Entry) → ListStep graph s n es → at is_framed_state es u ≡ true
 list-framed graph s h n u l k es (stays e) = subst (λ (xs : List Entry). at is_framed_state xs u ≡ true) (sym e) k
 list-framed graph s h n u l k es (marks t x fresh r e) = subst (λ (xs : List Entry). at is_framed_state xs u ≡ true) (sym e)
-    (placed-at_other is_framed_state (stops_call s t) (new_entry s t Mark) (entries s n) u (λ z. is_not_true _ fresh (subst (λ (v : ℕ). has (entries s n) v ≡ true) z (at-has is_framed_state (entries s n) u k))) ∙ k)
+    (placed-at_other is_framed_state (stops_call s t) (new_entry s t Mark) (entries s n) u (λ z. both_ways _ fresh (subst (λ (v : ℕ). has (entries s n) v ≡ true) z (at-has is_framed_state (entries s n) u k))) ∙ k)
 list-framed graph s h n u l k es (frames t w fresh r e) = subst (λ (xs : List Entry). at is_framed_state xs u ≡ true) (sym e)
-    (placed-at_other is_framed_state (stops_call s t) (new_entry s t Frame) (entries s n) u (λ z. is_not_true _ fresh (subst (λ (v : ℕ). has (entries s n) v ≡ true) z (at-has is_framed_state (entries s n) u k))) ∙ k)
+    (placed-at_other is_framed_state (stops_call s t) (new_entry s t Frame) (entries s n) u (λ z. both_ways _ fresh (subst (λ (v : ℕ). has (entries s n) v ≡ true) z (at-has is_framed_state (entries s n) u k))) ∙ k)
 list-framed graph s h n u l k es (raises t w m e) = subst (λ (xs : List Entry). at is_framed_state xs u ≡ true) (sym e)
     (let a = with_state-at is_framed_state t Frame (entries s n) u in let b = at-has is_mark (entries s n) t m in shown (u == t) (has (entries s n) t) _ _ a b k)
   where
@@ -168,7 +160,7 @@ ended-changes graph s t h a = kept-changes graph s (steps.End t) h a (λ u n l. 
     q = apply graph s (steps.End t)
 
     read : (f : LiveCall → Bool) (u : ℕ) → live q u ≡ true → f (call q u) ≡ f (call s u)
-    read f u l = ap (λ (o : Option LiveCall). f (call_or o)) (without_call-other t u s.calls (λ e. is_not_true _ (ap is_some (without_call-same t s.calls)) (subst (λ (v : ℕ). live q v ≡ true) e l)))
+    read f u l = ap (λ (o : Option LiveCall). f (call_or o)) (without_call-other t u s.calls (λ e. both_ways _ (ap is_some (without_call-same t s.calls)) (subst (λ (v : ℕ). live q v ≡ true) e l)))
 
 pub collected-changes : (graph : Graph) (s : Core) (n0 : ℕ) → IsLawful graph s → allowed graph s (steps.Collect n0) ≡ true → ChangesSpread graph (apply graph s (steps.Collect n0))
 collected-changes graph s n0 h a = kept-changes graph s (steps.Collect n0) h a (λ u n l. refl) (λ u m l. refl) (λ u m n l e k. collected-reacts_at graph s h n0 u m n l e k)
@@ -188,7 +180,7 @@ begin-ChangesSpread graph s caller c h = record { reaction = λ u m n k r. go u 
       where
         cases : Began z → live s z ≡ true
         cases (inl e) = ap is_some (sym e.0) ∙ l
-        cases (inr e) = absurd (is_not_true _ (not_begun-entry graph s h j) (subst (λ (v : ℕ). has (entries s j) v ≡ true) e.0 x))
+        cases (inr e) = absurd (both_ways _ (not_begun-entry graph s h j) (subst (λ (v : ℕ). has (entries s j) v ≡ true) e.0 x))
 
     same : (u n : ℕ) → call_of q.calls u ≡ call_of s.calls u → (framed s u n || wants s u n) ≡ true → (framed q u n || wants q u n) ≡ true
     same u n e k = ap (λ (o : Option LiveCall). framed s u n || is_in n (call_or o).wanted) e ∙ k

@@ -1,5 +1,6 @@
 -- After each step, where the first open call has dropped or discovered a candidate, something is found at its node.
 use Rattle.std.proofs.Common.{◌≡◌, ℕ, Bool, true, false, ◌&&◌, not, ◌==◌, ◌⊎◌, inl, inr, refl, sym, ap, arith, List, [], true≢false, ◌∙◌, subst, Option, Some, None}
+use Rattle.std.proofs.lemmas.Bool.{eqb-true, eq-eqb, both_ways, cases_Bool}
 use Rattle.std.specs.Prelude.{is_some}
 use Rattle.script_tree.specs.declared.value.Value.{Value}
 use Rattle.signal_graph.specs.Graph.{Graph, is_in}
@@ -15,7 +16,6 @@ use Rattle.flow_model.specs.Machine.Words.{heads, is_found, picks_of_found, is_c
 use Rattle.flow_model.specs.Machine.Changes.{set_state, remove_first}
 use Rattle.flow_model.specs.Machine.Steps.{allowed, apply, is_change}
 use Rattle.flow_model.specs.Kept.Lawful.{IsLawful, picks_last}
-use Rattle.flow_model.proofs.General.Truths.{same_number, equal_test, is_not_true, true_or_false}
 use Rattle.flow_model.proofs.OneStep.WhoMayStep.{opens-live, can_work-at_front, at_front-heads, resolve-can_work}
 use Rattle.flow_model.proofs.OneList.StatesAndPlaces.{first_open-frame}
 use Rattle.flow_model.proofs.OrderStays.NoFrameBeforeDones.{head-first}
@@ -63,7 +63,7 @@ finished-picks graph s h q t n v c ps fr e m = ap (λ (es : List Entry). is_in m
 
 -- Where a call has finished, no edge is missing.
 finished-stands : (graph : Graph) (s : Core) → IsLawful graph s → (q : Core) (t n : ℕ) (v : Value) (c : Bool) (ps : List (Option ℕ)) → IsFinishing graph s t n ps → entries q n ≡ with_state t (Done v c ps) (entries s n) → (m : ℕ) → outs q m ≡ outs s m → picks_last q n m ≡ true → has_node (outs q m) n ≡ true
-finished-stands graph s h q t n v c ps fin e m o p = ap (λ (os : List OutEdge). has_node os n) o ∙ go (true_or_false (picks_last s n m))
+finished-stands graph s h q t n v c ps fin e m o p = ap (λ (os : List OutEdge). has_node os n) o ∙ go (cases_Bool (picks_last s n m))
   where
     hd : heads s t n ≡ true
     hd = at_front-heads graph s t n fin.front
@@ -86,7 +86,7 @@ step-drops graph s (steps.Skip t n0) h a n m p e = go (skipped-list graph s t n0
     go : (entries q n ≡ entries s n) ⊎ ((n ≡ n0) × (entries q n ≡ with_state t (Done (value_before (entries s n0) t) false (picks_before (entries s n0) t)) (entries s n))) → Dropping q n m
     go (inl l) = same-dropping s q n m (step-work graph s (steps.Skip t n0) refl n).found
         (h.work_is_kept.drops n m (sym (same-picks s q n m (ap last_done l)) ∙ p) (sym (ap (λ (os : List OutEdge). has_node os n) (step-outs graph s (steps.Skip t n0) refl m)) ∙ e))
-    go (inr l) = absurd (is_not_true _ e (finished-stands graph s h q t n (value_before (entries s n0) t) false (picks_before (entries s n0) t)
+    go (inr l) = absurd (both_ways _ e (finished-stands graph s h q t n (value_before (entries s n0) t) false (picks_before (entries s n0) t)
         (subst (λ (j : ℕ). IsFinishing graph s t j (picks_before (entries s n0) t)) (sym l.0) (skip-finishing graph s h t n0 a)) l.1 m (step-outs graph s (steps.Skip t n0) refl m) p))
 step-drops graph s (steps.Gather t n0 i) h a n m p e = same_outs-drops graph s (steps.Gather t n0 i) h a refl refl n m p e
 step-drops graph s (steps.Evaluate t n0) h a n m p e = same_outs-drops graph s (steps.Evaluate t n0) h a refl refl n m p e
@@ -98,7 +98,7 @@ step-drops graph s (steps.Resolve t n0) h a n m p e = go (resolved-list graph s 
 
     go : (entries q n ≡ entries s n) ⊎ ((n ≡ n0) × (entries q n ≡ with_state t (Done (value_now graph s t n0) (is_change graph s t n0) (found_picks s n0)) (entries s n)))
         → ((n ≡ n0) × ((cell q n).gathered ≡ []) × ((cell q n).found ≡ None) × ((cell q n).body ≡ None)) ⊎ (((n == n0) ≡ false) × SameWork s q n × (entries q n ≡ entries s n)) → Dropping q n m
-    go (inr l) _ = absurd (is_not_true _ e (finished-stands graph s h q t n (value_now graph s t n0) (is_change graph s t n0) (found_picks s n0)
+    go (inr l) _ = absurd (both_ways _ e (finished-stands graph s h q t n (value_now graph s t n0) (is_change graph s t n0) (found_picks s n0)
         (subst (λ (j : ℕ). IsFinishing graph s t j (found_picks s n0)) (sym l.0) (resolve-finishing graph s h t n0 a)) l.1 m (step-outs graph s (steps.Resolve t n0) refl m) p))
     go (inl l) (inr w) = same-dropping s q n m w.1.found (h.work_is_kept.drops n m (sym (same-picks s q n m (ap last_done l)) ∙ p) (sym (ap (λ (os : List OutEdge). has_node os n) (step-outs graph s (steps.Resolve t n0) refl m)) ∙ e))
     go (inl l) (inl w) = absurd (not_same w.0)
@@ -110,7 +110,7 @@ step-drops graph s (steps.Resolve t n0) h a n m p e = go (resolved-list graph s 
             let fq : at is_frame (entries q n) t ≡ true = ap (λ (es : List Entry). at is_frame es t) l ∙ subst (λ (x : ℕ). at is_frame (entries s x) t ≡ true) (sym j) fr in
             let o = (step-FramesAreOpen graph s (steps.Resolve t n0) h a).opens_frames t n ∙ fq in
             let c = closed-opens (with_cell s n0 (set_state t (Done (value_now graph s t n0) (is_change graph s t n0) (found_picks s n0)))) t n0 (is_change graph s t n0) t n (opens-live s t n0 (h.frames_are_open.opens_frames t n0 ∙ fr)) in
-            closed (opens s t n) (t == t) (n == n0) (opens q t n) c (equal_test t t refl) (equal_test n n0 j) o
+            closed (opens s t n) (t == t) (n == n0) (opens q t n) c (eq-eqb t t refl) (eq-eqb n n0 j) o
           where
             closed : (p x y b : Bool) → b ≡ (p && not (x && y)) → x ≡ true → y ≡ true → b ≡ true → ⊥
             closed p x y b h j k i = grind (arith, h, j, k, i)
@@ -122,7 +122,7 @@ step-drops graph s (steps.Discover t n0 c) h a n m p e = quiet-drops graph s (st
     go : (outs q m ≡ outs s m) ⊎ ((m ≡ c) × (outs q m ≡ with_out (outs s m) n0 t)) → has_node (outs q m) n ≡ false → has_node (outs s m) n ≡ false
     go (inl x) k = sym (ap (λ (os : List OutEdge). has_node os n) x) ∙ k
     go (inr x) k = added-node_less (outs s m) n0 t n (sym (ap (λ (os : List OutEdge). has_node os n) x.1) ∙ k)
-step-drops graph s (steps.Drop t n0 o) h a n m p e = go (dropped-outs graph s t n0 o m) (true_or_false (n == n0))
+step-drops graph s (steps.Drop t n0 o) h a n m p e = go (dropped-outs graph s t n0 o m) (cases_Bool (n == n0))
   where
     q : Core
     q = apply graph s (steps.Drop t n0 o)
@@ -134,7 +134,7 @@ step-drops graph s (steps.Drop t n0 o) h a n m p e = go (dropped-outs graph s t 
     go (inl x) y = other (ap (λ (os : List OutEdge). has_node os n) x)
     go (inr x) (inr ne) = other (ap (λ (os : List OutEdge). has_node os n) x.1 ∙ removed-node n0 n (outs s m) ne)
     go (inr x) (inl y) = same-dropping s q n m (step-work graph s (steps.Drop t n0 o) refl n).found
-        (subst (λ (j : ℕ). Dropping s j m) (sym (same_number n n0 y)) (subst (λ (j : ℕ). Dropping s n0 j) (sym x.0) (drop-found graph s t n0 o a, drop-other graph s t n0 o a)))
+        (subst (λ (j : ℕ). Dropping s j m) (sym (eqb-true n n0 y)) (subst (λ (j : ℕ). Dropping s n0 j) (sym x.0) (drop-found graph s t n0 o a, drop-other graph s t n0 o a)))
 step-drops graph s (steps.Mark t n0) h a n m p e = same_outs-drops graph s (steps.Mark t n0) h a refl refl n m p e
 step-drops graph s (steps.Look t) h a n m p e = same_outs-drops graph s (steps.Look t) h a refl refl n m p e
 step-drops graph s (steps.End t) h a n m p e = same_outs-drops graph s (steps.End t) h a refl refl n m p e
@@ -194,7 +194,7 @@ step-discovers graph s (steps.Resolve t n0) h a n m u hd e = go (resolved-work g
         let frame = first_open-frame (entries q n) u (step-one_entry graph s (steps.Resolve t n0) h a n) (head-first (entries q n) u hd) in
         let o = (step-FramesAreOpen graph s (steps.Resolve t n0) h a).opens_frames u n ∙ frame in
         let c = closed-opens (with_cell s n0 (set_state t (Done (value_now graph s t n0) (is_change graph s t n0) (found_picks s n0)))) t n0 (is_change graph s t n0) u n (opens-live s t n0 (heads-opens graph s h t n0 ht)) in
-        closed (opens s u n) (u == t) (n == n0) (opens q u n) c (equal_test u t it) (equal_test n n0 j) o
+        closed (opens s u n) (u == t) (n == n0) (opens q u n) c (eq-eqb u t it) (eq-eqb n n0 j) o
       where
         closed : (p x y b : Bool) → b ≡ (p && not (x && y)) → x ≡ true → y ≡ true → b ≡ true → ⊥
         closed p x y b h j k i = grind (arith, h, j, k, i)
@@ -213,7 +213,7 @@ step-discovers graph s (steps.Discover t n0 c) h a n m u hd e = go (discovered-o
     two : (has_out (outs s m) n u ≡ true) ⊎ (((n0 == n) ≡ true) × ((t == u) ≡ true)) → is_found q n ≡ true
     two (inl x) = old x
     two (inr x) =
-        let f = subst (λ (j : ℕ). is_found s j ≡ true) (same_number n0 n x.0) (candidate-found s n0 c (discover-candidate graph s t n0 c a)) in
+        let f = subst (λ (j : ℕ). is_found s j ≡ true) (eqb-true n0 n x.0) (candidate-found s n0 c (discover-candidate graph s t n0 c a)) in
         ap (λ (o : Option Found). is_some o) (step-found graph s (steps.Discover t n0 c) a refl n f) ∙ f
 
     go : (outs q m ≡ outs s m) ⊎ ((m ≡ c) × (outs q m ≡ with_out (outs s m) n0 t)) → is_found q n ≡ true

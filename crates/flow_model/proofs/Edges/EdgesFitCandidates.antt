@@ -2,9 +2,11 @@
 use Rattle.std.proofs.Common.{◌≡◌, ℕ, Bool, true, false, ◌&&◌, ◌==◌, ◌⊎◌, inl, inr, refl, sym, ap, arith, List, [], ◌∷◌, map, true≢false, ◌∙◌, subst, Option, Some, None}
 use Rattle.std.specs.List.{AllZip}
 use Rattle.std.proofs.lemmas.Bool.Decides.{eqb_tells}
+use Rattle.std.proofs.lemmas.Bool.{or_cases, or_left, or_right, and_parts, eqb-true, false_from_ne_true, both_ways, not-true}
 use Rattle.script_tree.specs.declared.value.Value.{Value}
 use Rattle.script_tree.specs.declared.value.Value.TheVariants.{Fault as Faulty}
 use Rattle.script_tree.specs.declared.value.Fault.TheVariants.{Kind}
+use Rattle.script_tree.proofs.Truths.{and_left, and_right}
 use Rattle.signal_graph.specs.declared.call.Call.{Call}
 use Rattle.signal_graph.specs.declared.node.Selector.{Selector}
 use Rattle.signal_graph.specs.declared.node.Node.{Node}
@@ -20,8 +22,7 @@ use Rattle.flow_model.specs.Machine.Words.{heads, is_candidate, found_now, finds
 use Rattle.flow_model.specs.Machine.Changes.{place_entry, set_state, enter, raise, ensure_mark, add_edge, drop_edge, remove_first, cleared, finish}
 use Rattle.flow_model.specs.Machine.Steps.{allowed, apply, begin, open_node, frame, keep_found, collect, is_change}
 use Rattle.flow_model.specs.Kept.Lawful.{IsLawful, EdgesFit, IsPickOf, lists_candidate}
-use Rattle.flow_model.proofs.General.Truths.{or_cases, or_left, or_right, and_both, same_number, not_true, is_not_true}
-use Rattle.flow_model.proofs.OneStep.WhoMayStep.{and_left, and_right, not_is, discover-due, due-can_work, can_work-at_front, at_front-heads}
+use Rattle.flow_model.proofs.OneStep.WhoMayStep.{discover-due, due-can_work, can_work-at_front, at_front-heads}
 use Rattle.flow_model.proofs.Opening.OpeningLists.{select-fits, picked-listed}
 use Rattle.flow_model.proofs.OneList.Entering.{with_cell-cell}
 use Rattle.flow_model.proofs.FramesSpread.AfterOtherSteps.{same_outs, ensured-edges, removed-less}
@@ -51,7 +52,7 @@ pub added-out : (n0 t n since : ℕ) (os : List OutEdge) → has_out (with_out o
 added-out n0 t n since [] h = go (or_cases _ _ h)
   where
     go : (((n0 == n) && (t == since)) ≡ true) ⊎ (false ≡ true) → (has_out [] n since ≡ true) ⊎ (((n0 == n) ≡ true) × ((t == since) ≡ true))
-    go (inl k) = inr (and_both (n0 == n) (t == since) k)
+    go (inl k) = inr (and_parts (n0 == n) (t == since) k)
     go (inr k) = absurd (true≢false (sym k))
 added-out n0 t n since (edge ∷ os) h = go (or_cases _ _ h) (added-out n0 t n since os)
   where
@@ -65,14 +66,14 @@ added-out n0 t n since (edge ∷ os) h = go (or_cases _ _ h) (added-out n0 t n s
 
 added-different : (n0 t : ℕ) (os : List OutEdge) → AreDifferent os → has_out os n0 t ≡ false → AreDifferent (with_out os n0 t)
 added-different n0 t [] d h = (refl, tt)
-added-different n0 t (edge ∷ os) d h = (not_true _ (λ k. go (added-out n0 t edge.0 edge.1 os k)), added-different n0 t os d.1 (not_true _ (λ k. is_not_true _ h (or_right _ _ k))))
+added-different n0 t (edge ∷ os) d h = (false_from_ne_true _ (λ k. go (added-out n0 t edge.0 edge.1 os k)), added-different n0 t os d.1 (false_from_ne_true _ (λ k. both_ways _ h (or_right _ _ k))))
   where
     here : (a b : ℕ) → ((a == edge.0) ≡ true) → ((b == edge.1) ≡ true) → ((edge.0 == a) && (edge.1 == b)) ≡ true
     here a b j k = grind (arith, eqb_tells, j, k)
 
     go : (has_out os edge.0 edge.1 ≡ true) ⊎ (((n0 == edge.0) ≡ true) × ((t == edge.1) ≡ true)) → ⊥
-    go (inl k) = is_not_true _ d.0 k
-    go (inr k) = is_not_true _ h (or_left _ _ (here n0 t k.0 k.1))
+    go (inl k) = both_ways _ d.0 k
+    go (inr k) = both_ways _ h (or_left _ _ (here n0 t k.0 k.1))
 
 removed-different : (n0 : ℕ) (os : List OutEdge) → AreDifferent os → AreDifferent (remove_first n0 os)
 removed-different n0 [] d = tt
@@ -80,7 +81,7 @@ removed-different n0 (edge ∷ os) d = go (edge.0 == n0) (removed-different n0 o
   where
     go : (b : Bool) → AreDifferent (remove_first n0 os) → AreDifferent (elim b as (λ _. List OutEdge) [ true ↦ os | false ↦ edge ∷ remove_first n0 os ])
     go true r = d.1
-    go false r = (not_true _ (λ k. is_not_true _ d.0 (removed-less n0 edge.0 edge.1 os k)), r)
+    go false r = (false_from_ne_true _ (λ k. both_ways _ d.0 (removed-less n0 edge.0 edge.1 os k)), r)
 
 -- ---- the steps
 
@@ -106,7 +107,7 @@ pub discover-candidate : (graph : Graph) (s : Core) (t n c : ℕ) → allowed gr
 discover-candidate graph s t n c a = and_right _ _ (and_left _ _ (and_left _ _ (and_left _ _ a)))
 
 pub discover-no_edge : (graph : Graph) (s : Core) (t n c : ℕ) → allowed graph s (steps.Discover t n c) ≡ true → has_out (outs s c) n t ≡ false
-discover-no_edge graph s t n c a = not_is _ (and_right _ _ (and_left _ _ a))
+discover-no_edge graph s t n c a = not-true _ (and_right _ _ (and_left _ _ a))
 
 discovered-edges : (graph : Graph) (s : Core) (t n0 c : ℕ) → IsLawful graph s → allowed graph s (steps.Discover t n0 c) ≡ true → EdgesFit graph (apply graph s (steps.Discover t n0 c))
 discovered-edges graph s t n0 c h a = edges-from graph s h (apply graph s (steps.Discover t n0 c)) (λ n m since k. go n m since (with_cell-cell p c (add_edge n0 t) m) k) (λ m d. apart m (with_cell-cell p c (add_edge n0 t) m) d)
@@ -129,7 +130,7 @@ discovered-edges graph s t n0 c h a = edges-from graph s h (apply graph s (steps
       where
         two : (has_out (outs s m) n since ≡ true) ⊎ (((n0 == n) ≡ true) × ((t == since) ≡ true)) → (has_out (outs s m) n since ≡ true) ⊎ (lists_candidate m (selectors_of (node_at graph n)) ≡ true)
         two (inl x) = inl x
-        two (inr x) = inr (subst (λ (j : ℕ). lists_candidate j (selectors_of (node_at graph n)) ≡ true) (sym e.0) (subst (λ (j : ℕ). lists_candidate c (selectors_of (node_at graph j)) ≡ true) (same_number n0 n x.0) listed))
+        two (inr x) = inr (subst (λ (j : ℕ). lists_candidate j (selectors_of (node_at graph n)) ≡ true) (sym e.0) (subst (λ (j : ℕ). lists_candidate c (selectors_of (node_at graph j)) ≡ true) (eqb-true n0 n x.0) listed))
 
     apart : (m : ℕ) → (cell q m ≡ cell p m) ⊎ ((m ≡ c) × (cell q m ≡ add_edge n0 t (cell p m))) → AreDifferent (outs s m) → AreDifferent (outs q m)
     apart m (inl e) d = subst AreDifferent (sym (ap (λ (x : Cell). x.outs) e ∙ ensured-edges s t c m)) d

@@ -1,6 +1,7 @@
 -- After each step out-edges stand at the picks of last Dones and at what first open calls have discovered.
 -- The first are keyed by the calls at which the runs begin.
 use Rattle.std.proofs.Common.{◌≡◌, ℕ, ◌+◌, ◌<◌, ◌≤◌, length, Bool, true, false, ◌||◌, not, ◌==◌, ◌⊎◌, inl, inr, refl, sym, ap, arith, List, [], ◌∷◌, true≢false, ◌∙◌, subst, Option, Some, None}
+use Rattle.std.proofs.lemmas.Bool.{or_left, or_right, and_from, eqb-true, eq-eqb, false_from_ne_true, both_ways, cases_Bool}
 use Rattle.std.specs.Prelude.{is_some}
 use Rattle.script_tree.specs.declared.value.Value.{Value}
 use Rattle.signal_graph.specs.Graph.{Graph, is_in}
@@ -16,7 +17,6 @@ use Rattle.flow_model.specs.Machine.Changes.{stops_call, new_entry, place_entry,
 use Rattle.flow_model.specs.Machine.Steps.{allowed, apply, is_change}
 use Rattle.flow_model.specs.Kept.Runs.{Run, Reading, go_on, read_all, nothing_read}
 use Rattle.flow_model.specs.Kept.Lawful.{IsLawful, IsKey, IsKeyOf, IsRunEdge, IsNewEdge, SomeHead, EdgesAreKept, picks_last, last_run_of, count_edges}
-use Rattle.flow_model.proofs.General.Truths.{or_left, or_right, and_make, same_number, equal_test, not_true, is_not_true, true_or_false}
 use Rattle.flow_model.proofs.OneStep.WhoMayStep.{skip-can_work, resolve-can_work, can_work-at_front, at_front-heads, discover-due, due-can_work}
 use Rattle.flow_model.proofs.OneStep.WhoLivesAndFrames.{step-phases, phase-ended}
 use Rattle.flow_model.proofs.OrderStays.OpenNodesHaveFrames.{cell-there, cell-other}
@@ -50,7 +50,7 @@ key_at s since (Some b) = since == b
 
 key-test : (s : Core) (since : ℕ) (o : Option ℕ) → IsKey s since o → key_at s since o ≡ true
 key-test s since None k = ap not k
-key-test s since (Some b) k = equal_test since b k
+key-test s since (Some b) k = eq-eqb since b k
 
 test-key : (s : Core) (since : ℕ) (o : Option ℕ) → key_at s since o ≡ true → IsKey s since o
 test-key s since None k = turned (live s since) k
@@ -58,7 +58,7 @@ test-key s since None k = turned (live s since) k
     turned : (a : Bool) → not a ≡ true → a ≡ false
     turned true k = sym k
     turned false k = refl
-test-key s since (Some b) k = same_number since b k
+test-key s since (Some b) k = eqb-true since b k
 
 abbrev lost : Core → ℕ → Run → Bool
 lost s since r = not (key_at s since r.begins)
@@ -69,7 +69,7 @@ lost-earlier s since b z d k = apart (since == b) refl
   where
     apart : (x : Bool) → (since == b) ≡ x → not x ≡ true
     apart false e = refl
-    apart true e = let w = same_number since b e in absurd (both (live s since) k (subst (λ (v : ℕ). not (live s v) ≡ true) (sym w) d))
+    apart true e = let w = eqb-true since b e in absurd (both (live s since) k (subst (λ (v : ℕ). not (live s v) ≡ true) (sym w) d))
       where
         both : (a : Bool) → not (not a) ≡ true → not a ≡ true → ⊥
         both true h j = true≢false (sym j)
@@ -172,7 +172,7 @@ goes_on-key s since t fresh None k = absurd k
 goes_on-key s since t fresh (Some r) k = k
 
 skipped-stands : (graph : Graph) (s : Core) → IsLawful graph s → (t n0 : ℕ) → allowed graph s (steps.Skip t n0) ≡ true → (n m since : ℕ) → has_out (outs s m) n since ≡ true → IsRunEdge (apply graph s (steps.Skip t n0)) n m since ⊎ IsNewEdge (apply graph s (steps.Skip t n0)) n m since
-skipped-stands graph s h t n0 a n m since e = go (true_or_false (n == n0))
+skipped-stands graph s h t n0 a n m since e = go (cases_Bool (n == n0))
   where
     q : Core
     q = apply graph s (steps.Skip t n0)
@@ -182,14 +182,14 @@ skipped-stands graph s h t n0 a n m since e = go (true_or_false (n == n0))
 
     here : has_out (outs s m) n0 since ≡ true → IsRunEdge s n0 m since ⊎ IsNewEdge s n0 m since → IsRunEdge q n0 m since ⊎ IsNewEdge q n0 m since
     here k (inl x) = inl (finished-run graph s h q (λ v y. phase-ended s q (step-phases graph s (steps.Skip t n0) a) v y) t n0 (value_before (entries s n0) t) false (picks_before (entries s n0) t) hd (skip-list graph s h t n0 a) m since (head-prior graph s h t n0 m hd ∙ x.picked) (goes_on-key s since t (read_all m (entries s n0) nothing_read).fresh (last_run_of s n0 m) x.key))
-    here k (inr x) = absurd (is_not_true _ (skip-untouched graph s t n0 a) (found-touched graph s h t n0 hd (candidate-found s n0 m x.found)))
+    here k (inr x) = absurd (both_ways _ (skip-untouched graph s t n0 a) (found-touched graph s h t n0 hd (candidate-found s n0 m x.found)))
 
     go : ((n == n0) ≡ true) ⊎ ((n == n0) ≡ false) → IsRunEdge q n m since ⊎ IsNewEdge q n m since
     go (inr ne) = same_cell-stands graph s (steps.Skip t n0) h a n m since (skipped-there graph s t n0 n ne) e
-    go (inl y) = let j = same_number n n0 y in let e0 = subst (λ (w : ℕ). has_out (outs s m) w since ≡ true) j e in subst (λ (w : ℕ). IsRunEdge q w m since ⊎ IsNewEdge q w m since) (sym j) (here e0 (h.edges_are_kept.stands n0 m since e0))
+    go (inl y) = let j = eqb-true n n0 y in let e0 = subst (λ (w : ℕ). has_out (outs s m) w since ≡ true) j e in subst (λ (w : ℕ). IsRunEdge q w m since ⊎ IsNewEdge q w m since) (sym j) (here e0 (h.edges_are_kept.stands n0 m since e0))
 
 resolved-stands : (graph : Graph) (s : Core) → IsLawful graph s → (t n0 : ℕ) → allowed graph s (steps.Resolve t n0) ≡ true → (n m since : ℕ) → has_out (outs s m) n since ≡ true → IsRunEdge (apply graph s (steps.Resolve t n0)) n m since ⊎ IsNewEdge (apply graph s (steps.Resolve t n0)) n m since
-resolved-stands graph s h t n0 a n m since e = go (true_or_false (n == n0))
+resolved-stands graph s h t n0 a n m since e = go (cases_Bool (n == n0))
   where
     q : Core
     q = apply graph s (steps.Resolve t n0)
@@ -218,7 +218,7 @@ resolved-stands graph s h t n0 a n m since e = go (true_or_false (n == n0))
 
     go : ((n == n0) ≡ true) ⊎ ((n == n0) ≡ false) → IsRunEdge q n m since ⊎ IsNewEdge q n m since
     go (inr ne) = same_cell-stands graph s (steps.Resolve t n0) h a n m since (resolved-there graph s t n0 n ne) e
-    go (inl y) = let j = same_number n n0 y in let e0 = subst (λ (w : ℕ). has_out (outs s m) w since ≡ true) j e in inl (subst (λ (w : ℕ). IsRunEdge q w m since) (sym j) (here e0 (h.edges_are_kept.stands n0 m since e0)))
+    go (inl y) = let j = eqb-true n n0 y in let e0 = subst (λ (w : ℕ). has_out (outs s m) w since ≡ true) j e in inl (subst (λ (w : ℕ). IsRunEdge q w m since) (sym j) (here e0 (h.edges_are_kept.stands n0 m since e0)))
 
 -- ---- Discover
 
@@ -261,7 +261,7 @@ step-stands graph s (steps.Discover t n0 c) h a n m since e = go (discovered-out
 
     two : m ≡ c → (has_out (outs s m) n since ≡ true) ⊎ (((n0 == n) ≡ true) × ((t == since) ≡ true)) → IsRunEdge q n m since ⊎ IsNewEdge q n m since
     two j (inl x) = old-stands graph s (steps.Discover t n0 c) h a refl n m since x
-    two j (inr x) = inr (subst (λ (w : ℕ). IsNewEdge q n w since) (sym j) (subst (λ (w : ℕ). IsNewEdge q w c since) (same_number n0 n x.0) (subst (λ (w : ℕ). IsNewEdge q n0 c w) (same_number t since x.1) (discovered-new graph s h t n0 c a))))
+    two j (inr x) = inr (subst (λ (w : ℕ). IsNewEdge q n w since) (sym j) (subst (λ (w : ℕ). IsNewEdge q w c since) (eqb-true n0 n x.0) (subst (λ (w : ℕ). IsNewEdge q n0 c w) (eqb-true t since x.1) (discovered-new graph s h t n0 c a))))
 
     go : (outs q m ≡ outs s m) ⊎ ((m ≡ c) × (outs q m ≡ with_out (outs s m) n0 t)) → IsRunEdge q n m since ⊎ IsNewEdge q n m since
     go (inl x) = old-stands graph s (steps.Discover t n0 c) h a refl n m since (subst (λ (os : List OutEdge). has_out os n since ≡ true) x e)
@@ -283,10 +283,10 @@ step-stands graph s (steps.Collect n0) h a n m since e = plain-stands graph s (s
 
 count-none : (n : ℕ) (os : List OutEdge) → ((since : ℕ) → has_out os n since ≡ false) → count_edges n os ≡ 0
 count-none n [] f = refl
-count-none n (edge ∷ os) f = go (true_or_false (edge.0 == n)) (count-none n os (λ since. not_true _ (λ k. is_not_true _ (f since) (or_right _ _ k))))
+count-none n (edge ∷ os) f = go (cases_Bool (edge.0 == n)) (count-none n os (λ since. false_from_ne_true _ (λ k. both_ways _ (f since) (or_right _ _ k))))
   where
     go : ((edge.0 == n) ≡ true) ⊎ ((edge.0 == n) ≡ false) → count_edges n os ≡ 0 → count_edges n (edge ∷ os) ≡ 0
-    go (inl e) r = absurd (is_not_true _ (f edge.1) (or_left _ _ (and_make (edge.0 == n) (edge.1 == edge.1) e (equal_test edge.1 edge.1 refl))))
+    go (inl e) r = absurd (both_ways _ (f edge.1) (or_left _ _ (and_from (edge.0 == n) (edge.1 == edge.1) e (eq-eqb edge.1 edge.1 refl))))
     go (inr e) r = grind (arith, e, r)
 
 count-added : (n n0 t : ℕ) (os : List OutEdge) → count_edges n (with_out os n0 t) ≡ count_edges n os + elim (n0 == n) as (λ _. ℕ) [ true ↦ 1 | false ↦ 0 ]
@@ -310,14 +310,14 @@ count-removed n n0 (edge ∷ os) = go (edge.0 == n0) (count-removed n n0 os)
 
 -- A candidate that a first open call comes to discover has no edge of the node.
 discovered-none : (graph : Graph) (s : Core) → IsLawful graph s → (t n0 c : ℕ) → allowed graph s (steps.Discover t n0 c) ≡ true → (since : ℕ) → has_out (outs s c) n0 since ≡ false
-discovered-none graph s h t n0 c a since = not_true _ (λ k. go k (h.edges_are_kept.stands n0 c since k))
+discovered-none graph s h t n0 c a since = false_from_ne_true _ (λ k. go k (h.edges_are_kept.stands n0 c since k))
   where
     hd : heads s t n0 ≡ true
     hd = at_front-heads graph s t n0 (can_work-at_front graph s t n0 (due-can_work graph s t n0 (discover-due graph s t n0 c a)))
 
     go : has_out (outs s c) n0 since ≡ true → IsRunEdge s n0 c since ⊎ IsNewEdge s n0 c since → ⊥
-    go k (inl x) = is_not_true _ (discover-not_prior graph s t n0 c a) (head-prior graph s h t n0 c hd ∙ x.picked)
-    go k (inr x) = is_not_true _ (discover-no_edge graph s t n0 c a) (subst (λ (w : ℕ). has_out (outs s c) n0 w ≡ true) (heads-same s t since n0 hd x.first_open) k)
+    go k (inl x) = both_ways _ (discover-not_prior graph s t n0 c a) (head-prior graph s h t n0 c hd ∙ x.picked)
+    go k (inr x) = both_ways _ (discover-no_edge graph s t n0 c a) (subst (λ (w : ℕ). has_out (outs s c) n0 w ≡ true) (heads-same s t since n0 hd x.first_open) k)
 
 plain-once : (graph : Graph) (s : Core) (step : Step) → IsLawful graph s → edges step ≡ false → (n m : ℕ) → count_edges n (outs (apply graph s step) m) ≤ 1
 plain-once graph s step h g n m = subst (λ (os : List OutEdge). count_edges n os ≤ 1) (sym (step-outs graph s step g m)) (h.edges_are_kept.once n m)
@@ -331,7 +331,7 @@ step-once graph s (steps.Discover t n0 c) h a n m = go (discovered-outs graph s 
     added : m ≡ c → (b : Bool) → (n0 == n) ≡ b → count_edges n (outs s m) + elim b as (λ _. ℕ) [ true ↦ 1 | false ↦ 0 ] ≤ 1
     added j false e = let o = h.edges_are_kept.once n m in omega (arith, o)
     added j true e =
-        let z = count-none n (outs s m) (λ since. subst (λ (w : ℕ). has_out (outs s m) w since ≡ false) (same_number n0 n e) (subst (λ (w : ℕ). has_out (outs s w) n0 since ≡ false) (sym j) (discovered-none graph s h t n0 c a since))) in
+        let z = count-none n (outs s m) (λ since. subst (λ (w : ℕ). has_out (outs s m) w since ≡ false) (eqb-true n0 n e) (subst (λ (w : ℕ). has_out (outs s w) n0 since ≡ false) (sym j) (discovered-none graph s h t n0 c a since))) in
         omega (arith, z)
 
     go : (outs q m ≡ outs s m) ⊎ ((m ≡ c) × (outs q m ≡ with_out (outs s m) n0 t)) → count_edges n (outs q m) ≤ 1

@@ -1,6 +1,7 @@
 -- Runs begin and end at calls in the choose node's list, and out-edges are of calls that have begun.
 -- So a beginning keeps the out-edges.
 use Rattle.std.proofs.Common.{◌≡◌, ℕ, suc, ◌≤◌, Bool, true, false, ◌||◌, ◌==◌, ◌⊎◌, inl, inr, refl, sym, ap, arith, List, [], ◌∷◌, true≢false, ◌∙◌, subst, Option, Some, None}
+use Rattle.std.proofs.lemmas.Bool.{or_cases, or_left, or_right, eqb-true, eq-eqb, both_ways}
 use Rattle.std.specs.Prelude.{is_some}
 use Rattle.std.specs.List.{list_any}
 use Rattle.signal_graph.specs.declared.call.Call.{Call}
@@ -10,6 +11,7 @@ use Rattle.node_versions.specs.declared.entry.State.{State}
 use Rattle.node_versions.specs.declared.entry.State.TheVariants.{Mark, Frame, Done}
 use Rattle.node_versions.specs.declared.entry.Entry.{Entry}
 use Rattle.node_versions.specs.Entries.{OutEdge, IsUnique, has, is_frame, first_open, has_out, has_node, with_out}
+use Rattle.node_versions.proofs.Places.{at-has}
 use Rattle.flow_model.specs.declared.step.Step.{Step}
 use Rattle.flow_model.specs.declared.step.Step.TheVariants as steps
 use Rattle.flow_model.specs.Machine.State.{Core, call_of, live, entries, outs}
@@ -17,9 +19,8 @@ use Rattle.flow_model.specs.Machine.Changes.{remove_first}
 use Rattle.flow_model.specs.Machine.Steps.{allowed, apply, begin, new_call}
 use Rattle.flow_model.specs.Kept.Runs.{Run, Reading, begin_at, go_on, close, read_done, read_state, read_all, nothing_read, last_run, discovered, runs}
 use Rattle.flow_model.specs.Kept.Lawful.{IsLawful, IsKey, IsKeyOf, IsRunEdge, IsNewEdge, EdgesAreKept, EdgesAreKnown, last_run_of}
-use Rattle.flow_model.proofs.General.Truths.{or_cases, or_left, or_right, same_number, equal_test, is_not_true}
 use Rattle.flow_model.proofs.OneStep.WhoMayStep.{executes-live, discover-due, due-can_work, can_work-at_front, at_front-executes}
-use Rattle.flow_model.proofs.OneList.StatesAndPlaces.{at-has, first_open-frame}
+use Rattle.flow_model.proofs.OneList.StatesAndPlaces.{first_open-frame}
 use Rattle.flow_model.proofs.OneStep.VersionsStayFresh.{live-version}
 use Rattle.flow_model.proofs.OrderStays.AfterEachStep.{not_begun-entry}
 use Rattle.flow_model.proofs.OneStep.BegunCalls.{begin-call}
@@ -44,7 +45,7 @@ record Known (P : ℕ → Type 0) (q : Reading) : Type 0 where
 
 begun-known : (fresh : Bool) (v b : ℕ) → begins_at b (begin_at fresh v) ≡ true → v ≡ b
 begun-known true v b k = absurd (true≢false (sym k))
-begun-known false v b k = same_number v b k
+begun-known false v b k = eqb-true v b k
 
 done-known : (P : ℕ → Type 0) (m v : ℕ) (ps : List (Option ℕ)) (q : Reading) → P v → Known P q → Known P (read_done m v ps q)
 done-known P m v ps q p h = record { begins = λ b. begins b (is_in m (nodes_in ps)) q.current refl; ends = λ z. ends z (is_in m (nodes_in ps)) q.current refl; current = λ r. current r (is_in m (nodes_in ps)) q.current refl }
@@ -65,7 +66,7 @@ done-known P m v ps q p h = record { begins = λ b. begins b (is_in m (nodes_in 
       where
         go : (list_any (ends_at z) q.closed ≡ true) ⊎ ((v == z) ≡ true) → P z
         go (inl j) = h.ends z j
-        go (inr j) = subst P (same_number v z j) p
+        go (inr j) = subst P (eqb-true v z j) p
 
     current : (r : Run) (x : Bool) (o : Option Run) → q.current ≡ o → elim x as (λ _. Option Run) [ true ↦ go_on o q.fresh v | false ↦ None ] ≡ Some r → (b : ℕ) → begins_at b r ≡ true → P b
     current r false o e k b j = none k
@@ -89,7 +90,7 @@ read-known P m (e ∷ es) q f h = read-known P m es (read_state m e.version e.st
     go : (x : State) → Known P (read_state m e.version x q)
     go Mark = h
     go Frame = h
-    go (Done v c ps) = done-known P m e.version ps q (f e.version (or_left _ _ (equal_test e.version e.version refl))) h
+    go (Done v c ps) = done-known P m e.version ps q (f e.version (or_left _ _ (eq-eqb e.version e.version refl))) h
 
 nothing-known : (P : ℕ → Type 0) → Known P nothing_read
 nothing-known P = record { begins = λ b k. absurd (true≢false (sym k)); ends = λ z k. absurd (true≢false (sym k)); current = λ r k b j. none r k b }
@@ -120,7 +121,7 @@ begins-known graph s h n m b k = parts (or_cases _ _ (sym (any-parts (begins_at 
       where
         cases : (x : Bool) → list_any (begins_at b) (elim x as (λ _. List Run) [ true ↦ record { begins = Some t; ends = None } ∷ [] | false ↦ [] ]) ≡ true → has (entries s n) b ≡ true
         cases false y = absurd (true≢false (sym y))
-        cases true y = subst (λ (w : ℕ). has (entries s n) w ≡ true) (same_number t b (only _ y)) (first-has (entries s n) t (h.one_entry n) e)
+        cases true y = subst (λ (w : ℕ). has (entries s n) w ≡ true) (eqb-true t b (only _ y)) (first-has (entries s n) t (h.one_entry n) e)
 
     parts : ((list_any (begins_at b) q.closed || list_any (begins_at b) (last_run q.current (dropper_in (entries s n) (outs s m) n))) ≡ true) ⊎ (list_any (begins_at b) (discovered (first_open (entries s n)) n (outs s m)) ≡ true) → has (entries s n) b ≡ true
     parts (inr a) = new (first_open (entries s n)) refl a
@@ -163,7 +164,7 @@ step-EdgesAreKnown graph s (steps.Discover t n0 c) h a n m since e = subst (λ (
 
     two : (has_out (outs s m) n since ≡ true) ⊎ (((n0 == n) ≡ true) × ((t == since) ≡ true)) → since ≤ s.begun
     two (inl x) = h.edges_are_known n m since x
-    two (inr x) = subst (λ (j : ℕ). j ≤ s.begun) (same_number t since x.1) (h.versions_are_fresh.fit t (live-version s t lt)).1
+    two (inr x) = subst (λ (j : ℕ). j ≤ s.begun) (eqb-true t since x.1) (h.versions_are_fresh.fit t (live-version s t lt)).1
 
     go : (outs q m ≡ outs s m) ⊎ ((m ≡ c) × (outs q m ≡ with_out (outs s m) n0 t)) → since ≤ s.begun
     go (inl x) = h.edges_are_known n m since (subst (λ (os : List OutEdge). has_out os n since ≡ true) x e)
@@ -211,7 +212,7 @@ begin-EdgesAreKept graph s caller c h = record {
       where
         go : ((call_of q.calls v ≡ call_of s.calls v) × ((suc s.begun == v) ≡ false)) ⊎ ((v ≡ suc s.begun) × (call_of q.calls v ≡ Some (new_call graph s caller c))) → live s v ≡ true
         go (inl e) = sym (ap is_some e.0) ∙ l
-        go (inr e) = absurd (is_not_true _ (not_begun-entry graph s h n) (subst (λ (w : ℕ). has (entries s n) w ≡ true) e.0 hv))
+        go (inr e) = absurd (both_ways _ (not_begun-entry graph s h n) (subst (λ (w : ℕ). has (entries s n) w ≡ true) e.0 hv))
 
     -- an ended call that has begun is no new one
     still : (v : ℕ) → v ≤ s.begun → live s v ≡ false → live q v ≡ false

@@ -1,8 +1,10 @@
 -- The picks of each Done fit the selectors, after each step.
 use Rattle.std.proofs.Common.{◌≡◌, ℕ, ◌<◌, Bool, true, false, ◌&&◌, ◌||◌, not, ◌==◌, ◌⊎◌, ◌≢◌, inl, inr, refl, sym, ap, arith, List, [], length, true≢false, ◌∙◌, subst, Option, Some, None}
+use Rattle.std.proofs.lemmas.Bool.{eqb-true, eq-eqb, false_from_ne_true, both_ways, cases_Bool}
 use Rattle.std.specs.Prelude.{is_some}
 use Rattle.std.specs.List.{AllZip}
 use Rattle.script_tree.specs.declared.value.Value.{Value}
+use Rattle.script_tree.proofs.Truths.{and_left, and_right}
 use Rattle.signal_graph.specs.declared.call.Call.{Call}
 use Rattle.signal_graph.specs.declared.node.Node.{Node}
 use Rattle.signal_graph.specs.declared.node.Node.TheVariants.{Source, Signal, Fold, Choose}
@@ -11,6 +13,8 @@ use Rattle.node_versions.specs.declared.entry.State.{State}
 use Rattle.node_versions.specs.declared.entry.State.TheVariants.{Mark, Frame, Done}
 use Rattle.node_versions.specs.declared.entry.Entry.{Entry}
 use Rattle.node_versions.specs.Entries.{IsUnique, is_done, is_frame, has, at, placed, with_state, last_done, picks_of, state_of, picks_before, value_before}
+use Rattle.node_versions.proofs.Collecting.{last_is_done}
+use Rattle.node_versions.proofs.Places.{at-has}
 use Rattle.flow_model.specs.declared.step.Step.{Step}
 use Rattle.flow_model.specs.declared.step.Step.TheVariants as steps
 use Rattle.flow_model.specs.Machine.State.{Core, Found, cell, live, entries}
@@ -18,10 +22,9 @@ use Rattle.flow_model.specs.Machine.Words.{heads, at_front, touched, is_found, p
 use Rattle.flow_model.specs.Machine.Changes.{stops, stops_call, new_entry}
 use Rattle.flow_model.specs.Machine.Steps.{allowed, apply, begin, is_change, is_worked_out}
 use Rattle.flow_model.specs.Kept.Lawful.{IsLawful, IsPickOf, PicksFit}
-use Rattle.flow_model.proofs.General.Truths.{equal_test, same_number, is_not_true, not_true, true_or_false}
-use Rattle.flow_model.proofs.OneStep.WhoMayStep.{and_left, and_right, skip-can_work, resolve-can_work, can_work-at_front, at_front-heads}
-use Rattle.flow_model.proofs.OneList.StatesAndPlaces.{at-has, with_state-at}
-use Rattle.flow_model.proofs.OneList.OneEntryACall.{placed-at_other, placed-at, collected-at, last_done-at, last_done-done}
+use Rattle.flow_model.proofs.OneStep.WhoMayStep.{skip-can_work, resolve-can_work, can_work-at_front, at_front-heads}
+use Rattle.flow_model.proofs.OneList.StatesAndPlaces.{with_state-at}
+use Rattle.flow_model.proofs.OneList.OneEntryACall.{placed-at_other, placed-at, collected-at, last_done-at}
 use Rattle.flow_model.proofs.OrderStays.OpenNodesHaveFrames.{entry-there}
 use Rattle.flow_model.proofs.Wants.FramedWith.{opens-frame, heads-opens}
 use Rattle.flow_model.proofs.Reactions.WhereRunsBegin.{before-last}
@@ -38,25 +41,25 @@ lawful-fits : (graph : Graph) (s : Core) → IsLawful graph s → (n : ℕ) → 
 lawful-fits graph s h n u d = subst (λ (x : State). AllZip IsPickOf (selectors_of (node_at graph n)) (picks_of x)) (own-done_at (entries s n) u d) (h.picks_fit u n d)
 
 placed-fits : (graph : Graph) (s : Core) (t n : ℕ) (x : State) → is_done x ≡ false → has (entries s n) t ≡ false → Fits graph n (entries s n) → Fits graph n (placed (stops s t) (new_entry s t x) (entries s n))
-placed-fits graph s t n x nd fresh f u d = go (true_or_false (u == t))
+placed-fits graph s t n x nd fresh f u d = go (cases_Bool (u == t))
   where
     es : List Entry
     es = entries s n
 
     go : ((u == t) ≡ true) ⊎ ((u == t) ≡ false) → AllZip IsPickOf (selectors_of (node_at graph n)) (picks_of (own (placed (stops s t) (new_entry s t x) es) u))
-    go (inl e) = absurd (is_not_true _ (placed-at is_done (stops_call s t) (new_entry s t x) es fresh ∙ nd) (subst (λ (v : ℕ). at is_done (placed (stops s t) (new_entry s t x) es) v ≡ true) (same_number u t e) d))
+    go (inl e) = absurd (both_ways _ (placed-at is_done (stops_call s t) (new_entry s t x) es fresh ∙ nd) (subst (λ (v : ℕ). at is_done (placed (stops s t) (new_entry s t x) es) v ≡ true) (eqb-true u t e) d))
     go (inr e) =
-        let ne : u ≢ t = λ k. is_not_true _ e (equal_test u t k) in
+        let ne : u ≢ t = λ k. both_ways _ e (eq-eqb u t k) in
         subst (λ (y : State). AllZip IsPickOf (selectors_of (node_at graph n)) (picks_of y)) (sym (placed-own (stops_call s t) (new_entry s t x) es u ne)) (f u (sym (placed-at_other is_done (stops_call s t) (new_entry s t x) es u ne) ∙ d))
 
 -- another state of the call's entry: no Done, or one whose picks fit
 stated-fits : (graph : Graph) (n t : ℕ) (x : State) (es : List Entry) → has es t ≡ true → (is_done x ≡ true → AllZip IsPickOf (selectors_of (node_at graph n)) (picks_of x)) → Fits graph n es → Fits graph n (with_state t x es)
-stated-fits graph n t x es ht new f u d = go (true_or_false (u == t)) (with_state-at is_done t x es u)
+stated-fits graph n t x es ht new f u d = go (cases_Bool (u == t)) (with_state-at is_done t x es u)
   where
     go : ((u == t) ≡ true) ⊎ ((u == t) ≡ false) → at is_done (with_state t x es) u ≡ elim (u == t) as (λ _. Bool) [ true ↦ has es t && is_done x | false ↦ at is_done es u ] → AllZip IsPickOf (selectors_of (node_at graph n)) (picks_of (own (with_state t x es) u))
     go (inl e) w =
         let y : is_done x ≡ true = taken (u == t) (has es t) (is_done x) (at is_done es u) (at is_done (with_state t x es) u) e w d in
-        subst (λ (v : ℕ). AllZip IsPickOf (selectors_of (node_at graph n)) (picks_of (own (with_state t x es) v))) (sym (same_number u t e))
+        subst (λ (v : ℕ). AllZip IsPickOf (selectors_of (node_at graph n)) (picks_of (own (with_state t x es) v))) (sym (eqb-true u t e))
         (subst (λ (z : State). AllZip IsPickOf (selectors_of (node_at graph n)) (picks_of z)) (sym (with_state-own_it t x es ht)) (new y))
       where
         taken : (b c y z a : Bool) → b ≡ true → a ≡ elim b as (λ _. Bool) [ true ↦ c && y | false ↦ z ] → a ≡ true → y ≡ true
@@ -88,8 +91,8 @@ last-fit graph s h n there = go (last_done (entries s n)) refl
     es = entries s n
 
     go : (o : Option Entry) → last_done es ≡ o → AllZip IsPickOf (selectors_of (node_at graph n)) (picks_of (state_of o))
-    go None e = let d = h.ended_is_prefix.done n there in absurd (is_not_true _ (no_last-none es d.0 e) d.2)
-    go (Some x) e = subst (λ (z : State). AllZip IsPickOf (selectors_of (node_at graph n)) (picks_of z)) (last_done-own es x (h.one_entry n) e) (lawful-fits graph s h n x.version (last_done-at is_done es x (h.one_entry n) e ∙ last_done-done es x e))
+    go None e = let d = h.ended_is_prefix.done n there in absurd (both_ways _ (no_last-none es d.0 e) d.2)
+    go (Some x) e = subst (λ (z : State). AllZip IsPickOf (selectors_of (node_at graph n)) (picks_of z)) (last_done-own es x (h.one_entry n) e) (lawful-fits graph s h n x.version (last_done-at is_done es x (h.one_entry n) e ∙ last_is_done es x e))
 
 head-frame : (graph : Graph) (s : Core) → IsLawful graph s → (t n : ℕ) → at_front graph s t n ≡ true → at is_frame (entries s n) t ≡ true
 head-frame graph s h t n f = opens-frame graph s h t n (heads-opens graph s h t n (at_front-heads graph s t n f))
@@ -121,7 +124,7 @@ resolve-fit graph s h t n a = go (cell s n).found refl
 
     -- a node that is no source has found something
     source : (cell s n).found ≡ None → is_source (node_at graph n) ≡ true
-    source e = cases (is_source (node_at graph n)) (touched graph s t n) (is_worked_out graph s t n) (not_true _ (λ y. is_not_true (is_found s n) (ap (λ (x : Option Found). is_some x) e) (worked-found graph s t n y))) (resolve-rest graph s t n a)
+    source e = cases (is_source (node_at graph n)) (touched graph s t n) (is_worked_out graph s t n) (false_from_ne_true _ (λ y. both_ways (is_found s n) (ap (λ (x : Option Found). is_some x) e) (worked-found graph s t n y))) (resolve-rest graph s t n a)
       where
         cases : (x y w : Bool) → w ≡ false → (x || (y && w)) ≡ true → x ≡ true
         cases x y w h k = grind (arith, h, k)

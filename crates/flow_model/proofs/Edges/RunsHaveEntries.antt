@@ -1,5 +1,6 @@
 -- After a step runs begin and end at the calls where they did before, or at calls that have an entry at the candidate.
 use Rattle.std.proofs.Common.{◌≡◌, ℕ, ◌<◌, length, Bool, true, false, not, ◌==◌, ◌⊎◌, inl, inr, refl, sym, ap, arith, List, [], ◌∷◌, true≢false, ◌∙◌, subst, Option, Some, None}
+use Rattle.std.proofs.lemmas.Bool.{or_left, or_right, eqb-true, eq-eqb, cases_Bool}
 use Rattle.std.specs.Prelude.{slice_get}
 use Rattle.std.specs.List.{list_any}
 use Rattle.script_tree.specs.declared.value.Value.{Value}
@@ -15,7 +16,6 @@ use Rattle.flow_model.specs.Machine.Changes.{stops_call, new_entry, place_entry,
 use Rattle.flow_model.specs.Machine.Steps.{allowed, apply, is_change}
 use Rattle.flow_model.specs.Kept.Runs.{Run, runs}
 use Rattle.flow_model.specs.Kept.Lawful.{IsLawful, picks_last, last_run_of}
-use Rattle.flow_model.proofs.General.Truths.{or_left, or_right, same_number, equal_test, true_or_false}
 use Rattle.flow_model.proofs.OneStep.WhoMayStep.{discover-due, due-can_work, can_work-at_front, at_front-heads}
 use Rattle.flow_model.proofs.OneList.OneEntryACall.{placed-has}
 use Rattle.flow_model.proofs.OneStep.ChangesOfOneList.{same_cell}
@@ -73,13 +73,13 @@ ensured-entry s t c there = go (has (entries s c) t) refl
   where
     go : (b : Bool) → has (entries s c) t ≡ b → has (entries (elim b as (λ _. Core) [ true ↦ s | false ↦ enter s t c Mark ]) c) t ≡ true
     go true e = e
-    go false e = ap (λ (x : Cell). has x.entries t) (cell-there s c (place_entry s t Mark) there) ∙ placed-has (stops_call s t) (new_entry s t Mark) (entries s c) t ∙ or_left _ _ (equal_test t t refl)
+    go false e = ap (λ (x : Cell). has x.entries t) (cell-there s c (place_entry s t Mark) there) ∙ placed-has (stops_call s t) (new_entry s t Mark) (entries s c) t ∙ or_left _ _ (eq-eqb t t refl)
 
 -- ---- Discover and Drop
 
 discovered-back : (graph : Graph) (s : Core) → IsLawful graph s → (t n0 c : ℕ) → allowed graph s (steps.Discover t n0 c) ≡ true → (n m : ℕ) (test : Run → Bool) → list_any test (runs (apply graph s (steps.Discover t n0 c)) n m) ≡ true
     → (list_any test (runs s n m) ≡ true) ⊎ ((test (new_run t) ≡ true) × (has (entries (apply graph s (steps.Discover t n0 c)) m) t ≡ true))
-discovered-back graph s h t n0 c a n m test k = go (discovered-outs graph s t n0 c m) (true_or_false (n == n0)) (subst (λ (rs : List Run). list_any test rs ≡ true) (discovered-runs s t c n0 n m) k)
+discovered-back graph s h t n0 c a n m test k = go (discovered-outs graph s t n0 c m) (cases_Bool (n == n0)) (subst (λ (rs : List Run). list_any test rs ≡ true) (discovered-runs s t c n0 n m) k)
   where
     p : Core
     p = ensure_mark s t c
@@ -100,13 +100,13 @@ discovered-back graph s h t n0 c a n m test k = go (discovered-outs graph s t n0
         ap (λ (es : List Entry). has es t) (same_cell graph p c (add_edge n0 t) (λ x. refl) m) ∙ subst (λ (w : ℕ). has (entries p w) t ≡ true) (sym j) (ensured-entry s t c (subst (λ (w : ℕ). w < length s.cells) j before))
       where
         new-node : (os : List OutEdge) → has_node (with_out os n0 t) n0 ≡ true
-        new-node [] = or_left _ _ (equal_test n0 n0 refl)
+        new-node [] = or_left _ _ (eq-eqb n0 n0 refl)
         new-node (edge ∷ os) = or_right _ _ (new-node os)
 
     go : (outs q m ≡ outs s m) ⊎ ((m ≡ c) × (outs q m ≡ with_out (outs s m) n0 t)) → ((n == n0) ≡ true) ⊎ ((n == n0) ≡ false) → list_any test (runs_in (entries s n) (outs q m) n m) ≡ true → (list_any test (runs s n m) ≡ true) ⊎ ((test (new_run t) ≡ true) × (has (entries q m) t ≡ true))
     go (inl e) y r = inl (subst (λ (os : List OutEdge). list_any test (runs_in (entries s n) os n m) ≡ true) e r)
     go (inr e) (inr ne) r = inl (subst (λ (rs : List Run). list_any test rs ≡ true) (same-edges (entries s n) (outs s m) (with_out (outs s m) n0 t) n m (added-node n0 n t (outs s m) ne) (λ z. added-out n0 n t z (outs s m) ne)) (subst (λ (os : List OutEdge). list_any test (runs_in (entries s n) os n m) ≡ true) e.1 r))
-    go (inr e) (inl y) r = two (added-any test (entries s n) (outs s m) n0 n m t y (subst (λ (w : ℕ). first_open (entries s w) ≡ Some t) (sym (same_number n n0 y)) (head-first (entries s n0) t hd)) (none (same_number n n0 y) e.0) (subst (λ (os : List OutEdge). list_any test (runs_in (entries s n) os n m) ≡ true) e.1 r))
+    go (inr e) (inl y) r = two (added-any test (entries s n) (outs s m) n0 n m t y (subst (λ (w : ℕ). first_open (entries s w) ≡ Some t) (sym (eqb-true n n0 y)) (head-first (entries s n0) t hd)) (none (eqb-true n n0 y) e.0) (subst (λ (os : List OutEdge). list_any test (runs_in (entries s n) os n m) ≡ true) e.1 r))
       where
         two : (list_any test (runs_in (entries s n) (outs s m) n m) ≡ true) ⊎ (test (new_run t) ≡ true) → (list_any test (runs s n m) ≡ true) ⊎ ((test (new_run t) ≡ true) × (has (entries q m) t ≡ true))
         two (inl z) = inl z
@@ -197,7 +197,7 @@ step-begun graph s (steps.Discover t n0 c) h a n m b k = go (discovered-back gra
   where
     go : (list_any (begins_at b) (runs s n m) ≡ true) ⊎ (((t == b) ≡ true) × (has (entries (apply graph s (steps.Discover t n0 c)) m) t ≡ true)) → Begun graph s (steps.Discover t n0 c) n m b
     go (inl x) = inl x
-    go (inr x) = inr (subst (λ (w : ℕ). has (entries (apply graph s (steps.Discover t n0 c)) m) w ≡ true) (same_number t b x.0) x.1)
+    go (inr x) = inr (subst (λ (w : ℕ). has (entries (apply graph s (steps.Discover t n0 c)) m) w ≡ true) (eqb-true t b x.0) x.1)
 step-begun graph s (steps.Drop t n0 o) h a n m b k = inl (dropped-begins graph s t n0 o a n m b k)
 step-begun graph s (steps.Mark t n0) h a n m b k = plain-begun graph s (steps.Mark t n0) h a refl refl n m b k
 step-begun graph s (steps.Look t) h a n m b k = plain-begun graph s (steps.Look t) h a refl refl n m b k

@@ -1,5 +1,6 @@
 -- A run ends where it did before, after a Done; after a Drop there or at the call that drops.
 use Rattle.std.proofs.Common.{◌≡◌, ℕ, Bool, true, false, ◌&&◌, ◌||◌, not, ◌==◌, ◌⊎◌, inl, inr, refl, sym, ap, arith, List, [], ◌∷◌, true≢false, ◌∙◌, subst, Option, Some, None}
+use Rattle.std.proofs.lemmas.Bool.{or_cases, or_left, or_right, eqb-true, eq-eqb, both_ways, cases_Bool}
 use Rattle.std.specs.Prelude.{is_some}
 use Rattle.std.specs.List.{list_any}
 use Rattle.script_tree.specs.declared.value.Value.{Value}
@@ -17,7 +18,6 @@ use Rattle.flow_model.specs.Machine.Changes.{remove_first}
 use Rattle.flow_model.specs.Machine.Steps.{allowed, is_worked_out, is_released}
 use Rattle.flow_model.specs.Kept.Runs.{Run, Reading, go_on, close, read_done, read_all, nothing_read, last_run, discovered}
 use Rattle.flow_model.specs.Kept.Lawful.{IsLawful, picks_last, lists_candidate}
-use Rattle.flow_model.proofs.General.Truths.{or_cases, or_left, or_right, same_number, equal_test, is_not_true, true_or_false}
 use Rattle.flow_model.proofs.OneStep.WhoMayStep.{can_work-at_front, at_front-heads, skip-can_work, resolve-can_work}
 use Rattle.flow_model.proofs.OrderStays.NoFrameBeforeDones.{head-first}
 use Rattle.flow_model.proofs.Wants.EarlierNodes.{prior-listed}
@@ -71,12 +71,12 @@ last-ends z (Some r) o k = (refl, some-is o z (only _ k))
 
 ends-last : (z : ℕ) (c : Option Run) (o : Option ℕ) → is_some c ≡ true → o ≡ Some z → list_any (ends_at z) (last_run c o) ≡ true
 ends-last z None o k e = absurd (true≢false (sym k))
-ends-last z (Some r) o k e = subst (λ (x : Option ℕ). list_any (ends_at z) (last_run (Some r) x) ≡ true) (sym e) (or_left _ _ (equal_test z z refl))
+ends-last z (Some r) o k e = subst (λ (x : Option ℕ). list_any (ends_at z) (last_run (Some r) x) ≡ true) (sym e) (or_left _ _ (eq-eqb z z refl))
 
 -- ---- an edge less
 
 pub dropped-ends : (z : ℕ) (es : List Entry) (os : List OutEdge) (n0 n m t : ℕ) → (n ≡ n0 → first_open es ≡ Some t) → list_any (ends_at z) (runs_in es (remove_first n0 os) n m) ≡ true → (list_any (ends_at z) (runs_in es os n m) ≡ true) ⊎ ((n ≡ n0) × (z ≡ t))
-dropped-ends z es os n0 n m t first h = go (true_or_false (n == n0))
+dropped-ends z es os n0 n m t first h = go (cases_Bool (n == n0))
   where
     q : Reading
     q = read_all m es nothing_read
@@ -86,7 +86,7 @@ dropped-ends z es os n0 n m t first h = go (true_or_false (n == n0))
     go (inl x) = two (ends-parts z es (remove_first n0 os) n m h)
       where
         e : n ≡ n0
-        e = same_number n n0 x
+        e = eqb-true n n0 x
 
         dropper : (b : Bool) → has_node (remove_first n0 os) n ≡ b → elim b as (λ _. Option ℕ) [ true ↦ None | false ↦ first_open es ] ≡ Some z → z ≡ t
         dropper true y k = cc
@@ -143,10 +143,10 @@ finished-ends graph s h t n v c ps fin leaves m z k = go (ends-parts z after os 
       where
         two : (list_any (ends_at z) q.closed ≡ true) ⊎ (ends_at z (record r { ends = Some t }) ≡ true) → list_any (ends_at z) (runs_in es os n m) ≡ true
         two (inl x) = closed-ends z es os n m x
-        two (inr x) = left r e f (sym (same_number t z x))
+        two (inr x) = left r e f (sym (eqb-true t z x))
 
     stands : is_in m (nodes_in ps) ≡ true → has_node os n ≡ true
-    stands f = cases (true_or_false (picks_last s n m))
+    stands f = cases (cases_Bool (picks_last s n m))
       where
         cases : (picks_last s n m ≡ true) ⊎ (picks_last s n m ≡ false) → has_node os n ≡ true
         cases (inl x) = fin.goes_on m f x
@@ -164,7 +164,7 @@ finished-ends graph s h t n v c ps fin leaves m z k = go (ends-parts z after os 
     go (inr a) = last (is_in m (nodes_in ps)) refl (subst (λ (w : Reading). list_any (ends_at z) (last_run w.current (dropper_in after os n)) ≡ true) reading a)
 
 pub skip-leaves : (graph : Graph) (s : Core) → IsLawful graph s → (t n : ℕ) → allowed graph s (steps.Skip t n) ≡ true → Leaves s n (picks_before (entries s n) t)
-skip-leaves graph s h t n a m f p = absurd (is_not_true _ f (head-prior graph s h t n m (at_front-heads graph s t n (can_work-at_front graph s t n (skip-can_work graph s t n a))) ∙ p))
+skip-leaves graph s h t n a m f p = absurd (both_ways _ f (head-prior graph s h t n m (at_front-heads graph s t n (can_work-at_front graph s t n (skip-can_work graph s t n a))) ∙ p))
 
 -- A node that has picked something is no source, and so is worked out when it is resolved.
 listed-no_source : (m : ℕ) (d : Node) → lists_candidate m (selectors_of d) ≡ true → is_source d ≡ false

@@ -1,5 +1,6 @@
 -- The last Dones of the ended calls stay the one-thread machine's.
 use Rattle.std.proofs.Common.{◌≡◌, ℕ, suc, ◌<◌, Bool, true, false, not, ◌==◌, ◌⊎◌, inl, inr, refl, sym, ap, arith, List, [], ◌∷◌, ◌++◌, length, ◌∙◌, subst, Option, Some, None}
+use Rattle.std.proofs.lemmas.Bool.{eqb-true, both_ways}
 use Rattle.std.specs.Prelude.{is_some}
 use Rattle.std.specs.Prelude.{filter, if◌then◌else◌}
 use Rattle.std.specs.List.{cons_option}
@@ -12,6 +13,7 @@ use Rattle.node_versions.specs.declared.entry.State.{State}
 use Rattle.node_versions.specs.declared.entry.State.TheVariants.{Mark, Frame, Done}
 use Rattle.node_versions.specs.declared.entry.Entry.{Entry}
 use Rattle.node_versions.specs.Entries.{has, at, is_mark, front, rest, with_state, last_done, only_done, collected, state_of, value_of, picks_of, value_before, picks_before}
+use Rattle.node_versions.proofs.Collecting.{last_is_done}
 use Rattle.flow_model.specs.declared.step.Step.{Step}
 use Rattle.flow_model.specs.declared.step.Step.TheVariants as steps
 use Rattle.flow_model.specs.Machine.State.{Core, LiveCall, call_of, live, ended, entries, with_cell}
@@ -20,10 +22,8 @@ use Rattle.flow_model.specs.Machine.Words.{active_outs, found_now, value_now, fo
 use Rattle.flow_model.specs.Machine.Changes.{stops, stops_call, new_entry, enter, raise, ensure_mark, opened, closed, finish, set_state, tell, tell_call, add_edge}
 use Rattle.flow_model.specs.Machine.Steps.{allowed, apply, begin, frame, open_node, new_call, started, counted, keep_found, with_look, look_value, is_change}
 use Rattle.flow_model.specs.Kept.Lawful.{IsLawful, EndedIsMachine, last_ended}
-use Rattle.flow_model.proofs.General.Truths.{is_not_true, same_number}
 use Rattle.flow_model.proofs.OneStep.WhoMayStep.{executes-live, wants-live, at_front-executes}
 use Rattle.flow_model.proofs.OneList.InOrder.{on_calls, front-rest, last_done-has, filter-has}
-use Rattle.flow_model.proofs.OneList.OneEntryACall.{last_done-done}
 use Rattle.flow_model.proofs.OneStep.ChangesOfOneList.{ListStep, stays, marks, frames, raises, finishes, collects, step-list}
 use Rattle.flow_model.proofs.OneList.CallsAndCells.{with_call-live, map_call-live}
 use Rattle.flow_model.proofs.OneStep.SameLengths.{step-parts}
@@ -68,7 +68,7 @@ state-filter p t x (e ∷ es) k = go (e.version == t) refl (p e.version) refl (s
   where
     go : (b : Bool) → (e.version == t) ≡ b → (c : Bool) → p e.version ≡ c → filter (on_calls p) (with_state t x es) ≡ filter (on_calls p) es
         → filter (on_calls p) (elim b as (λ _. List Entry) [ true ↦ record e { state = x } ∷ es | false ↦ e ∷ with_state t x es ]) ≡ filter (on_calls p) (e ∷ es)
-    go true y c z r = let n : p e.version ≡ false = subst (λ (w : ℕ). p w ≡ false) (sym (same_number e.version t y)) k in rw n refl
+    go true y c z r = let n : p e.version ≡ false = subst (λ (w : ℕ). p w ≡ false) (sym (eqb-true e.version t y)) k in rw n refl
     go false y true z r = rw z (ap (λ (xs : List Entry). e ∷ xs) r)
     go false y false z r = rw z r
 
@@ -93,7 +93,7 @@ collected-last p es = go (last_done (filter (on_calls p) es)) refl
     go None e = ap last_done (other-filter p es)
     go (Some x) e =
         let passes = (filter-has p es x.version (last_done-has (filter (on_calls p) es) x e)).1 in
-        let d = last_done-done (filter (on_calls p) es) x e in
+        let d = last_is_done (filter (on_calls p) es) x e in
         let only : only_done x ≡ Some x = rw (d, only_done) refl in
         rw passes (ap (λ (xs : List Entry). last_done (x ∷ xs)) (other-filter p es) ∙ only)
 
@@ -144,4 +144,4 @@ begin-EndedIsMachine graph s caller c h = kept-machine graph s (begin graph s ca
   where
     other : (n v : ℕ) → has (entries s n) v ≡ true → ((call_of (begin graph s caller c).calls v ≡ call_of s.calls v) × ((suc s.begun == v) ≡ false)) ⊎ ((v ≡ suc s.begun) × (call_of (begin graph s caller c).calls v ≡ Some (new_call graph s caller c))) → not (live (begin graph s caller c) v) ≡ not (live s v)
     other n v k (inl e) = ap (λ (o : Option LiveCall). not (is_some o)) e.0
-    other n v k (inr e) = absurd (is_not_true _ (not_begun-entry graph s h n) (subst (λ (w : ℕ). has (entries s n) w ≡ true) e.0 k))
+    other n v k (inr e) = absurd (both_ways _ (not_begun-entry graph s h n) (subst (λ (w : ℕ). has (entries s n) w ≡ true) e.0 k))

@@ -1,22 +1,29 @@
 -- When a call ends, the last Dones of the ended calls are the one-thread machine's after the longer log.
-use Rattle.std.proofs.Common.{◌≡◌, ℕ, zero, suc, ◌+◌, ◌<◌, Bool, true, false, ◌&&◌, ◌||◌, not, ◌==◌, ◌⊎◌, inl, inr, refl, sym, ap, arith, List, [], ◌∷◌, ◌++◌, length, map, true≢false, ◌∙◌, subst, Option, Some, None, get_or-set_same, get_or-set_other, length-set}
+use Rattle.std.proofs.Common.{◌≡◌, ℕ, ◌+◌, ◌<◌, Bool, true, false, ◌&&◌, ◌||◌, not, ◌==◌, ◌⊎◌, inl, inr, refl, sym, ap, arith, List, [], ◌∷◌, ◌++◌, length, map, true≢false, ◌∙◌, subst, Option, Some, None, get_or-set_same, get_or-set_other, length-set}
 use Rattle.std.specs.Prelude.{slice_set}
 use Rattle.std.specs.List.{list_any, AllZip}
 use Rattle.std.proofs.lemmas.List.Folds.{list_any-append}
+use Rattle.std.proofs.lemmas.List.{length-map}
+use Rattle.std.proofs.lemmas.Bool.{or_cases, or_left, or_right, and_from, eqb-true, eq-eqb, false_from_ne_true, both_ways, true_from_ne_false}
 use Rattle.script_tree.specs.declared.value.Fault.TheVariants.{NoChoice}
 use Rattle.script_tree.specs.declared.value.Value.{Value}
 use Rattle.script_tree.specs.declared.value.Value.TheVariants.{Fault as Faulty}
+use Rattle.script_tree.proofs.Truths.{and_left, and_right}
 use Rattle.signal_graph.specs.declared.call.Call.{Call}
 use Rattle.signal_graph.specs.declared.log.Logged.{Logged}
 use Rattle.signal_graph.specs.declared.node.Selector.{Selector}
 use Rattle.signal_graph.specs.declared.node.Node.{Node}
 use Rattle.signal_graph.specs.declared.node.Node.TheVariants.{Source, Signal, Fold, Choose}
-use Rattle.signal_graph.specs.Graph.{Graph, IsGraph, node_at, number_of, numbers, numbers_from, is_in, is_source, inputs_of, selectors_of, body_of, static_outs}
+use Rattle.signal_graph.specs.Graph.{Graph, IsGraph, node_at, number_of, numbers, is_in, is_source, inputs_of, selectors_of, body_of, static_outs}
 use Rattle.signal_graph.specs.Values.{Values, at as value_in, node_value, values, val, picks, picks_of as node_picks, nodes_in, start}
 use Rattle.signal_graph.specs.Machine.{same, with_sets, sets_of, misnamed, after}
 use Rattle.signal_graph.specs.Legal.{state_from, state_after}
 use Rattle.signal_graph.specs.OnePass.{new_value}
+use Rattle.signal_graph.proofs.Members.{number-in}
+use Rattle.signal_graph.proofs.SameValues.{same-self}
+use Rattle.signal_graph.proofs.LegalLogs.{state_more}
 use Rattle.node_versions.specs.Entries.{has, at, is_frame, is_done, changed_of, state_of, value_of, picks_of, picks_at, picks_before, value_before}
+use Rattle.node_versions.proofs.Places.{at-has}
 use Rattle.flow_model.specs.declared.step.Step.TheVariants as steps
 use Rattle.flow_model.specs.Machine.Lists.{is_empty}
 use Rattle.flow_model.specs.Machine.State.{Core, call, live, entries, changes, wants}
@@ -24,12 +31,9 @@ use Rattle.flow_model.specs.Machine.Words.{deps, prior_picks, touched, finds, va
 use Rattle.flow_model.specs.Machine.Steps.{allowed, apply, logged, nodes_set}
 use Rattle.flow_model.specs.Kept.Runs.{framed, is_framed_state, reacts, was_due, picks_it}
 use Rattle.flow_model.specs.Kept.Lawful.{IsLawful, IsDoneRight, IsPickOf, EndedIsMachine, last_ended, value_for}
-use Rattle.flow_model.proofs.General.Truths.{or_cases, or_left, or_right, and_make, same_number, equal_test, not_true, not_false, is_not_true}
-use Rattle.flow_model.proofs.OneStep.WhoMayStep.{and_left, and_right, end-idle}
-use Rattle.flow_model.proofs.OneList.StatesAndPlaces.{at-has}
-use Rattle.flow_model.proofs.General.AnyAndAll.{length-map, in-filter, any-one}
+use Rattle.flow_model.proofs.OneStep.WhoMayStep.{end-idle}
+use Rattle.flow_model.proofs.General.AnyAndAll.{in-filter, any-one}
 use Rattle.flow_model.proofs.Wants.EarlierNodes.{dep-earlier}
-use Rattle.flow_model.proofs.Values.FoundByReads.{same-self}
 use Rattle.flow_model.proofs.Ended.OneCallIsOneStep.{IsMade, IsCallDone, source-picks, call-right}
 use Rattle.flow_model.proofs.Ended.WhoEndsIsFirst.{own_done, changed-done, after_end, end-live, last-at, last-before, last-same, idle-opens, end-reacts}
 
@@ -43,16 +47,12 @@ pub record MachineLaws (graph : Graph) : Type 0 where
 
 -- ---- the state after a log
 
-state-append : (graph : Graph) (kept : Values) (log : List Logged) (x : Logged) → state_from graph kept (log ++ x ∷ []) ≡ after graph (state_from graph kept log) x.call
-state-append graph kept [] x = refl
-state-append graph kept (y ∷ ys) x = state-append graph (after graph kept y.call) ys x
-
 state-size : (graph : Graph) → MachineLaws graph → (log : List Logged) (kept : Values) → length kept ≡ length graph.nodes → length (state_from graph kept log) ≡ length graph.nodes
 state-size graph laws [] kept e = e
 state-size graph laws (x ∷ xs) kept e = state-size graph laws xs (after graph kept x.call) (laws.after_size kept x.call ∙ e)
 
 log-size : (graph : Graph) → MachineLaws graph → (log : List Logged) → length (state_after graph log) ≡ length graph.nodes
-log-size graph laws log = state-size graph laws log (start graph) (length-map _ graph.nodes)
+log-size graph laws log = state-size graph laws log (start graph) (length-map graph.nodes _)
 
 -- ---- what a call sets
 
@@ -88,8 +88,8 @@ sets-are graph vals (p ∷ ps) n h = go (number_of graph p.0 == n) refl (sets-ar
 
     go : (b : Bool) → (number_of graph p.0 == n) ≡ b → value_in (with_sets graph now ps) n ≡ set_value n (value_in now n) given
         → value_in (with_sets graph now ps) n ≡ elim b as (λ _. Value) [ true ↦ set_value n p.1 given | false ↦ set_value n (value_in vals n) given ]
-    go true e r = r ∙ ap (λ (v : Value). set_value n v given) (subst (λ (k : ℕ). value_in now k ≡ p.1) (same_number (number_of graph p.0) n e) (get_or-set_same vals (number_of graph p.0) p.1 (Faulty NoChoice) (subst (λ (k : ℕ). k < length vals) (sym (same_number (number_of graph p.0) n e)) h)))
-    go false e r = r ∙ ap (λ (v : Value). set_value n v given) (get_or-set_other vals (number_of graph p.0) n p.1 (Faulty NoChoice) (λ k. is_not_true _ e (equal_test (number_of graph p.0) n (sym k))))
+    go true e r = r ∙ ap (λ (v : Value). set_value n v given) (subst (λ (k : ℕ). value_in now k ≡ p.1) (eqb-true (number_of graph p.0) n e) (get_or-set_same vals (number_of graph p.0) p.1 (Faulty NoChoice) (subst (λ (k : ℕ). k < length vals) (sym (eqb-true (number_of graph p.0) n e)) h)))
+    go false e r = r ∙ ap (λ (v : Value). set_value n v given) (get_or-set_other vals (number_of graph p.0) n p.1 (Faulty NoChoice) (λ k. both_ways _ e (eq-eqb (number_of graph p.0) n (sym k))))
 
 -- ---- lists of numbers
 
@@ -103,11 +103,6 @@ source-selectors (Source v) e = refl
 source-selectors (Signal script inputs) e = refl
 source-selectors (Fold v script inputs) e = refl
 source-selectors (Choose selectors body inputs) e = absurd (true≢false (sym e))
-
-number-in : (k : ℕ) (nodes : List Node) (n : ℕ) → n < length nodes → is_in (k + n) (numbers_from k nodes) ≡ true
-number-in k [] n h = absurd (omega arith)
-number-in k (x ∷ xs) zero h = or_left _ _ (equal_test k (k + 0) (omega arith))
-number-in k (x ∷ xs) (suc n) h = or_right _ _ (let e : k + 1 + n ≡ k + suc n = omega arith in subst (λ (j : ℕ). is_in j (numbers_from (k + 1) xs) ≡ true) e (number-in (k + 1) xs n (omega arith)))
 
 pub number-there : (graph : Graph) (n : ℕ) → n < length graph.nodes → is_in n (numbers graph) ≡ true
 number-there graph n h = let e : 0 + n ≡ n = omega arith in subst (λ (j : ℕ). is_in j (numbers graph) ≡ true) e (number-in 0 graph.nodes n h)
@@ -211,12 +206,12 @@ module _ (graph : Graph) (g : IsGraph graph) (laws : MachineLaws graph) (s : Cor
           o.shown changed_of ∙ sym (ap (λ (x : Option _). changed_of (state_of x)) o.last) ∙ h.dones_are_right.flag t n lt d
           ∙ ap (λ (v : Value). not (same v (value_before (entries s n) t))) (reads-new n (entered n d))
           ∙ ap (λ (v : Value). not (same (new_value_of n) v)) (reads-old n l (entered n d))
-      go false d = not_true (at changed_of (entries s n) t) (λ k. is_not_true _ d (changed-done (entries s n) t k))
+      go false d = false_from_ne_true (at changed_of (entries s n) t) (λ k. both_ways _ d (changed-done (entries s n) t k))
           ∙ sym (ap not (ap (λ (v : Value). same v (value_in old_values n)) (unchanged-value n l d) ∙ same-self (value_in old_values n)))
 
   -- A node that rests on what the call has changed is Done.
   pub rests-done : (n m : ℕ) → n < length graph.nodes → changes s t m ≡ true → (is_in m (inputs_of (node_at graph n)) ≡ true) ⊎ (is_in m (nodes_in (node_picks (node_at graph n) old_values)) ≡ true) → at is_done (entries s n) t ≡ true
-  rests-done n m l c k = not_false (at is_done (entries s n) t) (λ d. is_not_true _ d (idle-done n (h.changes_spread.reaction t m n c (reacts_it d k))))
+  rests-done n m l c k = true_from_ne_false (at is_done (entries s n) t) (λ d. both_ways _ d (idle-done n (h.changes_spread.reaction t m n c (reacts_it d k))))
     where
       reacts_it : at is_done (entries s n) t ≡ false → (is_in m (inputs_of (node_at graph n)) ≡ true) ⊎ (is_in m (nodes_in (node_picks (node_at graph n) old_values)) ≡ true) → reacts graph s t m n ≡ true
       reacts_it d (inl x) = or_left _ _ (input-static graph n m l x)
@@ -251,7 +246,7 @@ module _ (graph : Graph) (g : IsGraph graph) (laws : MachineLaws graph) (s : Cor
           ∙ set-given n (Faulty NoChoice) (value_in old_values n) (call s t).sets (h.entries_are_kept.sources t n lt e (or_right (wants s t n) (framed s t n) (done-framed s t n d)))
           ∙ sym (set-is n l)
       go false d = unchanged-value n l d
-          ∙ sym (set-kept n (value_in old_values n) (call s t).sets (not_true _ (λ k. is_not_true _ d (idle-done n (h.changes_spread.set t n lt k)))))
+          ∙ sym (set-kept n (value_in old_values n) (call s t).sets (false_from_ne_true _ (λ k. both_ways _ d (idle-done n (h.changes_spread.set t n lt k)))))
           ∙ sym (set-is n l)
 
   source-no_picks : (n : ℕ) → n < length graph.nodes → is_source (node_at graph n) ≡ true → new_picks_of n ≡ []
@@ -296,7 +291,7 @@ module _ (graph : Graph) (g : IsGraph graph) (laws : MachineLaws graph) (s : Cor
       z = touched-is n l e k ∙ some
 
       due : was_due graph s t n ≡ true
-      due = and_make _ _ d z
+      due = and_from _ _ d z
 
   pub input-lower : (n m : ℕ) → n < length graph.nodes → is_in m (inputs_of (node_at graph n)) ≡ true → m < n
   input-lower n m l k = dep-earlier graph g s h t n m l (list_any-append (λ x. x == m) (inputs_of (node_at graph n)) (prior_picks s t n) ∙ or_left _ _ k)
@@ -316,7 +311,7 @@ module _ (graph : Graph) (g : IsGraph graph) (laws : MachineLaws graph) (s : Cor
   end-right n l = call-right graph g state_before set_values next_state new_value_of new_picks_of (changes s t) input-lower end-done n l
 
   pub next-log : state_after graph (after_end graph s h t a).log ≡ next_state
-  next-log = state-append graph (start graph) s.log (logged (call s t))
+  next-log = state_more graph (start graph) s.log (logged (call s t))
 
   pub end-EndedIsMachine : EndedIsMachine graph (apply graph s (steps.End t))
   end-EndedIsMachine = record {

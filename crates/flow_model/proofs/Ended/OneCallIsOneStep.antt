@@ -3,6 +3,7 @@ use Rattle.std.proofs.Common.{◌≡◌, ℕ, zero, suc, ◌<◌, Bool, true, fa
 use Rattle.std.specs.Prelude.{if◌then◌else◌}
 use Rattle.std.specs.List.{list_any}
 use Rattle.std.proofs.lemmas.List.Folds.{list_any-append}
+use Rattle.std.proofs.lemmas.Bool.{or_left, or_right, eq-eqb, cases_Bool}
 use Rattle.script_tree.specs.declared.value.Fault.{Fault}
 use Rattle.script_tree.specs.declared.value.Fault.TheVariants.{Kind}
 use Rattle.script_tree.specs.declared.value.Value.{Value}
@@ -16,11 +17,12 @@ use Rattle.signal_graph.specs.Graph.{Graph, IsGraph, node_at, is_in, is_source, 
 use Rattle.signal_graph.specs.Values.{Values, at, run, select, selected, pick_of, pick, first_pick, choose_value, node_value, values, picks_of, picks, nodes_in, taken}
 use Rattle.signal_graph.specs.Machine.{same, differs}
 use Rattle.signal_graph.specs.OnePass.{new_value}
+use Rattle.signal_graph.proofs.SameValues.{same-is}
+use Rattle.signal_graph.proofs.OnePassLaws.{source_value}
 use Rattle.flow_model.specs.Machine.State.{Found}
 use Rattle.flow_model.specs.Machine.Words.{finds, run_over, pick_over, first_pick_over, body_over, value_over, picks_of_found}
-use Rattle.flow_model.proofs.General.Truths.{or_left, or_right, equal_test, true_or_false}
 use Rattle.flow_model.proofs.Opening.OpeningLists.{picks-fit, picked-listed, candidate-earlier}
-use Rattle.flow_model.proofs.Values.FoundByReads.{same-is, same-equal, same-turned, AgreeOn, finds-same, value-same}
+use Rattle.flow_model.proofs.Values.FoundByReads.{same-equal, same-turned, AgreeOn, finds-same, value-same}
 use Rattle.flow_model.proofs.General.AnyAndAll.{any-alike, any-none}
 
 -- ---- nodes over a list of values
@@ -66,7 +68,7 @@ new-made (Choose selectors body inputs) set old before vals e k = choose-is vals
 none-differ : (before vals : Values) (ns : List ℕ) → AgreeOn ns (at vals) (at before) → list_any (differs before vals) ns ≡ false
 none-differ before vals [] e = refl
 none-differ before vals (n ∷ ns) e =
-    let a = e n (or_left _ _ (equal_test n n refl)) in
+    let a = e n (or_left _ _ (eq-eqb n n refl)) in
     let s = same-equal (at before n) (at vals n) (sym a) in
     let r = none-differ before vals ns (λ m k. e m (or_right _ _ k)) in
     ap (λ (b : Bool). not b || list_any (differs before vals) ns) s ∙ r
@@ -78,12 +80,6 @@ new-kept (Source v) set old kept before vals e q a w = absurd (true≢false e)
 new-kept (Signal script inputs) set old kept before vals e q a w = w ∙ sym q
 new-kept (Fold v script inputs) set old kept before vals e q a w = ap (λ (b : Bool). if b then run script inputs vals old else old) (none-differ before vals inputs a)
 new-kept (Choose selectors body inputs) set old kept before vals e q a w = choose-is vals selectors body ∙ w ∙ sym (choose-is before selectors body) ∙ sym q
-
-source-new : (node : Node) (set old : Value) (before vals : Values) → is_source node ≡ true → new_value node set old before vals ≡ set
-source-new (Source v) set old before vals e = refl
-source-new (Signal script inputs) set old before vals e = absurd (true≢false (sym e))
-source-new (Fold v script inputs) set old before vals e = absurd (true≢false (sym e))
-source-new (Choose selectors body inputs) set old before vals e = absurd (true≢false (sym e))
 
 pub source-picks : (node : Node) (vals : Values) → is_source node ≡ true → picks_of node vals ≡ []
 source-picks (Source v) vals e = refl
@@ -228,10 +224,10 @@ module _ (graph : Graph) (g : IsGraph graph) (kept set next : Values) (new : ℕ
     where
       go : (b : Bool) → is_source (node_at graph n) ≡ b → IsRight n
       go true e = (
-        d.source n h e ∙ sym (source-new (node_at graph n) (at set n) (at before_call n) before_call after_call e) ∙ sym (d.after_is n h),
+        d.source n h e ∙ sym (source_value (node_at graph n) (at set n) (at before_call n) before_call after_call e) ∙ sym (d.after_is n h),
         d.no_picks n h e ∙ sym (source-picks (node_at graph n) after_call e),
       )
-      go false e = two (true_or_false (list_any changed (inputs_of (node_at graph n) ++ nodes_in (picks_of (node_at graph n) before_call))))
+      go false e = two (cases_Bool (list_any changed (inputs_of (node_at graph n) ++ nodes_in (picks_of (node_at graph n) before_call))))
         where
           two : (list_any changed (inputs_of (node_at graph n) ++ nodes_in (picks_of (node_at graph n) before_call)) ≡ true) ⊎ (list_any changed (inputs_of (node_at graph n) ++ nodes_in (picks_of (node_at graph n) before_call)) ≡ false) → IsRight n
           two (inl x) = made-right n h right e x

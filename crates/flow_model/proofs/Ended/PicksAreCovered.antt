@@ -4,6 +4,7 @@ use Rattle.std.specs.Prelude.{is_some}
 use Rattle.std.specs.List.{list_any}
 use Rattle.std.specs.Option.{option_or}
 use Rattle.std.proofs.lemmas.Bool.Decides.{eqb_tells}
+use Rattle.std.proofs.lemmas.Bool.{or_left, or_right, and_from, eqb-true, eq-eqb, false_from_ne_true, both_ways}
 use Rattle.std.proofs.lemmas.List.Folds.{list_any-append}
 use Rattle.signal_graph.specs.Graph.{Graph, is_in}
 use Rattle.signal_graph.specs.Values.{nodes_in}
@@ -11,14 +12,13 @@ use Rattle.node_versions.specs.declared.entry.State.{State}
 use Rattle.node_versions.specs.declared.entry.State.TheVariants.{Mark, Frame, Done}
 use Rattle.node_versions.specs.declared.entry.Entry.{Entry}
 use Rattle.node_versions.specs.Entries.{OutEdge, IsUnique, has, at, is_done, behind, before, up_to, first_open, is_active, has_node, last_done, only_done, picks_of, picks_at, picks_before}
-use Rattle.node_versions.proofs.Lists.{last_done-append}
+use Rattle.node_versions.proofs.Lists.{last_done-append, has-append}
+use Rattle.node_versions.proofs.Places.{at-has}
 use Rattle.flow_model.specs.Machine.State.{Core, live, entries, outs}
 use Rattle.flow_model.specs.Machine.Words.{heads}
 use Rattle.flow_model.specs.Kept.Runs.{Run, Reading, go_on, close, read_done, read_state, read_all, nothing_read, last_run, discovered, runs, covers, reacts, is_from, is_until, settles}
 use Rattle.flow_model.specs.Kept.Lawful.{IsLawful, picks_last}
-use Rattle.flow_model.proofs.General.Truths.{or_left, or_right, and_make, same_number, equal_test, not_true, is_not_true}
-use Rattle.flow_model.proofs.OneList.InOrder.{has-append}
-use Rattle.flow_model.proofs.OneList.StatesAndPlaces.{at-has, at-append}
+use Rattle.flow_model.proofs.OneList.StatesAndPlaces.{at-append}
 use Rattle.flow_model.proofs.Reactions.WhereRunsBegin.{picked_in, or-or, seen-all, BeginsRun, run-begins}
 use Rattle.flow_model.proofs.Reactions.WhoReacts.{dropper_in, runs_in, any-parts, parts-covers, read_all-append}
 use Rattle.flow_model.proofs.FramesSpread.AfterDiscover.{head-prior}
@@ -41,7 +41,7 @@ leaves-more m e es o v u p = record {
 }
   where
     other : (e.version == v) ≡ false
-    other = not_true _ (λ x. is_not_true _ u (subst (λ (w : ℕ). has es w ≡ true) (sym (same_number e.version v x)) (at-has is_done es v p.done)))
+    other = false_from_ne_true _ (λ x. both_ways _ u (subst (λ (w : ℕ). has es w ≡ true) (sym (eqb-true e.version v x)) (at-has is_done es v p.done)))
 
 closed-more : (test : Run → Bool) (m : ℕ) (es : List Entry) (q : Reading) → list_any test q.closed ≡ true → list_any test (read_all m es q).closed ≡ true
 closed-more test m [] q h = h
@@ -73,7 +73,7 @@ goes-on test m (e ∷ es) o q r u g p leaves = go e.state refl (λ w a. goes-on 
     more w k v l = leaves v (leaves-more m e es o v u.0 (subst (λ (x : Option Entry). LeavesAt m es x v) (sym k) l))
 
     same : (e.version == e.version) ≡ true
-    same = equal_test e.version e.version refl
+    same = eq-eqb e.version e.version refl
 
     go : (x : State) → e.state ≡ x → Further → Result (read_state m e.version x q)
     go Mark x further = further o q g p (more o (rw (x, only_done) refl))
@@ -133,7 +133,7 @@ unique-right (x ∷ xs) ys u = unique-right xs ys u.1
 
 unique-left : (xs ys : List Entry) → IsUnique (xs ++ ys) → IsUnique xs
 unique-left [] ys u = tt
-unique-left (x ∷ xs) ys u = (not_true _ (λ k. is_not_true _ u.0 (has-append xs ys x.version ∙ or_left _ _ k)), unique-left xs ys u.1)
+unique-left (x ∷ xs) ys u = (false_from_ne_true _ (λ k. both_ways _ u.0 (has-append xs ys x.version ∙ or_left _ _ k)), unique-left xs ys u.1)
 
 unique-apart : (xs ys : List Entry) (v : ℕ) → IsUnique (xs ++ ys) → has ys v ≡ true → has xs v ≡ false
 unique-apart [] ys v u h = refl
@@ -214,7 +214,7 @@ picks-react graph s h v m n xs ys joined picked entry from until = or_right _ _ 
               where
                 head : (o : Option ℕ) → first_open (entries s n) ≡ o → is_until s m o v ≡ true
                 head None y = refl
-                head (Some z) y = until z (inr hd) (or_left _ _ (or_right _ _ (and_make _ _ (head-prior graph s h z n m hd ∙ last) (or_right _ _ (and_make _ _ hd (ap not x))))))
+                head (Some z) y = until z (inr hd) (or_left _ _ (or_right _ _ (and_from _ _ (head-prior graph s h z n m hd ∙ last) (or_right _ _ (and_from _ _ hd (ap not x))))))
                   where
                     hd : heads s z n ≡ true
-                    hd = rw y (equal_test z z refl)
+                    hd = rw y (eq-eqb z z refl)

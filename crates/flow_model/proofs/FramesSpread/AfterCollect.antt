@@ -4,22 +4,24 @@ use Rattle.std.specs.Prelude.{is_some, filter}
 use Rattle.std.specs.List.{list_any, cons_option}
 use Rattle.std.specs.Option.{option_or}
 use Rattle.std.proofs.lemmas.List.Folds.{list_any-append}
+use Rattle.std.proofs.lemmas.Bool.{or_cases, or_left, or_right, eqb-true, eq-eqb, false_from_ne_true, both_ways, cases_Bool, true_from_ne_false}
 use Rattle.signal_graph.specs.Graph.{Graph, is_in}
 use Rattle.signal_graph.specs.Values.{nodes_in}
 use Rattle.node_versions.specs.declared.entry.State.{State}
 use Rattle.node_versions.specs.declared.entry.State.TheVariants.{Mark, Frame, Done}
 use Rattle.node_versions.specs.declared.entry.Entry.{Entry}
 use Rattle.node_versions.specs.Entries.{OutEdge, IsUnique, has, at, is_frame, is_done, behind, up_to, first_open, is_active, has_node, last_done, only_done, picks_of, collected}
+use Rattle.node_versions.proofs.Collecting.{last_is_done}
+use Rattle.node_versions.proofs.Places.{at-has}
 use Rattle.flow_model.specs.declared.step.Step.TheVariants as steps
 use Rattle.flow_model.specs.Machine.State.{Core, Cell, cell, live, entries, outs, opens, with_cell}
 use Rattle.flow_model.specs.Machine.Steps.{allowed, apply, collect}
 use Rattle.flow_model.specs.Kept.Runs.{Run, Reading, go_on, begin_at, close, read_done, read_state, read_all, nothing_read, last_run, discovered, runs, covers, reacts}
 use Rattle.flow_model.specs.Kept.Lawful.{IsLawful, FramesSpread}
-use Rattle.flow_model.proofs.General.Truths.{or_cases, or_left, or_right, same_number, equal_test, not_true, not_false, is_not_true, true_or_false}
 use Rattle.flow_model.proofs.OneStep.WhoMayStep.{opens-live}
 use Rattle.flow_model.proofs.OneList.InOrder.{on_calls, filter-has, last_done-has}
-use Rattle.flow_model.proofs.OneList.StatesAndPlaces.{at-has, behind-has}
-use Rattle.flow_model.proofs.OneList.OneEntryACall.{filter-unique, filter-behind, last_done-at, last_done-done, collected-unique, collected-behind_live}
+use Rattle.flow_model.proofs.OneList.StatesAndPlaces.{behind-has}
+use Rattle.flow_model.proofs.OneList.OneEntryACall.{filter-unique, filter-behind, last_done-at, collected-unique, collected-behind_live}
 use Rattle.flow_model.proofs.OneList.Entering.{with_cell-cell}
 use Rattle.flow_model.proofs.OrderStays.OpenNodesHaveFrames.{step-FramesAreOpen}
 use Rattle.flow_model.proofs.Wants.FramedWith.{opens-frame, not_up_to-behind}
@@ -36,32 +38,32 @@ split p [] u h = refl
 split p (e ∷ es) u h = go (p e.version) refl (split p es u.1 (λ x y b k. later x y b k))
   where
     behind-first : (v : ℕ) → has es v ≡ true → behind (e ∷ es) e.version v ≡ true
-    behind-first v k = let w = equal_test e.version e.version refl in rw (w, behind) k
+    behind-first v k = let w = eq-eqb e.version e.version refl in rw (w, behind) k
 
     later : (x y : ℕ) → behind es x y ≡ true → p y ≡ true → p x ≡ true
     later x y b k =
-        let ne : (e.version == x) ≡ false = not_true _ (λ z. is_not_true _ u.0 (subst (λ (w : ℕ). has es w ≡ true) (sym (same_number e.version x z)) (behind-has es x y b).0)) in
+        let ne : (e.version == x) ≡ false = false_from_ne_true _ (λ z. both_ways _ u.0 (subst (λ (w : ℕ). has es w ≡ true) (sym (eqb-true e.version x z)) (behind-has es x y b).0)) in
         h x y (rw (ne, behind) b) k
 
     none : (xs : List Entry) → ((v : ℕ) → has xs v ≡ true → p v ≡ false) → filter (on_calls p) xs ++ filter (on_calls (λ v. not (p v))) xs ≡ xs
     none [] k = refl
     none (x ∷ xs) k =
-        let a = k x.version (let w = equal_test x.version x.version refl in rw (w, has) refl) in
+        let a = k x.version (let w = eq-eqb x.version x.version refl in rw (w, has) refl) in
         let r = none xs (λ v j. k v (or_right _ _ j)) in
         let f = empty xs (λ v j. k v (or_right _ _ j)) in
         grind (arith, a, r, f)
       where
         empty : (xs : List Entry) → ((v : ℕ) → has xs v ≡ true → p v ≡ false) → filter (on_calls p) xs ≡ []
         empty [] k = refl
-        empty (x ∷ xs) k = let a = k x.version (let w = equal_test x.version x.version refl in rw (w, has) refl) in let r = empty xs (λ v j. k v (or_right _ _ j)) in grind (arith, a, r)
+        empty (x ∷ xs) k = let a = k x.version (let w = eq-eqb x.version x.version refl in rw (w, has) refl) in let r = empty xs (λ v j. k v (or_right _ _ j)) in grind (arith, a, r)
 
     go : (b : Bool) → p e.version ≡ b → filter (on_calls p) es ++ filter (on_calls (λ v. not (p v))) es ≡ es → filter (on_calls p) (e ∷ es) ++ filter (on_calls (λ v. not (p v))) (e ∷ es) ≡ e ∷ es
     go true x r = grind (arith, x, r)
-    go false x r = none (e ∷ es) (λ v k. not_true _ (λ y. cases v k y (or_cases _ _ k)))
+    go false x r = none (e ∷ es) (λ v k. false_from_ne_true _ (λ y. cases v k y (or_cases _ _ k)))
       where
         cases : (v : ℕ) → has (e ∷ es) v ≡ true → p v ≡ true → ((e.version == v) ≡ true) ⊎ (has es v ≡ true) → ⊥
-        cases v k y (inl z) = is_not_true _ x (subst (λ (w : ℕ). p w ≡ true) (sym (same_number e.version v z)) y)
-        cases v k y (inr z) = is_not_true _ x (h e.version v (behind-first v z) y)
+        cases v k y (inl z) = both_ways _ x (subst (λ (w : ℕ). p w ≡ true) (sym (eqb-true e.version v z)) y)
+        cases v k y (inr z) = both_ways _ x (h e.version v (behind-first v z) y)
 
 -- Frames that pass the test are found in the part that passes.
 filter-first_open : (p : ℕ → Bool) (es : List Entry) → IsUnique es → ((u : ℕ) → at is_frame es u ≡ true → p u ≡ true) → first_open (filter (on_calls p) es) ≡ first_open es
@@ -69,16 +71,16 @@ filter-first_open p [] u h = refl
 filter-first_open p (e ∷ es) u h = go (is_frame e.state) refl (p e.version) refl (filter-first_open p es u.1 (λ x k. later x k))
   where
     same : (e.version == e.version) ≡ true
-    same = equal_test e.version e.version refl
+    same = eq-eqb e.version e.version refl
 
     later : (x : ℕ) → at is_frame es x ≡ true → p x ≡ true
     later x k =
-        let ne : (e.version == x) ≡ false = not_true _ (λ z. is_not_true _ u.0 (subst (λ (w : ℕ). has es w ≡ true) (sym (same_number e.version x z)) (at-has is_frame es x k))) in
+        let ne : (e.version == x) ≡ false = false_from_ne_true _ (λ z. both_ways _ u.0 (subst (λ (w : ℕ). has es w ≡ true) (sym (eqb-true e.version x z)) (at-has is_frame es x k))) in
         h x (rw (ne, at) k)
 
     go : (f : Bool) → is_frame e.state ≡ f → (b : Bool) → p e.version ≡ b → first_open (filter (on_calls p) es) ≡ first_open es → first_open (filter (on_calls p) (e ∷ es)) ≡ first_open (e ∷ es)
     go true x true y r = grind (arith, x, y)
-    go true x false y r = absurd (is_not_true _ y (h e.version (rw (same, at) x)))
+    go true x false y r = absurd (both_ways _ y (h e.version (rw (same, at) x)))
     go false x true y r = grind (arith, x, y, r)
     go false x false y r = grind (arith, x, y, r)
 
@@ -132,7 +134,7 @@ open-run m [] q P h k r e b j = k r e b j
 open-run m (e ∷ es) q P h k r0 y0 b0 j0 = open-run m es (read_state m e.version e.state q) P (λ v x. h v (or_right _ _ x)) (go e.state) r0 y0 b0 j0
   where
     here : P e.version
-    here = h e.version (or_left _ _ (equal_test e.version e.version refl))
+    here = h e.version (or_left _ _ (eq-eqb e.version e.version refl))
 
     go : (x : State) → (r : Run) → (read_state m e.version x q).current ≡ Some r → (b : ℕ) → r.begins ≡ Some b → P b
     go Mark r y b j = k r y b j
@@ -212,7 +214,7 @@ collected-alike test p earlier m es u h = subst (λ (q : Reading). Alike test q 
     done x e Mark k d = absurd (true≢false (sym d))
     done x e Frame k d = absurd (true≢false (sym d))
     done x e (Done v c ps) k d = record {
-      fresh = done-not_fresh m xs nothing_read x.version (last_done-at is_done xs x unique e ∙ last_done-done xs x e);
+      fresh = done-not_fresh m xs nothing_read x.version (last_done-at is_done xs x unique e ∙ last_is_done xs x e);
       current = current (is_in m (nodes_in ps)) refl (read_all m xs nothing_read).current refl;
       closed = closed (is_in m (nodes_in ps));
     }
@@ -232,7 +234,7 @@ collected-alike test p earlier m es u h = subst (λ (q : Reading). Alike test q 
 
     go : (o : Option Entry) → last_done xs ≡ o → Alike test (read_all m ys (read_all m xs nothing_read)) (read_all m (cons_option o ys) nothing_read)
     go None e = subst (λ (q : Reading). Alike test (read_all m ys q) (read_all m ys nothing_read)) (sym (no_dones-read m xs nothing_read unique (λ v _. no_last-none xs v e))) (same (read_all m ys nothing_read))
-    go (Some x) e = read-alike test m ys (read_all m xs nothing_read) (read_state m x.version x.state nothing_read) (done x e x.state refl (last_done-done xs x e))
+    go (Some x) e = read-alike test m ys (read_all m xs nothing_read) (read_state m x.version x.state nothing_read) (done x e x.state refl (last_is_done xs x e))
 
 pub collected-first_open : (p : ℕ → Bool) (es : List Entry) → IsUnique es → ((u : ℕ) → at is_frame es u ≡ true → p u ≡ false) → first_open (collected (on_calls p) es) ≡ first_open es
 collected-first_open p es u h = go (last_done (filter (on_calls p) es)) refl
@@ -247,7 +249,7 @@ collected-first_open p es u h = go (last_done (filter (on_calls p) es)) refl
 
     go : (o : Option Entry) → last_done (filter (on_calls p) es) ≡ o → first_open (cons_option o (filter (on_calls (λ v. not (p v))) es)) ≡ first_open es
     go None e = live_part
-    go (Some x) e = let f = not_frame x.state (last_done-done (filter (on_calls p) es) x e) in rw (f, first_open) live_part
+    go (Some x) e = let f = not_frame x.state (last_is_done (filter (on_calls p) es) x e) in rw (f, first_open) live_part
 
 pub collected-any : (test : Run → Bool) (p : ℕ → Bool) → Earlier test p → (es : List Entry) (os : List OutEdge) (n m : ℕ) → IsUnique es → ((u v : ℕ) → behind es u v ≡ true → p v ≡ true → p u ≡ true) → ((u : ℕ) → at is_frame es u ≡ true → p u ≡ false)
     → list_any test (runs_in (collected (on_calls p) es) os n m) ≡ true → list_any test (runs_in es os n m) ≡ true
@@ -287,10 +289,10 @@ collected-any test p earlier es os n m u h f k = any-parts test es os n m ∙ pa
 
 pub behind-not_up : (es : List Entry) (u b : ℕ) → IsUnique es → behind es u b ≡ true → (has es b ≡ true) × (has (up_to es u) b ≡ false)
 behind-not_up [] u b q h = absurd (true≢false (sym h))
-behind-not_up (e ∷ es) u b q h = go (true_or_false (e.version == u)) (behind-not_up es u b q.1)
+behind-not_up (e ∷ es) u b q h = go (cases_Bool (e.version == u)) (behind-not_up es u b q.1)
   where
     other : has es b ≡ true → (e.version == b) ≡ false
-    other k = not_true _ (λ x. is_not_true _ q.0 (subst (λ (w : ℕ). has es w ≡ true) (sym (same_number e.version b x)) k))
+    other k = false_from_ne_true _ (λ x. both_ways _ q.0 (subst (λ (w : ℕ). has es w ≡ true) (sym (eqb-true e.version b x)) k))
 
     go : ((e.version == u) ≡ true) ⊎ ((e.version == u) ≡ false) → (behind es u b ≡ true → (has es b ≡ true) × (has (up_to es u) b ≡ false)) → (has (e ∷ es) b ≡ true) × (has (up_to (e ∷ es) u) b ≡ false)
     go (inl w) further = let k : has es b ≡ true = rw (w, behind) at h in let ne = other k in (or_right _ _ k, rw (w, up_to) (rw (ne, has) refl))
@@ -306,12 +308,12 @@ collected-behind p es u b h k j = go (last_done (filter (on_calls p) es)) refl
     go None e = shown
     go (Some x) e =
         let hx = (filter-has p es x.version (last_done-has (filter (on_calls p) es) x e)).1 in
-        let ne : (x.version == u) ≡ false = not_true _ (λ w. is_not_true _ h (subst (λ (v : ℕ). p v ≡ true) (same_number x.version u w) hx)) in
+        let ne : (x.version == u) ≡ false = false_from_ne_true _ (λ w. both_ways _ h (subst (λ (v : ℕ). p v ≡ true) (eqb-true x.version u w) hx)) in
         rw (ne, behind) shown
 
 -- An ended call's edge is active for each live call.
 pub ended-active : (graph : Graph) (s : Core) → IsLawful graph s → (m u b : ℕ) → live s u ≡ true → has (entries s m) u ≡ true → live s b ≡ false → is_active (entries s m) b u ≡ true
-ended-active graph s h m u b lu hu d = not_false _ (λ e. is_not_true _ (h.ended_is_prefix.prefix m u b (not_up_to-behind (entries s m) u b hu e) d) lu)
+ended-active graph s h m u b lu hu d = true_from_ne_false _ (λ e. both_ways _ (h.ended_is_prefix.prefix m u b (not_up_to-behind (entries s m) u b hu e) d) lu)
 
 collected-covers : (graph : Graph) (s : Core) → IsLawful graph s → (n0 m u : ℕ) (r : Run) → opens s u m ≡ true → covers (with_cell s n0 (collect s)) m u r ≡ true → covers s m u r ≡ true
 collected-covers graph s h n0 m u r o k = go (with_cell-cell s n0 (collect s) m)
@@ -335,18 +337,18 @@ collected-covers graph s h n0 m u r o k = go (with_cell-cell s n0 (collect s) m)
     pu = ap not lu
 
     active : (b : ℕ) → is_active (collected (on_calls p) es) b u ≡ true → is_active es b u ≡ true
-    active b a = cases (true_or_false (live s b))
+    active b a = cases (cases_Bool (live s b))
       where
         cases : (live s b ≡ true) ⊎ (live s b ≡ false) → is_active es b u ≡ true
         cases (inr d) = ended-active graph s h m u b lu hu d
-        cases (inl l) = not_false _ (λ e.
+        cases (inl l) = true_from_ne_false _ (λ e.
             let c = behind-not_up (collected (on_calls p) es) u b (collected-unique p es (h.one_entry m)) (collected-behind p es u b pu (ap not l) (not_up_to-behind es u b hu e)) in
             neither_way (has (collected (on_calls p) es) b) (has (up_to (collected (on_calls p) es) u) b) c.0 c.1 a)
           where
             neither_way : (x y : Bool) → x ≡ true → y ≡ false → (not x || y) ≡ true → ⊥
-            neither_way true true a b c = is_not_true _ b refl
+            neither_way true true a b c = both_ways _ b refl
             neither_way true false a b c = true≢false (sym c)
-            neither_way false y a b c = is_not_true _ (sym a) refl
+            neither_way false y a b c = both_ways _ (sym a) refl
 
     moved : entries q m ≡ collected (on_calls p) es → covers s m u r ≡ true
     moved g =
@@ -390,7 +392,7 @@ collected-reacts graph s h n0 u m n o k = reacts-back graph s q u m n (λ a. go 
         turned false k = refl
 
     no_frame : (x : ℕ) → at is_frame (entries s n) x ≡ true → p x ≡ false
-    no_frame x f = ap not (not_false (live s x) (λ d. is_not_true _ (h.ended_is_prefix.no_frame n x d) f))
+    no_frame x f = ap not (true_from_ne_false (live s x) (λ d. both_ways _ (h.ended_is_prefix.no_frame n x d) f))
 
     go : (cell q n ≡ cell s n) ⊎ ((n ≡ n0) × (cell q n ≡ collect s (cell s n))) → list_any (covers s m u) (runs q n m) ≡ true → list_any (covers s m u) (runs s n m) ≡ true
     go (inl e) a = subst (λ (rs : List Run). list_any (covers s m u) rs ≡ true) (same-runs s q n m (ap (λ (x : Cell). x.entries) e) edges) a

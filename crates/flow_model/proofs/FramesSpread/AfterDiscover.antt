@@ -3,10 +3,13 @@ use Rattle.std.proofs.Common.{◌≡◌, ℕ, Bool, true, false, ◌&&◌, ◌||
 use Rattle.std.specs.Prelude.{slice_get, is_some}
 use Rattle.std.specs.List.{list_any}
 use Rattle.std.proofs.lemmas.Bool.Decides.{eqb_tells}
+use Rattle.std.proofs.lemmas.Bool.{or_cases, or_left, or_right, eqb-true, eq-eqb, false_from_ne_true, both_ways, cases_Bool, not-true}
+use Rattle.script_tree.proofs.Truths.{and_left, and_right}
 use Rattle.signal_graph.specs.Graph.{Graph, is_in, static_outs}
 use Rattle.node_versions.specs.declared.entry.State.TheVariants.{Mark}
 use Rattle.node_versions.specs.declared.entry.Entry.{Entry}
 use Rattle.node_versions.specs.Entries.{OutEdge, has, at, is_frame, behind, up_to, first_open, has_out, has_node, with_out}
+use Rattle.node_versions.proofs.Places.{at-has}
 use Rattle.flow_model.specs.declared.step.Step.TheVariants as steps
 use Rattle.flow_model.specs.Machine.State.{Core, LiveCall, Cell, call_of, call_or, cell, live, entries, outs, opens, wants, with_cell}
 use Rattle.flow_model.specs.Machine.Words.{heads, is_prior}
@@ -14,9 +17,7 @@ use Rattle.flow_model.specs.Machine.Changes.{place_entry, enter, ensure_mark, ad
 use Rattle.flow_model.specs.Machine.Steps.{allowed, apply}
 use Rattle.flow_model.specs.Kept.Runs.{Run, Reading, read_all, nothing_read, last_run, discovered, runs, covers, reacts}
 use Rattle.flow_model.specs.Kept.Lawful.{IsLawful, FramesSpread, picks_last, last_run_of}
-use Rattle.flow_model.proofs.General.Truths.{or_cases, or_left, or_right, same_number, equal_test, not_true, is_not_true, true_or_false}
-use Rattle.flow_model.proofs.OneStep.WhoMayStep.{and_left, and_right, not_is, opens-live, at_front-heads, can_work-at_front, due-can_work, discover-due}
-use Rattle.flow_model.proofs.OneList.StatesAndPlaces.{at-has}
+use Rattle.flow_model.proofs.OneStep.WhoMayStep.{opens-live, at_front-heads, can_work-at_front, due-can_work, discover-due}
 use Rattle.flow_model.proofs.OneList.OneEntryACall.{placed-has}
 use Rattle.flow_model.proofs.OneList.CallsAndCells.{map_call-live, map_call-keeps, map_call-reads, option_call}
 use Rattle.flow_model.proofs.OneList.Entering.{with_cell-cell}
@@ -45,7 +46,7 @@ not_picked-none s n m k = go (last_run_of s n m) refl
   where
     go : (o : Option Run) → last_run_of s n m ≡ o → last_run_of s n m ≡ None
     go None e = e
-    go (Some r) e = absurd (is_not_true _ k (sym (seen-all m (entries s n)) ∙ ap is_some e))
+    go (Some r) e = absurd (both_ways _ k (sym (seen-all m (entries s n)) ∙ ap is_some e))
 
 -- ---- one out-edge more
 
@@ -115,19 +116,19 @@ ensured-covers graph s h t c u m n o i r e k = go (has (entries s c) t) refl k
     entered : has (entries s c) t ≡ false → covers (enter s t c Mark) m u r ≡ true → ((t == u) ≡ true) ⊎ ((t == u) ≡ false) → covers s m u r ≡ true
     entered fresh x (inr ne) = marked-covers graph s h t c u m n fresh ne i r e x
     entered fresh x (inl y) =
-        let apart : (m == c) ≡ false = not_true _ (λ z. is_not_true _ fresh (subst (λ (w : ℕ). has (entries s w) t ≡ true) (same_number m c z) (subst (λ (v : ℕ). has (entries s m) v ≡ true) (sym (same_number t u y)) (at-has is_frame (entries s m) u (opens-frame graph s h u m o))))) in
+        let apart : (m == c) ≡ false = false_from_ne_true _ (λ z. both_ways _ fresh (subst (λ (w : ℕ). has (entries s w) t ≡ true) (eqb-true m c z) (subst (λ (v : ℕ). has (entries s m) v ≡ true) (sym (eqb-true t u y)) (at-has is_frame (entries s m) u (opens-frame graph s h u m o))))) in
         same_lists-covers s (enter s t c Mark) m u (ap (λ (w : Cell). w.entries) (cell-other s c m (place_entry s t Mark) apart)) (λ z j l. l) r x
 
     go : (b : Bool) → has (entries s c) t ≡ b → covers (elim b as (λ _. Core) [ true ↦ s | false ↦ enter s t c Mark ]) m u r ≡ true → covers s m u r ≡ true
     go true x y = y
-    go false x y = entered x y (true_or_false (t == u))
+    go false x y = entered x y (cases_Bool (t == u))
 
 pub ensured-has : (s : Core) (t c u : ℕ) → has (entries s c) u ≡ true → has (entries (ensure_mark s t c) c) t ≡ true
 ensured-has s t c u k = go (has (entries s c) t) refl
   where
     go : (b : Bool) → has (entries s c) t ≡ b → has (entries (elim b as (λ _. Core) [ true ↦ s | false ↦ enter s t c Mark ]) c) t ≡ true
     go true e = e
-    go false e = ap (λ (x : Cell). has x.entries t) (cell-there s c (place_entry s t Mark) (entry-there s c u k)) ∙ placed-has (stops_call s t) (new_entry s t Mark) (entries s c) t ∙ or_left _ _ (equal_test t t refl)
+    go false e = ap (λ (x : Cell). has x.entries t) (cell-there s c (place_entry s t Mark) (entry-there s c u k)) ∙ placed-has (stops_call s t) (new_entry s t Mark) (entries s c) t ∙ or_left _ _ (eq-eqb t t refl)
 
 -- ---- telling
 
@@ -151,7 +152,7 @@ tell-tells s c t n u l b f = ap (λ (x : Bool). opens s u n || x) (ap (λ (o : O
         let b2 = subst (λ (w : ℕ). behind (entries s c) t w ≡ true) (sym v) b in
         let f2 = subst (λ (w : ℕ). at hands_on (entries s c) w ≡ true) (sym v) (frame-hands_on (entries s c) u f) in
         let w = told-wants (is_told (entries s c) t n x) n n x.wanted in
-        let e = equal_test n n refl in
+        let e = eq-eqb n n refl in
         join (is_in n x.open_nodes) (is_in n x.wanted) (behind (entries s c) t x.version) (at hands_on (entries s c) x.version) (n == n) _ b2 f2 e w
       where
         join : (o w b f e r : Bool) → b ≡ true → f ≡ true → e ≡ true → r ≡ (w || (e && (b && f && not o))) → (o || r) ≡ true
@@ -189,18 +190,18 @@ discovered-reacts graph s h t n0 c hd not_prior u m n o k = either (or_cases _ _
     back a = or_right _ _ (any-map (covers q m u) (covers s m u) (runs s n m) (λ i r e x. ensured-covers graph s h t c u m n o i r e (same_lists-covers p q m u (same_cell graph p c (add_edge n0 t) (λ y. refl) m) (λ z j l. l) r x)) a)
 
     edge : m ≡ c → outs q m ≡ with_out (outs s m) n0 t → list_any (covers q m u) (runs_in (entries s n) (outs q m) n m) ≡ true → (reacts graph s u m n ≡ true) ⊎ NewRun q t c n0 u m n
-    edge j g a = cases (true_or_false (n == n0)) (subst (λ (os : List OutEdge). list_any (covers q m u) (runs_in (entries s n) os n m) ≡ true) g a)
+    edge j g a = cases (cases_Bool (n == n0)) (subst (λ (os : List OutEdge). list_any (covers q m u) (runs_in (entries s n) os n m) ≡ true) g a)
       where
         none : n ≡ n0 → last_run_of s n m ≡ None
         none x = not_picked-none s n m (subst (λ (w : ℕ). picks_last s w m ≡ false) (sym x) (subst (λ (w : ℕ). picks_last s n0 w ≡ false) (sym j) (sym (head-prior graph s h t n0 c hd) ∙ not_prior)))
 
         cases : ((n == n0) ≡ true) ⊎ ((n == n0) ≡ false) → list_any (covers q m u) (runs_in (entries s n) (with_out (outs s m) n0 t) n m) ≡ true → (reacts graph s u m n ≡ true) ⊎ NewRun q t c n0 u m n
         cases (inr x) y = inl (back (subst (λ (rs : List Run). list_any (covers q m u) rs ≡ true) (same-edges (entries s n) (outs s m) (with_out (outs s m) n0 t) n m (added-node n0 n t (outs s m) x) (λ z. added-out n0 n t z (outs s m) x)) y))
-        cases (inl x) y = two (added-any (covers q m u) (entries s n) (outs s m) n0 n m t x (subst (λ (w : ℕ). first_open (entries s w) ≡ Some t) (sym (same_number n n0 x)) (head-first (entries s n0) t hd)) (none (same_number n n0 x)) y)
+        cases (inl x) y = two (added-any (covers q m u) (entries s n) (outs s m) n0 n m t x (subst (λ (w : ℕ). first_open (entries s w) ≡ Some t) (sym (eqb-true n n0 x)) (head-first (entries s n0) t hd)) (none (eqb-true n n0 x)) y)
           where
             two : (list_any (covers q m u) (runs_in (entries s n) (outs s m) n m) ≡ true) ⊎ (covers q m u (new_run t) ≡ true) → (reacts graph s u m n ≡ true) ⊎ NewRun q t c n0 u m n
             two (inl z) = inl (back z)
-            two (inr z) = inr (same_number n n0 x, j, z)
+            two (inr z) = inr (eqb-true n n0 x, j, z)
 
     by_run : (cell q m ≡ cell p m) ⊎ ((m ≡ c) × (cell q m ≡ add_edge n0 t (cell p m))) → list_any (covers q m u) (runs_in (entries s n) (outs q m) n m) ≡ true → (reacts graph s u m n ≡ true) ⊎ NewRun q t c n0 u m n
     by_run (inl e) a = inl (back (subst (λ (os : List OutEdge). list_any (covers q m u) (runs_in (entries s n) os n m) ≡ true) (ap (λ (x : Cell). x.outs) e ∙ ensured-edges s t c m) a))
@@ -211,7 +212,7 @@ discovered-reacts graph s h t n0 c hd not_prior u m n o k = either (or_cases _ _
     either (inr a) = by_run (with_cell-cell p c (add_edge n0 t) m) (subst (λ (rs : List Run). list_any (covers q m u) rs ≡ true) (discovered-runs s t c n0 n m) a)
 
 pub discover-not_prior : (graph : Graph) (s : Core) (t n c : ℕ) → allowed graph s (steps.Discover t n c) ≡ true → is_prior s t n c ≡ false
-discover-not_prior graph s t n c a = not_is _ (and_right _ _ (and_left _ _ (and_left _ _ a)))
+discover-not_prior graph s t n c a = not-true _ (and_right _ _ (and_left _ _ (and_left _ _ a)))
 
 pub discovered-spread : (graph : Graph) (s : Core) (t n0 c : ℕ) → IsLawful graph s → allowed graph s (steps.Discover t n0 c) ≡ true → FramesSpread graph (apply graph s (steps.Discover t n0 c))
 discovered-spread graph s t n0 c h a u m n k r = go (discovered-reacts graph s h t n0 c head not_prior u m n o (tell-reacts r))
@@ -253,7 +254,7 @@ discovered-spread graph s t n0 c h a u m n k r = go (discovered-reacts graph s h
 
     -- the run that the edge begins covers the call: the call is the discoverer, or stands behind it and is told
     told : m ≡ c → covers q m u (new_run t) ≡ true → (opens after u n0 || wants after u n0) ≡ true
-    told j x = cases (true_or_false (u == t))
+    told j x = cases (cases_Bool (u == t))
       where
         parts : Covers q c u (new_run t)
         parts = covers-parts q c u (new_run t) (subst (λ (w : ℕ). covers q w u (new_run t) ≡ true) j x)
@@ -274,7 +275,7 @@ discovered-spread graph s t n0 c h a u m n k r = go (discovered-reacts graph s h
             take a b x y = grind (arith, x, y)
 
         cases : ((u == t) ≡ true) ⊎ ((u == t) ≡ false) → (opens after u n0 || wants after u n0) ≡ true
-        cases (inl y) = or_left _ _ (opens-same n0 ∙ opens-mid n0 ∙ subst (λ (v : ℕ). opens s v n0 ≡ true) (sym (same_number u t y)) (heads-opens graph s h t n0 head))
+        cases (inl y) = or_left _ _ (opens-same n0 ∙ opens-mid n0 ∙ subst (λ (v : ℕ). opens s v n0 ≡ true) (sym (eqb-true u t y)) (heads-opens graph s h t n0 head))
         cases (inr y) =
             let b = active-behind (entries q c) t u entry parts.has_it up y in
             let f : at is_frame (entries q c) u ≡ true = subst (λ (w : ℕ). at is_frame (entries q w) u ≡ true) j k in

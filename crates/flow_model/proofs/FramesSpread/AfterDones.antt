@@ -3,13 +3,17 @@ use Rattle.std.proofs.Common.{◌≡◌, ℕ, Bool, true, false, ◌&&◌, ◌||
 use Rattle.std.specs.Prelude.{is_some}
 use Rattle.std.specs.List.{list_any, list_all}
 use Rattle.std.proofs.lemmas.List.Folds.{list_any-append}
+use Rattle.std.proofs.lemmas.Bool.{or_cases, or_left, or_right, and_parts, and_from, eqb-true, eq-eqb, false_from_ne_true, both_ways, cases_Bool, true_from_ne_false, not-true}
 use Rattle.script_tree.specs.declared.value.Value.{Value}
+use Rattle.script_tree.proofs.Truths.{and_left, and_right}
 use Rattle.signal_graph.specs.Graph.{Graph, is_in, is_source, node_at, inputs_of, static_outs, numbers}
 use Rattle.signal_graph.specs.Values.{nodes_in}
 use Rattle.node_versions.specs.declared.entry.State.{State}
 use Rattle.node_versions.specs.declared.entry.State.TheVariants.{Done}
 use Rattle.node_versions.specs.declared.entry.Entry.{Entry}
 use Rattle.node_versions.specs.Entries.{OutEdge, has, at, is_frame, is_done, behind, first_open, is_active, has_out, has_node, with_state, picks_before, value_before}
+use Rattle.node_versions.proofs.KeptLemmas.{has-with_state, IsUnique-with_state}
+use Rattle.node_versions.proofs.Places.{at-has}
 use Rattle.flow_model.specs.declared.step.Step.TheVariants as steps
 use Rattle.flow_model.specs.Machine.State.{Core, Cell, cell, live, entries, outs, opens, wants, with_cell, changes, Found}
 use Rattle.flow_model.specs.Machine.Words.{deps, heads, at_front, touched, prior_picks, is_prior, is_candidate, is_found, is_gathered, found_picks, found_candidates, value_now, picks_of_found}
@@ -17,11 +21,8 @@ use Rattle.flow_model.specs.Machine.Changes.{set_state, closed, finish, cleared}
 use Rattle.flow_model.specs.Machine.Steps.{allowed, apply, is_change, is_worked_out, all_gathered, is_discovered}
 use Rattle.flow_model.specs.Kept.Runs.{Run, Reading, go_on, close, read_done, read_all, nothing_read, last_run, discovered, runs, covers, reacts, settles, picks_it, by_node, is_until}
 use Rattle.flow_model.specs.Kept.Lawful.{IsLawful, IsRunEdge, IsNewEdge, IsKeyOf, FramesSpread, picks_last, last_run_of}
-use Rattle.flow_model.proofs.General.Truths.{or_cases, or_left, or_right, and_both, and_make, same_number, equal_test, not_true, not_false, is_not_true, true_or_false}
-use Rattle.flow_model.proofs.OneStep.WhoMayStep.{and_left, and_right, not_is, opens-live, executes-live, at_front-executes, at_front-heads, can_work-at_front, skip-can_work, resolve-can_work}
-use Rattle.flow_model.proofs.OneList.InOrder.{with_state-has}
-use Rattle.flow_model.proofs.OneList.StatesAndPlaces.{at-has, with_state-at, with_state-behind, first_open-frame}
-use Rattle.flow_model.proofs.OneList.OneEntryACall.{with_state-unique}
+use Rattle.flow_model.proofs.OneStep.WhoMayStep.{opens-live, executes-live, at_front-executes, at_front-heads, can_work-at_front, skip-can_work, resolve-can_work}
+use Rattle.flow_model.proofs.OneList.StatesAndPlaces.{with_state-at, with_state-behind, first_open-frame}
 use Rattle.flow_model.proofs.OneList.CallsAndCells.{with_call-keeps}
 use Rattle.flow_model.proofs.OneList.Entering.{with_cell-cell}
 use Rattle.flow_model.proofs.OneStep.ChangesOfOneList.{same_cell}
@@ -50,11 +51,11 @@ stated-covers s n0 t x m u r k = go (with_cell-cell s n0 (set_state t x) m)
     k2 = covers-parts q m u r k
 
     active : (b : ℕ) → is_active (with_state t x (entries s m)) b u ≡ true → is_active (entries s m) b u ≡ true
-    active b a = let h = with_state-has t x (entries s m) b in let v = with_state-up_to t x (entries s m) u b in grind (arith, a, h, v)
+    active b a = let h = has-with_state t x (entries s m) b in let v = with_state-up_to t x (entries s m) u b in grind (arith, a, h, v)
 
     moved : entries q m ≡ with_state t x (entries s m) → covers s m u r ≡ true
     moved g = parts-covers s m u r (record {
-      has_it = sym (ap (λ (es : List Entry). has es u) g ∙ with_state-has t x (entries s m) u) ∙ k2.has_it;
+      has_it = sym (ap (λ (es : List Entry). has es u) g ∙ has-with_state t x (entries s m) u) ∙ k2.has_it;
       from = from-back s q m u r.begins (λ b _ a. active b (subst (λ (es : List Entry). is_active es b u ≡ true) g a)) k2.from;
       until = until-back s q m u r.ends (λ z _ l b. (l, sym (with_state-behind t x (entries s m) u z) ∙ subst (λ (es : List Entry). behind es u z ≡ true) g b)) k2.until;
     })
@@ -86,8 +87,8 @@ head-edge graph s h n m t u hd f e = go (h.edges_are_kept.stands n m u e)
     key (Some r) x k = begins r.begins refl k
       where
         begins : (z : Option ℕ) → r.begins ≡ z → IsKeyOf s u (Some (record r { begins = z })) → ⊥
-        begins None y k = is_not_true _ k lu
-        begins (Some b) y k = is_not_true _ (not_both (entries s n) u f) (subst (λ (v : ℕ). at is_done (entries s n) v ≡ true) (sym k) (run-begins m (entries s n) r b (h.one_entry n) x y).done)
+        begins None y k = both_ways _ k lu
+        begins (Some b) y k = both_ways _ (not_both (entries s n) u f) (subst (λ (v : ℕ). at is_done (entries s n) v ≡ true) (sym k) (run-begins m (entries s n) r b (h.one_entry n) x y).done)
 
     same : (o : Option ℕ) → o ≡ Some u → o ≡ Some t → u ≡ t
     same o x y = cc
@@ -179,7 +180,7 @@ finished-any graph s h t n v c ps fin m test longer k = any-parts test es os n m
       where
         stands : (xs : List Entry) → dropper_in xs os n ≡ None
         stands xs = let w = fin.goes_on m f (picked r e) in rw (w, dropper_in) refl
-    last_part true f None e true g a = absurd (is_not_true _ not_fresh g)
+    last_part true f None e true g a = absurd (both_ways _ not_fresh g)
     last_part true f None e false g a = by_new (fin.begins m f (not_picked e)) (longer (record { begins = Some t; ends = None }) (dropper_in after os n) (only (test (record { begins = Some t; ends = dropper_in after os n })) a))
 
     new_part : (o : Option ℕ) → first_open after ≡ o → list_any test (discovered o n os) ≡ true → Result
@@ -189,11 +190,11 @@ finished-any graph s h t n v c ps fin m test longer k = any-parts test es os n m
         -- another Frame has no edge of its call
         other : has_out os n u ≡ true → ⊥
         other x =
-            let f = first_open-frame after u (with_state-unique t (Done v c ps) es (h.one_entry n)) e in
+            let f = first_open-frame after u (IsUnique-with_state t (Done v c ps) es (h.one_entry n)) e in
             let w = with_state-at is_frame t (Done v c ps) es u in
-            let ne : (u == t) ≡ false = not_true _ (λ y. is_not_true _ (done_there y w) f) in
+            let ne : (u == t) ≡ false = false_from_ne_true _ (λ y. both_ways _ (done_there y w) f) in
             let fu : at is_frame es u ≡ true = grind (arith, w, ne, f) in
-            is_not_true _ ne (equal_test u t (head-edge graph s h n m t u hd fu x))
+            both_ways _ ne (eq-eqb u t (head-edge graph s h n m t u hd fu x))
           where
             done_there : (u == t) ≡ true → at is_frame after u ≡ elim (u == t) as (λ _. Bool) [ true ↦ has es t && false | false ↦ at is_frame es u ] → at is_frame after u ≡ false
             done_there y w = grind (arith, y, w)
@@ -213,11 +214,11 @@ finished-any graph s h t n v c ps fin m test longer k = any-parts test es os n m
 -- ---- the call that finishes
 
 pub front-no_open : (graph : Graph) (s : Core) (t n : ℕ) → at_front graph s t n ≡ true → list_any (opens s t) (deps graph s t n) ≡ false
-front-no_open graph s t n f = not_is _ (and_right _ _ f)
+front-no_open graph s t n f = not-true _ (and_right _ _ f)
 
 -- A Done that doesn't pick a prior pick has dropped it, and so settled its call's entry there.
 pub left-settles : (graph : Graph) (s : Core) (z n m : ℕ) → is_prior s z n m ≡ true → at is_done (entries s n) z ≡ true → picks_it s z n m ≡ false → settles graph s z m n ≡ true
-left-settles graph s z n m p d k = or_left _ _ (or_right _ _ (and_make _ _ p (or_left _ _ (and_make _ _ d (turned _ k)))))
+left-settles graph s z n m p d k = or_left _ _ (or_right _ _ (and_from _ _ p (or_left _ _ (and_from _ _ d (turned _ k)))))
   where
     turned : (a : Bool) → a ≡ false → not a ≡ true
     turned a e = grind (arith, e)
@@ -234,7 +235,7 @@ finisher-none graph s h t n ps fin m o k = go (or_cases _ _ k)
 
     -- the node rests on no node that is open
     no_dep : is_in m (deps graph s t n) ≡ true → ⊥
-    no_dep d = is_not_true _ (front-no_open graph s t n fin.front) (any-in (opens s t) (deps graph s t n) m d o)
+    no_dep d = both_ways _ (front-no_open graph s t n fin.front) (any-in (opens s t) (deps graph s t n) m d o)
 
     no_input : is_in m (inputs_of (node_at graph n)) ≡ true → ⊥
     no_input i = no_dep (list_any-append (λ x. x == m) (inputs_of (node_at graph n)) (prior_picks s t n) ∙ or_left _ _ i)
@@ -247,7 +248,7 @@ finisher-none graph s h t n ps fin m o k = go (or_cases _ _ k)
         let c = covers-parts s m t l.run l.taken in
         let e : (live s l.call && behind (entries s m) t l.call) ≡ true = until_at l.run.ends l.ends c.until in
         let settled : settles graph s l.call m n ≡ true = left-settles graph s l.call n m l.prior l.done l.now in
-        is_not_true _ (h.settled_is_kept.none_before t l.call m (by_node n settled) (and_both (live s l.call) (behind (entries s m) t l.call) e).1) frame
+        both_ways _ (h.settled_is_kept.none_before t l.call m (by_node n settled) (and_parts (live s l.call) (behind (entries s m) t l.call) e).1) frame
       where
         until_at : (z : Option ℕ) → z ≡ Some l.call → is_until s m z t ≡ true → (live s l.call && behind (entries s m) t l.call) ≡ true
         until_at z e x = subst (λ (w : Option ℕ). is_until s m w t ≡ true) e x
@@ -264,11 +265,11 @@ finisher-none graph s h t n ps fin m o k = go (or_cases _ _ k)
         same k = cc
 
         edge : has_out (outs s m) n t ≡ true → ⊥
-        edge x = two (true_or_false (picks_last s n m))
+        edge x = two (cases_Bool (picks_last s n m))
           where
             two : (picks_last s n m ≡ true) ⊎ (picks_last s n m ≡ false) → ⊥
             two (inl p) = no_prior p
-            two (inr p) = is_not_true _ (fin.finished m p x) o
+            two (inr p) = both_ways _ (fin.finished m p x) o
 
         cases : (b : Bool) → has_out (outs s m) n u ≡ b → list_any (covers s m t) (elim b as (λ _. List Run) [ true ↦ record { begins = Some u; ends = None } ∷ [] | false ↦ [] ]) ≡ true → ⊥
         cases false x y = true≢false (sym y)
@@ -331,13 +332,13 @@ finished-spread graph s h t n0 v c ps fin u m n k r = still (or_cases _ _ (h.fra
 
     -- the node that is closed is another
     open_still : opens s u n ≡ true → opens after u n ≡ true
-    open_still y = opens_after n ∙ and_make (opens s u n) (not ((u == t) && (n == n0))) y (cases (true_or_false ((u == t) && (n == n0))))
+    open_still y = opens_after n ∙ and_from (opens s u n) (not ((u == t) && (n == n0))) y (cases (cases_Bool ((u == t) && (n == n0))))
       where
         cases : (((u == t) && (n == n0)) ≡ true) ⊎ (((u == t) && (n == n0)) ≡ false) → not ((u == t) && (n == n0)) ≡ true
         cases (inr z) = ap not z
         cases (inl z) =
-            let e = same_number u t (and_left (u == t) (n == n0) z) in
-            let f = same_number n n0 (and_right (u == t) (n == n0) z) in
+            let e = eqb-true u t (and_left (u == t) (n == n0) z) in
+            let f = eqb-true n n0 (and_right (u == t) (n == n0) z) in
             absurd (finisher-none graph s h t n0 ps fin m (subst (λ (w : ℕ). opens s w m ≡ true) e o) (subst (λ (w : ℕ). reacts graph s w m n0 ≡ true) e (subst (λ (w : ℕ). reacts graph s u m w ≡ true) f back)))
 
     still : (opens s u n ≡ true) ⊎ (wants s u n ≡ true) → (opens after u n || wants after u n) ≡ true
@@ -357,13 +358,13 @@ pub found-touched : (graph : Graph) (s : Core) → IsLawful graph s → (t n : �
 found-touched graph s h t n hd f = let w = h.work_is_kept.finds n f in subst (λ (v : ℕ). touched graph s v n ≡ true) (heads-same s t w.head n hd w.first) w.holds.changed
 
 pub skip-untouched : (graph : Graph) (s : Core) (t n : ℕ) → allowed graph s (steps.Skip t n) ≡ true → touched graph s t n ≡ false
-skip-untouched graph s t n a = not_is _ (and_right _ _ (and_left _ _ a))
+skip-untouched graph s t n a = not-true _ (and_right _ _ (and_left _ _ a))
 
 pub skip-finishing : (graph : Graph) (s : Core) → IsLawful graph s → (t n : ℕ) → allowed graph s (steps.Skip t n) ≡ true → IsFinishing graph s t n (picks_before (entries s n) t)
 skip-finishing graph s h t n a = record {
   front = front;
-  goes_on = λ m f p. not_false _ (λ e. not_found (h.work_is_kept.drops n m p e).0);
-  begins = λ m f p. absurd (is_not_true _ p (sym (head-prior graph s h t n m hd) ∙ f));
+  goes_on = λ m f p. true_from_ne_false _ (λ e. not_found (h.work_is_kept.drops n m p e).0);
+  begins = λ m f p. absurd (both_ways _ p (sym (head-prior graph s h t n m hd) ∙ f));
   finished = λ m p e. absurd (not_found (h.work_is_kept.discovers n m t hd e));
 }
   where
@@ -374,7 +375,7 @@ skip-finishing graph s h t n a = record {
     hd = at_front-heads graph s t n front
 
     not_found : is_found s n ≡ true → ⊥
-    not_found f = is_not_true _ (skip-untouched graph s t n a) (found-touched graph s h t n hd f)
+    not_found f = both_ways _ (skip-untouched graph s t n a) (found-touched graph s h t n hd f)
 
 pub resolve-worked : (graph : Graph) (s : Core) (t n : ℕ) → allowed graph s (steps.Resolve t n) ≡ true → touched graph s t n ≡ true → is_worked_out graph s t n ≡ true
 resolve-worked graph s t n a k = go (is_source (node_at graph n)) (list_any (changes s t) (deps graph s t n)) (is_worked_out graph s t n) (and_right _ _ a) k
@@ -391,7 +392,7 @@ worked-discovered graph s t n w = and_right _ _ (and_left _ _ (and_left _ _ w))
 pub resolve-finishing : (graph : Graph) (s : Core) → IsLawful graph s → (t n : ℕ) → allowed graph s (steps.Resolve t n) ≡ true → IsFinishing graph s t n (found_picks s n)
 resolve-finishing graph s h t n a = record {
   front = front;
-  goes_on = λ m f p. not_false _ (λ e. is_not_true _ (h.work_is_kept.drops n m p e).1 f);
+  goes_on = λ m f p. true_from_ne_false _ (λ e. both_ways _ (h.work_is_kept.drops n m p e).1 f);
   begins = λ m f p. new_edge m f p;
   finished = λ m p e. done_with m p e;
 }
@@ -425,10 +426,10 @@ resolve-finishing graph s h t n a = record {
     done_with m p e = go (h.edges_are_kept.stands n m t e)
       where
         go : IsRunEdge s n m t ⊎ IsNewEdge s n m t → opens s t m ≡ false
-        go (inl k) = absurd (is_not_true _ p k.picked)
+        go (inl k) = absurd (both_ways _ p k.picked)
         go (inr k) =
             let g : is_gathered s n m ≡ true = all-in (is_gathered s n) (found_candidates s n) m (worked-gathered graph s t n (worked (candidate-found m k.found))) k.found in
-            let settled : settles graph s t m n ≡ true = or_left _ _ (or_left _ _ (and_make _ _ hd g)) in
+            let settled : settles graph s t m n ≡ true = or_left _ _ (or_left _ _ (and_from _ _ hd g)) in
             h.frames_are_open.opens_frames t m ∙ h.settled_is_kept.no_frame t m (by_node n settled)
 
 pub skipped-spread : (graph : Graph) (s : Core) (t n0 : ℕ) → IsLawful graph s → allowed graph s (steps.Skip t n0) ≡ true → FramesSpread graph (apply graph s (steps.Skip t n0))

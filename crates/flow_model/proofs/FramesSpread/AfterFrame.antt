@@ -3,11 +3,15 @@ use Rattle.std.proofs.Common.{◌≡◌, ℕ, ◌<◌, Bool, true, false, ◌&&�
 use Rattle.std.specs.Prelude.{slice_get}
 use Rattle.std.specs.List.{list_any}
 use Rattle.std.proofs.lemmas.List.Folds.{list_any-append}
+use Rattle.std.proofs.lemmas.Bool.{or_cases, or_left, or_right, eqb-true, eq-eqb, eqb-false, false_from_ne_true, both_ways, cases_Bool, true_from_ne_false}
 use Rattle.signal_graph.specs.Graph.{Graph, is_in, static_outs}
 use Rattle.node_versions.specs.declared.entry.State.{State}
 use Rattle.node_versions.specs.declared.entry.State.TheVariants.{Mark, Frame, Done}
 use Rattle.node_versions.specs.declared.entry.Entry.{Entry}
 use Rattle.node_versions.specs.Entries.{OutEdge, IsUnique, has, at, is_mark, is_frame, behind, first_open, active_nodes, with_state, front, rest, placed}
+use Rattle.node_versions.proofs.Lists.{has-append}
+use Rattle.node_versions.proofs.KeptLemmas.{has-with_state, IsUnique-with_state}
+use Rattle.node_versions.proofs.Places.{at-has}
 use Rattle.flow_model.specs.declared.step.Step.TheVariants as steps
 use Rattle.flow_model.specs.Machine.State.{Core, Cell, live, executes, is_framing, entries, outs, opens, wants, precedes}
 use Rattle.flow_model.specs.Machine.Words.{heads, active_outs}
@@ -15,12 +19,11 @@ use Rattle.flow_model.specs.Machine.Changes.{stops, stops_call, new_entry, place
 use Rattle.flow_model.specs.Machine.Steps.{allowed, apply, open_node}
 use Rattle.flow_model.specs.Kept.Runs.{Run, Reading, read_state, read_all, nothing_read, runs, covers, reacts}
 use Rattle.flow_model.specs.Kept.Lawful.{IsLawful, FramesSpread, FramesAreOpen, ended_before}
-use Rattle.flow_model.proofs.General.Truths.{or_cases, or_left, or_right, same_number, equal_test, other_number, not_true, not_false, is_not_true, true_or_false}
 use Rattle.flow_model.proofs.OneStep.WhoMayStep.{frame-wants, wants-live, opens-live, is_framing-live}
-use Rattle.flow_model.proofs.OneList.InOrder.{has-append, front-rest, front-has, rest-has, with_state-has}
+use Rattle.flow_model.proofs.OneList.InOrder.{front-rest, front-has, rest-has}
 use Rattle.flow_model.proofs.OrderStays.AfterEachStep.{lawful-Standing, wanted-fresh}
-use Rattle.flow_model.proofs.OneList.StatesAndPlaces.{at-has, behind-has, behind-total, behind-trans, with_state-at, with_state-behind, first_open-frame, first_open-none, more-behind_it}
-use Rattle.flow_model.proofs.OneList.OneEntryACall.{placed-unique, placed-has, placed-at_other, with_state-unique}
+use Rattle.flow_model.proofs.OneList.StatesAndPlaces.{behind-has, behind-total, behind-trans, with_state-at, with_state-behind, first_open-frame, first_open-none, more-behind_it}
+use Rattle.flow_model.proofs.OneList.OneEntryACall.{placed-unique, placed-has, placed-at_other}
 use Rattle.flow_model.proofs.OrderStays.OpenNodesHaveFrames.{cell-there, cell-other, opened-opens, step-FramesAreOpen}
 use Rattle.flow_model.proofs.OrderStays.NoFrameBeforeDones.{NotBefore, head-first, framing-part, executing-part}
 use Rattle.flow_model.proofs.Wants.FramedWith.{opens-frame, heads-opens, before-not_after}
@@ -39,14 +42,14 @@ mark-read m v (Done a b c) q h = absurd (true≢false (sym h))
 
 raised-reading : (m t : ℕ) (es : List Entry) (q : Reading) → at is_mark es t ≡ true → read_all m (with_state t Frame es) q ≡ read_all m es q
 raised-reading m t [] q h = refl
-raised-reading m t (e ∷ es) q h = go (true_or_false (e.version == t)) (raised-reading m t es (read_state m e.version e.state q))
+raised-reading m t (e ∷ es) q h = go (cases_Bool (e.version == t)) (raised-reading m t es (read_state m e.version e.state q))
   where
     go : ((e.version == t) ≡ true) ⊎ ((e.version == t) ≡ false) → (at is_mark es t ≡ true → read_all m (with_state t Frame es) (read_state m e.version e.state q) ≡ read_all m es (read_state m e.version e.state q)) → read_all m (with_state t Frame (e ∷ es)) q ≡ read_all m (e ∷ es) q
     go (inl w) further = rw (w, with_state) (ap (read_all m es) (sym (mark-read m e.version e.state q (rw (w, at) at h))))
     go (inr w) further = rw (w, with_state) (further (rw (w, at) at h))
 
 behind-tail : (e : Entry) (es : List Entry) (z t : ℕ) → behind (e ∷ es) z t ≡ true → has es t ≡ true
-behind-tail e es z t h = go (true_or_false (e.version == z))
+behind-tail e es z t h = go (cases_Bool (e.version == z))
   where
     go : ((e.version == z) ≡ true) ⊎ ((e.version == z) ≡ false) → has es t ≡ true
     go (inl w) = rw (w, behind) at h
@@ -58,13 +61,13 @@ raised-first [] z t u f b = absurd (true≢false (sym b))
 raised-first (e ∷ es) z t u f b = go (is_frame e.state) refl (raised-first es z t u.1)
   where
     ne : (e.version == t) ≡ false
-    ne = not_true _ (λ x. is_not_true _ u.0 (subst (λ (w : ℕ). has es w ≡ true) (sym (same_number e.version t x)) (behind-tail e es z t b)))
+    ne = false_from_ne_true _ (λ x. both_ways _ u.0 (subst (λ (w : ℕ). has es w ≡ true) (sym (eqb-true e.version t x)) (behind-tail e es z t b)))
 
     go : (y : Bool) → is_frame e.state ≡ y → (first_open es ≡ Some z → behind es z t ≡ true → first_open (with_state t Frame es) ≡ Some z) → first_open (with_state t Frame (e ∷ es)) ≡ Some z
     go true y further = rw (ne, with_state) (rw (y, first_open) (rw (y, first_open) at f))
     go false y further =
         let f2 : first_open es ≡ Some z = rw (y, first_open) at f in
-        let apart : (e.version == z) ≡ false = not_true _ (λ x. is_not_true _ u.0 (subst (λ (w : ℕ). has es w ≡ true) (sym (same_number e.version z x)) (at-has is_frame es z (first_open-frame es z u.1 f2)))) in
+        let apart : (e.version == z) ≡ false = false_from_ne_true _ (λ x. both_ways _ u.0 (subst (λ (w : ℕ). has es w ≡ true) (sym (eqb-true e.version z x)) (at-has is_frame es z (first_open-frame es z u.1 f2)))) in
         rw (ne, with_state) (rw (y, first_open) (further f2 (rw (apart, behind) at b)))
 
 -- The first Frame of a list is the first of each list that begins with the part in which it stands.
@@ -76,18 +79,18 @@ first-in_front (e ∷ es) ys zs z u f h = go (is_frame e.state) refl (first-in_f
     go true y further = rw (y, first_open) (rw (y, first_open) at f)
     go false y further =
         let f2 : first_open (es ++ ys) ≡ Some z = rw (y, first_open) at f in
-        let apart : (e.version == z) ≡ false = not_true _ (λ x. is_not_true _ u.0 (subst (λ (w : ℕ). has (es ++ ys) w ≡ true) (sym (same_number e.version z x)) (at-has is_frame (es ++ ys) z (first_open-frame (es ++ ys) z u.1 f2)))) in
+        let apart : (e.version == z) ≡ false = false_from_ne_true _ (λ x. both_ways _ u.0 (subst (λ (w : ℕ). has (es ++ ys) w ≡ true) (sym (eqb-true e.version z x)) (at-has is_frame (es ++ ys) z (first_open-frame (es ++ ys) z u.1 f2)))) in
         rw (y, first_open) (further f2 (rw (apart, has) at h))
 
 -- ---- the call that covers
 
 -- Two calls of a list, the first before the second, stand there in this order.
 order-behind : (graph : Graph) (s : Core) → IsLawful graph s → (n u v : ℕ) → has (entries s n) u ≡ true → has (entries s n) v ≡ true → live s u ≡ true → (u == v) ≡ false → precedes s u v ≡ true → behind (entries s n) u v ≡ true
-order-behind graph s h n u v hu hv lu ne p = go (or_cases _ _ (behind-total (entries s n) u v hu hv (other_number u v ne)))
+order-behind graph s h n u v hu hv lu ne p = go (or_cases _ _ (behind-total (entries s n) u v hu hv (eqb-false u v ne)))
   where
     go : (behind (entries s n) u v ≡ true) ⊎ (behind (entries s n) v u ≡ true) → behind (entries s n) u v ≡ true
     go (inl b) = b
-    go (inr b) = absurd (is_not_true _ (before-not_after graph s h u v p) (h.order_is_kept.lists n v u b lu))
+    go (inr b) = absurd (both_ways _ (before-not_after graph s h u v p) (h.order_is_kept.lists n v u b lu))
 
 -- ---- a Mark that is raised
 
@@ -97,13 +100,13 @@ raised-framed graph s h t m0 w mark there = record {
   edges = same_outs s m0 (set_state t Frame) (λ c. refl);
   lives = λ z l. l;
   back = λ u m n _ i r _ k. stated-covers s m0 t Frame m u r k;
-  one = subst IsUnique (sym list) (with_state-unique t Frame es (h.one_entry m0));
+  one = subst IsUnique (sym list) (IsUnique-with_state t Frame es (h.one_entry m0));
   reading = λ m. ap (λ (xs : List Entry). read_all m xs nothing_read) list ∙ raised-reading m t es nothing_read mark;
   frame_of = λ u f ne. let a = with_state-at is_frame t Frame es u in let g = subst (λ (xs : List Entry). at is_frame xs u ≡ true) list f in shown (u == t) (at is_frame es u) (at is_frame (with_state t Frame es) u) (has es t) a ne g;
   head = λ z hd x. ap first_open list ∙ raised-first es z t (h.one_entry m0) (head-first es z hd) (behind_head z hd);
-  settled = λ z l x k b. is_not_true _ (h.settled_is_kept.none_before v z m0 k (behind-trans es v t z (h.one_entry m0) v_first (was z b))) fv;
-  ended = λ z d b. is_not_true _ (h.ended_is_prefix.prefix m0 t z (was z b) d) lt;
-  entry = ap (λ (xs : List Entry). has xs t) list ∙ with_state-has t Frame es t ∙ at-has is_mark es t mark;
+  settled = λ z l x k b. both_ways _ (h.settled_is_kept.none_before v z m0 k (behind-trans es v t z (h.one_entry m0) v_first (was z b))) fv;
+  ended = λ z d b. both_ways _ (h.ended_is_prefix.prefix m0 t z (was z b) d) lt;
+  entry = ap (λ (xs : List Entry). has xs t) list ∙ has-with_state t Frame es t ∙ at-has is_mark es t mark;
 }
   where
     es : List Entry
@@ -116,7 +119,7 @@ raised-framed graph s h t m0 w mark there = record {
     lt = wants-live s t m0 w
 
     xt : executes s t ≡ true
-    xt = not_false _ (λ e. is_not_true _ (h.framing_comes_last.no_mark t m0 (let f : is_framing s t ≡ true = grind (arith, e, lt) in f)) mark)
+    xt = true_from_ne_false _ (λ e. both_ways _ (h.framing_comes_last.no_mark t m0 (let f : is_framing s t ≡ true = grind (arith, e, lt) in f)) mark)
 
     v : ℕ
     v = (h.wants_are_covered t m0 xt w).by.0
@@ -128,7 +131,7 @@ raised-framed graph s h t m0 w mark there = record {
     fv = opens-frame graph s h v m0 ov
 
     apart : (v == t) ≡ false
-    apart = not_true _ (λ e. is_not_true _ (h.wants_are_free t m0 w).not_open (subst (λ (j : ℕ). opens s j m0 ≡ true) (same_number v t e) ov))
+    apart = false_from_ne_true _ (λ e. both_ways _ (h.wants_are_free t m0 w).not_open (subst (λ (j : ℕ). opens s j m0 ≡ true) (eqb-true v t e) ov))
 
     v_first : behind es v t ≡ true
     v_first = order-behind graph s h m0 v t (at-has is_frame es v fv) (at-has is_mark es t mark) (opens-live s v m0 ov) apart (h.wants_are_covered t m0 xt w).by.1
@@ -141,21 +144,21 @@ raised-framed graph s h t m0 w mark there = record {
 
     -- the first Frame stands before the Mark, since that of the covering call does
     behind_head : (z : ℕ) → heads s z m0 ≡ true → behind es z t ≡ true
-    behind_head z hd = go (or_cases _ _ (behind-total es z t (at-has is_frame es z fz) (at-has is_mark es t mark) (λ e. is_not_true _ (h.wants_are_free t m0 w).not_open (subst (λ (j : ℕ). opens s j m0 ≡ true) e (heads-opens graph s h z m0 hd)))))
+    behind_head z hd = go (or_cases _ _ (behind-total es z t (at-has is_frame es z fz) (at-has is_mark es t mark) (λ e. both_ways _ (h.wants_are_free t m0 w).not_open (subst (λ (j : ℕ). opens s j m0 ≡ true) e (heads-opens graph s h z m0 hd)))))
       where
         fz : at is_frame es z ≡ true
         fz = opens-frame graph s h z m0 (heads-opens graph s h z m0 hd)
 
         go : (behind es z t ≡ true) ⊎ (behind es t z ≡ true) → behind es z t ≡ true
         go (inl b) = b
-        go (inr b) = absurd (is_not_true _ (first_open-none es z v (h.one_entry m0) (head-first es z hd) (behind-trans es v t z (h.one_entry m0) v_first b)) fv)
+        go (inr b) = absurd (both_ways _ (first_open-none es z v (h.one_entry m0) (head-first es z hd) (behind-trans es v t z (h.one_entry m0) v_first b)) fv)
 
 -- ---- a new Frame
 
 -- Behind its place stand neither an executing call's settled entry nor its first Frame.
 entered-part : (graph : Graph) (s : Core) → IsLawful graph s → (t m0 : ℕ) → wants s t m0 ≡ true → (z : ℕ) → executes s z ≡ true → has (rest (stops s t) (entries s m0)) z ≡ true
     → ((v : ℕ) → at is_frame (entries s m0) v ≡ true → behind (entries s m0) v z ≡ true → ⊥) → ⊥
-entered-part graph s h t m0 w z xz k none = go (true_or_false (executes s t))
+entered-part graph s h t m0 w z xz k none = go (cases_Bool (executes s t))
   where
     lt : live s t ≡ true
     lt = wants-live s t m0 w
@@ -179,7 +182,7 @@ entered-part graph s h t m0 w z xz k none = go (true_or_false (executes s t))
 
 -- All behind the place live.
 entered-live : (graph : Graph) (s : Core) → IsLawful graph s → (t m0 : ℕ) → wants s t m0 ≡ true → (z : ℕ) → has (rest (stops s t) (entries s m0)) z ≡ true → live s z ≡ true
-entered-live graph s h t m0 w z k = go (true_or_false (executes s t))
+entered-live graph s h t m0 w z k = go (cases_Bool (executes s t))
   where
     lt : live s t ≡ true
     lt = wants-live s t m0 w
@@ -196,11 +199,11 @@ entered-framed graph s h t m0 w fresh there = record {
   back = λ u m n ne i r e k. back u m n i r e k ne;
   one = subst IsUnique (sym list) (placed-unique (stops_call s t) (new_entry s t Frame) es fresh (h.one_entry m0));
   reading = λ m. ap (λ (xs : List Entry). read_all m xs nothing_read) list ∙ read_all-append m xs (new_entry s t Frame ∷ ys) nothing_read ∙ sym (read_all-append m xs ys nothing_read) ∙ ap (λ (zs : List Entry). read_all m zs nothing_read) joined;
-  frame_of = λ u f ne. sym (placed-at_other is_frame (stops_call s t) (new_entry s t Frame) es u (other_number u t ne)) ∙ subst (λ (zs : List Entry). at is_frame zs u ≡ true) list f;
+  frame_of = λ u f ne. sym (placed-at_other is_frame (stops_call s t) (new_entry s t Frame) es u (eqb-false u t ne)) ∙ subst (λ (zs : List Entry). at is_frame zs u ≡ true) list f;
   head = λ z hd x. ap first_open list ∙ first-in_front xs ys (new_entry s t Frame ∷ ys) z (subst IsUnique (sym joined) (h.one_entry m0)) (ap first_open joined ∙ head-first es z hd) (in_front z hd x);
-  settled = λ z l x k b. entered-part graph s h t m0 w z x (in_rest z b) (λ v fv a. is_not_true _ (h.settled_is_kept.none_before v z m0 k a) fv);
-  ended = λ z d b. is_not_true _ d (entered-live graph s h t m0 w z (in_rest z b));
-  entry = ap (λ (zs : List Entry). has zs t) list ∙ placed-has (stops_call s t) (new_entry s t Frame) es t ∙ or_left _ _ (equal_test t t refl);
+  settled = λ z l x k b. entered-part graph s h t m0 w z x (in_rest z b) (λ v fv a. both_ways _ (h.settled_is_kept.none_before v z m0 k a) fv);
+  ended = λ z d b. both_ways _ d (entered-live graph s h t m0 w z (in_rest z b));
+  entry = ap (λ (zs : List Entry). has zs t) list ∙ placed-has (stops_call s t) (new_entry s t Frame) es t ∙ or_left _ _ (eq-eqb t t refl);
 }
   where
     es : List Entry
@@ -219,7 +222,7 @@ entered-framed graph s h t m0 w fresh there = record {
     list = ap (λ (c : Cell). c.entries) (cell-there s m0 (place_entry s t Frame) there)
 
     not_in_front : has xs t ≡ false
-    not_in_front = not_true _ (λ k. is_not_true _ fresh (front-has (stops_call s t) es t k))
+    not_in_front = false_from_ne_true _ (λ k. both_ways _ fresh (front-has (stops_call s t) es t k))
 
     in_rest : (z : ℕ) → behind (entries (enter s t m0 Frame) m0) t z ≡ true → has ys z ≡ true
     in_rest z b = sym (more-behind_it xs ys (new_entry s t Frame) z not_in_front) ∙ subst (λ (zs : List Entry). behind zs t z ≡ true) list b
@@ -233,13 +236,13 @@ entered-framed graph s h t m0 w fresh there = record {
       where
         go : (has xs z ≡ true) ⊎ (has ys z ≡ true) → has xs z ≡ true
         go (inl k) = k
-        go (inr k) = absurd (entered-part graph s h t m0 w z x k (λ v fv a. is_not_true _ (first_open-none es z v (h.one_entry m0) (head-first es z hd) a) fv))
+        go (inr k) = absurd (entered-part graph s h t m0 w z x k (λ v fv a. both_ways _ (first_open-none es z v (h.one_entry m0) (head-first es z hd) a) fv))
 
 -- ---- the step
 
 opened-spread : (graph : Graph) (s : Core) → IsLawful graph s → (q : Core) (t m0 : ℕ) → wants s t m0 ≡ true → IsFramed graph s q t m0 → ((u n : ℕ) → opens q u n ≡ opens s u n) → ((u n : ℕ) → wants q u n ≡ wants s u n) → live q t ≡ true
     → FramesAreOpen (open_node graph q t m0) → FramesSpread graph (open_node graph q t m0)
-opened-spread graph s h q t m0 w fr os ws lq f u m n k r = go (true_or_false (u == t)) (true_or_false (m == m0))
+opened-spread graph s h q t m0 w fr os ws lq f u m n k r = go (cases_Bool (u == t)) (cases_Bool (m == m0))
   where
     xs : List ℕ
     xs = active_outs graph q t m0
@@ -261,7 +264,7 @@ opened-spread graph s h q t m0 w fr os ws lq f u m n k r = go (true_or_false (u 
         let y : (opens q u n || wants q u n) ≡ true = ap (λ (b : Bool). b || wants q u n) (os u n) ∙ ap (λ (b : Bool). opens s u n || b) (ws u n) ∙ x in
         let v = opened-wants q t m0 xs u n lq in
         keeps (opens q u n) (wants q u n) (opens after u n) (wants after u n) (u == t) (n == m0) (is_in n xs && not ((n == m0) || opens q t n)) (opened-opens q t m0 xs u n lq)
-        (λ e. rw e at v ∙ ap (λ (j : ℕ). (is_in n xs && not ((n == m0) || opens q t n)) || (wants q j n && not (n == m0))) (sym (same_number u t e)))
+        (λ e. rw e at v ∙ ap (λ (j : ℕ). (is_in n xs && not ((n == m0) || opens q t n)) || (wants q j n && not (n == m0))) (sym (eqb-true u t e)))
         (λ e. rw e at v) y
 
     before : ((u == t) && (m == m0)) ≡ false → ((t == u) ≡ false) ⊎ ((m == m0) ≡ false) → (opens after u n || wants after u n) ≡ true
@@ -279,7 +282,7 @@ opened-spread graph s h q t m0 w fr os ws lq f u m n k r = go (true_or_false (u 
     reached x =
         let v = opened-wants q t m0 xs t n lq in
         let o = opened-opens q t m0 xs t n lq in
-        let e = equal_test t t refl in
+        let e = eq-eqb t t refl in
         join (is_in n xs) (n == m0) (opens q t n) (wants q t n) (opens after t n) (wants after t n) x (rw e at o) (rw e at v)
       where
         join : (x e o w o2 w2 : Bool) → x ≡ true → o2 ≡ (o || (true && e)) → w2 ≡ ((x && not (e || o)) || (w && not e)) → (o2 || w2) ≡ true
@@ -288,7 +291,7 @@ opened-spread graph s h q t m0 w fr os ws lq f u m n k r = go (true_or_false (u 
         join x false false w o2 w2 a b c = grind (arith, a, b, c)
 
     new : u ≡ t → m ≡ m0 → ((n == m0) ≡ true) ⊎ ((n == m0) ≡ false) → (opens after t n || wants after t n) ≡ true
-    new e j (inl x) = let o = opened-opens q t m0 xs t n lq in let y = equal_test t t refl in let p : opens after t n ≡ true = grind (arith, o, y, x) in or_left (opens after t n) (wants after t n) p
+    new e j (inl x) = let o = opened-opens q t m0 xs t n lq in let y = eq-eqb t t refl in let p : opens after t n ≡ true = grind (arith, o, y, x) in or_left (opens after t n) (wants after t n) p
     new e j (inr x) = reached (list_any-append (λ z. z == n) (static_outs graph m0) (active_nodes (entries q m0) (outs q m0) t) ∙ either (or_cases _ _ (subst (λ (z : ℕ). reacts graph q z m0 n ≡ true) e (subst (λ (z : ℕ). reacts graph q u z n ≡ true) j back))))
       where
         either : (is_in n (static_outs graph m0) ≡ true) ⊎ (list_any (covers q m0 t) (runs q n m0) ≡ true) → (is_in n (static_outs graph m0) || is_in n (active_nodes (entries q m0) (outs q m0) t)) ≡ true
@@ -297,9 +300,9 @@ opened-spread graph s h q t m0 w fr os ws lq f u m n k r = go (true_or_false (u 
             (framed-active graph s h q t m0 (wants-live s t m0 w) fr n x (subst (λ (rs : List Run). list_any (covers q m0 t) rs ≡ true) (same-runs s q n m0 (fr.other n x) (fr.edges m0)) a)))
 
     go : ((u == t) ≡ true) ⊎ ((u == t) ≡ false) → ((m == m0) ≡ true) ⊎ ((m == m0) ≡ false) → (opens after u n || wants after u n) ≡ true
-    go (inl x) (inl y) = subst (λ (z : ℕ). (opens after z n || wants after z n) ≡ true) (sym (same_number u t x)) (new (same_number u t x) (same_number m m0 y) (true_or_false (n == m0)))
+    go (inl x) (inl y) = subst (λ (z : ℕ). (opens after z n || wants after z n) ≡ true) (sym (eqb-true u t x)) (new (eqb-true u t x) (eqb-true m m0 y) (cases_Bool (n == m0)))
     go (inl x) (inr y) = before (grind (arith, y)) (inr y)
-    go (inr x) y = before (grind (arith, x)) (inl (not_true _ (λ z. is_not_true _ x (equal_test u t (sym (same_number t u z))))))
+    go (inr x) y = before (grind (arith, x)) (inl (false_from_ne_true _ (λ z. both_ways _ x (eq-eqb u t (sym (eqb-true t u z))))))
 
 pub framed-spread : (graph : Graph) (s : Core) (t m0 : ℕ) → IsLawful graph s → allowed graph s (steps.Frame t m0) ≡ true → FramesSpread graph (apply graph s (steps.Frame t m0))
 framed-spread graph s t m0 h a = go (at is_mark (entries s m0) t) refl (step-FramesAreOpen graph s (steps.Frame t m0) h a)

@@ -4,12 +4,15 @@ use Rattle.std.specs.Prelude.{is_some}
 use Rattle.std.specs.Prelude.{slice_get}
 use Rattle.std.specs.List.{list_any}
 use Rattle.std.proofs.lemmas.Bool.Decides.{eqb_tells}
+use Rattle.std.proofs.lemmas.Bool.{or_cases, or_left, or_right, eqb-true, eq-eqb, false_from_ne_true, both_ways, cases_Bool}
+use Rattle.script_tree.proofs.Truths.{and_left, and_right}
 use Rattle.signal_graph.specs.declared.call.Call.{Call}
 use Rattle.signal_graph.specs.Graph.{Graph, is_in}
 use Rattle.node_versions.specs.declared.entry.State.{State}
 use Rattle.node_versions.specs.declared.entry.State.TheVariants.{Mark}
 use Rattle.node_versions.specs.declared.entry.Entry.{Entry}
 use Rattle.node_versions.specs.Entries.{OutEdge, has, is_frame, behind, first_open, is_active, has_out, has_node, placed, value_at}
+use Rattle.node_versions.proofs.Places.{at-has}
 use Rattle.flow_model.specs.declared.step.Step.TheVariants as steps
 use Rattle.flow_model.specs.Machine.Lists.{is_empty}
 use Rattle.flow_model.specs.Machine.State.{Core, LiveCall, Cell, call, call_of, call_or, cell, live, entries, outs, opens, wants, with_call, with_cell}
@@ -18,9 +21,7 @@ use Rattle.flow_model.specs.Machine.Changes.{stops, stops_call, new_entry, place
 use Rattle.flow_model.specs.Machine.Steps.{allowed, apply, begin, started, counted, with_look, look_value, keep_found, gather, keep_body, new_call}
 use Rattle.flow_model.specs.Kept.Runs.{Run, Reading, read_all, nothing_read, last_run, discovered, runs, covers, reacts}
 use Rattle.flow_model.specs.Kept.Lawful.{IsLawful, FramesAreOpen, FramesSpread}
-use Rattle.flow_model.proofs.General.Truths.{or_cases, or_left, or_right, same_number, equal_test, not_true, is_not_true, true_or_false}
-use Rattle.flow_model.proofs.OneStep.WhoMayStep.{and_left, and_right, end-idle, mark-no_entry}
-use Rattle.flow_model.proofs.OneList.StatesAndPlaces.{at-has}
+use Rattle.flow_model.proofs.OneStep.WhoMayStep.{end-idle, mark-no_entry}
 use Rattle.flow_model.proofs.OneList.CallsAndCells.{with_call-keeps, with_call-live, without_call-other, without_call-same}
 use Rattle.flow_model.proofs.OneList.Entering.{with_cell-cell}
 use Rattle.flow_model.proofs.OneStep.ChangesOfOneList.{same_cell}
@@ -89,10 +90,10 @@ entered-covers graph s h state t c u m n fresh ne i r e k = go (with_cell-cell s
         has-same = ap (λ (es : List Entry). has es u) g ∙ placed-has (stops_call s t) (new_entry s t state) (entries s m) u ∙ ap (λ (x : Bool). x || has (entries s m) u) ne
 
         still : (z : ℕ) → r.ends ≡ Some z → live s z ≡ true → behind (placed (stops s t) (new_entry s t state) (entries s m)) u z ≡ true → behind (entries s m) u z ≡ true
-        still z x l b = cases (true_or_false (t == z))
+        still z x l b = cases (cases_Bool (t == z))
           where
             cases : ((t == z) ≡ true) ⊎ ((t == z) ≡ false) → behind (entries s m) u z ≡ true
-            cases (inl w) = absurd (is_not_true _ none (subst (λ (v : ℕ). has (entries s m) v ≡ true) (sym (same_number t z w)) (h.edges_are_kept.ends_entered n m i r z e x l)))
+            cases (inl w) = absurd (both_ways _ none (subst (λ (v : ℕ). has (entries s m) v ≡ true) (sym (eqb-true t z w)) (h.edges_are_kept.ends_entered n m i r z e x l)))
             cases (inr w) = sym (placed-behind (stops_call s t) (new_entry s t state) (entries s m) u z ne w) ∙ b
 
     go : (cell q m ≡ cell s m) ⊎ ((m ≡ c) × (cell q m ≡ place_entry s t state (cell s m))) → covers s m u r ≡ true
@@ -116,7 +117,7 @@ entered-runs s t c n m = go (with_cell-cell s c (place_entry s t Mark) n)
     go (inr e) = ap (λ (os : List OutEdge). runs_in (entries q n) os n m) edges ∙ ap (λ (es : List Entry). runs_in es (outs s m) n m) (ap (λ (x : Cell). x.entries) e.1) ∙ marked-runs (stops_call s t) (new_entry s t Mark) (entries s n) (outs s m) n m refl
 
 marked-reacts : (graph : Graph) (s : Core) → IsLawful graph s → (t c : ℕ) → has (entries s c) t ≡ false → (u m n : ℕ) → opens s u m ≡ true → reacts graph (enter s t c Mark) u m n ≡ true → reacts graph s u m n ≡ true
-marked-reacts graph s h t c fresh u m n o k = go (true_or_false (t == u))
+marked-reacts graph s h t c fresh u m n o k = go (cases_Bool (t == u))
   where
     q : Core
     q = enter s t c Mark
@@ -127,7 +128,7 @@ marked-reacts graph s h t c fresh u m n o k = go (true_or_false (t == u))
       where
         -- the call has the node open, so it is another than the one that it enters
         apart : (m == c) ≡ false
-        apart = not_true _ (λ x. is_not_true _ fresh (subst (λ (w : ℕ). has (entries s w) t ≡ true) (same_number m c x) (subst (λ (v : ℕ). has (entries s m) v ≡ true) (sym (same_number t u e)) (at-has is_frame (entries s m) u (opens-frame graph s h u m o)))))
+        apart = false_from_ne_true _ (λ x. both_ways _ fresh (subst (λ (w : ℕ). has (entries s w) t ≡ true) (eqb-true m c x) (subst (λ (v : ℕ). has (entries s m) v ≡ true) (sym (eqb-true t u e)) (at-has is_frame (entries s m) u (opens-frame graph s h u m o)))))
 
         other : entries q m ≡ entries s m
         other = ap (λ (x : Cell). x.entries) (cell-other s c m (place_entry s t Mark) apart)
@@ -156,13 +157,13 @@ removed-less n0 n t (edge ∷ os) h = let r = removed-less n0 n t os in grind (a
 -- A run that ends at some call covers no more than one without an end.
 pub removed-any : (test : Run → Bool) → ((r : Run) (z : Option ℕ) → test (record r { ends = z }) ≡ true → test (record r { ends = None }) ≡ true) → (es : List Entry) (os : List OutEdge) (n0 n m : ℕ) → has_node os n0 ≡ true
     → list_any test (runs_in es (remove_first n0 os) n m) ≡ true → list_any test (runs_in es os n m) ≡ true
-removed-any test longer es os n0 n m e h = go (true_or_false (n == n0))
+removed-any test longer es os n0 n m e h = go (cases_Bool (n == n0))
   where
     q : Reading
     q = read_all m es nothing_read
 
     stands : (n == n0) ≡ true → dropper_in es os n ≡ None
-    stands x = let k = subst (λ (w : ℕ). has_node os w ≡ true) (sym (same_number n n0 x)) e in rw (k, dropper_in) refl
+    stands x = let k = subst (λ (w : ℕ). has_node os w ≡ true) (sym (eqb-true n n0 x)) e in rw (k, dropper_in) refl
 
     last : (c : Option Run) (z : Option ℕ) → list_any test (last_run c z) ≡ true → list_any test (last_run c None) ≡ true
     last None z k = k
@@ -272,12 +273,12 @@ ended-spread graph s t h a = spread-kept graph s h q (step-FramesAreOpen graph s
     none (x ∷ xs) n e = absurd (true≢false (sym e))
 
     read : (f : LiveCall → List ℕ) → f (call_or None) ≡ [] → is_empty (f (call s t)) ≡ true → (u n : ℕ) → is_in n (f (call q u)) ≡ is_in n (f (call s u))
-    read f z e u n = go (true_or_false (u == t))
+    read f z e u n = go (cases_Bool (u == t))
       where
         go : ((u == t) ≡ true) ⊎ ((u == t) ≡ false) → is_in n (f (call q u)) ≡ is_in n (f (call s u))
-        go (inl k) = subst (λ (v : ℕ). is_in n (f (call q v)) ≡ is_in n (f (call s v))) (sym (same_number u t k))
+        go (inl k) = subst (λ (v : ℕ). is_in n (f (call q v)) ≡ is_in n (f (call s v))) (sym (eqb-true u t k))
             (ap (λ (o : Option LiveCall). is_in n (f (call_or o))) (without_call-same t s.calls) ∙ ap (is_in n) z ∙ sym (none (f (call s t)) n e))
-        go (inr k) = ap (λ (o : Option LiveCall). is_in n (f (call_or o))) (without_call-other t u s.calls (λ x. is_not_true _ k (equal_test u t x)))
+        go (inr k) = ap (λ (o : Option LiveCall). is_in n (f (call_or o))) (without_call-other t u s.calls (λ x. both_ways _ k (eq-eqb u t x)))
 
 -- A call that begins has no entry, so no run ends at it that covers a call.
 pub begin-FramesSpread : (graph : Graph) (s : Core) (caller : ℕ) (c : Call) → IsLawful graph s → FramesSpread graph (begin graph s caller c)
@@ -291,11 +292,11 @@ begin-FramesSpread graph s caller c h u m n k r = go (begin-call graph s h calle
       where
         cases : ((call_of q.calls z ≡ call_of s.calls z) × ((suc s.begun == z) ≡ false)) ⊎ ((z ≡ suc s.begun) × (call_of q.calls z ≡ Some (new_call graph s caller c))) → live s z ≡ true
         cases (inl e) = ap is_some (sym e.0) ∙ l
-        cases (inr e) = absurd (is_not_true _ (not_begun-entry graph s h j) (subst (λ (v : ℕ). has (entries s j) v ≡ true) e.0 x))
+        cases (inr e) = absurd (both_ways _ (not_begun-entry graph s h j) (subst (λ (v : ℕ). has (entries s j) v ≡ true) e.0 x))
 
     back : reacts graph s u m n ≡ true
     back = same_lists-reacts graph s q (λ j. refl) (λ j. refl) lived u m n r
 
     go : ((call_of q.calls u ≡ call_of s.calls u) × ((suc s.begun == u) ≡ false)) ⊎ ((u ≡ suc s.begun) × (call_of q.calls u ≡ Some (new_call graph s caller c))) → (opens q u n || wants q u n) ≡ true
     go (inl e) = ap (λ (o : Option LiveCall). is_in n (call_or o).open_nodes || is_in n (call_or o).wanted) e.0 ∙ h.frames_spread u m n k back
-    go (inr e) = absurd (is_not_true _ (not_begun-entry graph s h m) (subst (λ (v : ℕ). has (entries s m) v ≡ true) e.0 (at-has is_frame (entries s m) u k)))
+    go (inr e) = absurd (both_ways _ (not_begun-entry graph s h m) (subst (λ (v : ℕ). has (entries s m) v ≡ true) e.0 (at-has is_frame (entries s m) u k)))

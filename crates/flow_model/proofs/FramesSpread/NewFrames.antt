@@ -1,5 +1,6 @@
 -- A node that reacts once a call has its Frame reacted before, or has an out-edge that is active for the call.
 use Rattle.std.proofs.Common.{◌≡◌, ℕ, Bool, true, false, ◌&&◌, ◌||◌, not, ◌==◌, ◌⊎◌, inl, inr, refl, sym, ap, arith, List, [], ◌∷◌, true≢false, ◌∙◌, subst, Option, Some, None}
+use Rattle.std.proofs.lemmas.Bool.{or_cases, or_left, or_right, and_parts, and_from, eqb-true, eq-eqb, both_ways, cases_Bool, true_from_ne_false}
 use Rattle.std.specs.Prelude.{slice_get, is_some}
 use Rattle.std.specs.List.{list_any}
 use Rattle.signal_graph.specs.Graph.{Graph, is_in}
@@ -9,7 +10,6 @@ use Rattle.flow_model.specs.Machine.State.{Core, live, executes, is_framing, ent
 use Rattle.flow_model.specs.Machine.Words.{heads, is_prior}
 use Rattle.flow_model.specs.Kept.Runs.{Run, Reading, read_all, nothing_read, last_run, discovered, runs, is_from, is_until, covers, reacts, settles, IsSettled, by_node}
 use Rattle.flow_model.specs.Kept.Lawful.{IsLawful, IsRunEdge, IsNewEdge, IsKeyOf, picks_last, last_run_of}
-use Rattle.flow_model.proofs.General.Truths.{or_cases, or_left, or_right, and_both, and_make, same_number, equal_test, not_false, is_not_true, true_or_false}
 use Rattle.flow_model.proofs.OneStep.WhoMayStep.{wants-live, opens-live}
 use Rattle.flow_model.proofs.OneList.StatesAndPlaces.{first_open-frame}
 use Rattle.flow_model.proofs.OrderStays.NoFrameBeforeDones.{head-first}
@@ -48,8 +48,8 @@ edge-head graph s h n m u lu nd e = go (h.edges_are_kept.stands n m u e)
     key (Some r) x k = begins r.begins refl k
       where
         begins : (z : Option ℕ) → r.begins ≡ z → IsKeyOf s u (Some (record r { begins = z })) → ⊥
-        begins None y k = is_not_true _ k lu
-        begins (Some b) y k = is_not_true _ nd (subst (λ (v : ℕ). at is_done (entries s n) v ≡ true) (sym k) (run-begins m (entries s n) r b (h.one_entry n) x y).done)
+        begins None y k = both_ways _ k lu
+        begins (Some b) y k = both_ways _ nd (subst (λ (v : ℕ). at is_done (entries s n) v ≡ true) (sym k) (run-begins m (entries s n) r b (h.one_entry n) x y).done)
 
     go : IsRunEdge s n m u ⊎ IsNewEdge s n m u → heads s u n ≡ true
     go (inl k) = absurd (key (last_run_of s n m) refl k.key)
@@ -103,14 +103,14 @@ framed-any graph s h q t m0 w fr m test k = any-parts test es os m0 m ∙ parts 
     new (Some u) e a = cases (has_out os m0 u) refl a
       where
         first : has_out os m0 u ≡ true → first_open es ≡ Some u
-        first x = go (true_or_false (u == t))
+        first x = go (cases_Bool (u == t))
           where
             go : ((u == t) ≡ true) ⊎ ((u == t) ≡ false) → first_open es ≡ Some u
             go (inl y) =
-                let v = same_number u t y in
+                let v = eqb-true u t y in
                 let x2 : has_out os m0 t ≡ true = subst (λ (j : ℕ). has_out os m0 j ≡ true) v x in
                 let f = h.wants_are_free t m0 w in
-                absurd (is_not_true _ f.not_open (heads-opens graph s h t m0 (edge-head graph s h m0 m t (wants-live s t m0 w) f.not_done x2)))
+                absurd (both_ways _ f.not_open (heads-opens graph s h t m0 (edge-head graph s h m0 m t (wants-live s t m0 w) f.not_done x2)))
             go (inr y) =
                 let f = fr.frame_of u (first_open-frame after u fr.one e) y in
                 head-first es u (edge-head graph s h m0 m u (opens-live s u m0 (h.frames_are_open.opens_frames u m0 ∙ f)) (not_both es u f) x)
@@ -128,12 +128,12 @@ framed-any graph s h q t m0 w fr m test k = any-parts test es os m0 m ∙ parts 
         two (inr x) = by_last (same_dropper r0.current refl x)
 
 pub framed-back : (graph : Graph) (s : Core) → IsLawful graph s → (q : Core) (t m0 : ℕ) → wants s t m0 ≡ true → IsFramed graph s q t m0 → (u m n : ℕ) → ((t == u) ≡ false) ⊎ ((m == m0) ≡ false) → reacts graph q u m n ≡ true → reacts graph s u m n ≡ true
-framed-back graph s h q t m0 w fr u m n ne k = reacts-back graph s q u m n (λ a. any-map (covers q m u) (covers s m u) (runs s n m) (fr.back u m n ne) (before (true_or_false (n == m0)) a)) k
+framed-back graph s h q t m0 w fr u m n ne k = reacts-back graph s q u m n (λ a. any-map (covers q m u) (covers s m u) (runs s n m) (fr.back u m n ne) (before (cases_Bool (n == m0)) a)) k
   where
     before : ((n == m0) ≡ true) ⊎ ((n == m0) ≡ false) → list_any (covers q m u) (runs q n m) ≡ true → list_any (covers q m u) (runs s n m) ≡ true
     before (inr x) a = subst (λ (rs : List Run). list_any (covers q m u) rs ≡ true) (same-runs s q n m (fr.other n x) (fr.edges m)) a
     before (inl x) a =
-        let e = same_number n m0 x in
+        let e = eqb-true n m0 x in
         let a1 = subst (λ (os : List OutEdge). list_any (covers q m u) (runs_in (entries q n) os n m) ≡ true) (fr.edges m) a in
         let a2 = subst (λ (j : ℕ). list_any (covers q m u) (runs_in (entries q j) (outs s m) j m) ≡ true) e a1 in
         subst (λ (j : ℕ). list_any (covers q m u) (runs_in (entries s j) (outs s m) j m) ≡ true) (sym e) (framed-any graph s h q t m0 w fr m (covers q m u) a2)
@@ -145,7 +145,7 @@ some-edge [] n h = absurd (true≢false (sym h))
 some-edge (edge ∷ os) n h = go (or_cases _ _ h) (some-edge os n)
   where
     go : ((edge.0 == n) ≡ true) ⊎ (has_node os n ≡ true) → (has_node os n ≡ true → (since : ℕ) × (has_out os n since ≡ true)) → (since : ℕ) × (has_out (edge ∷ os) n since ≡ true)
-    go (inl x) further = (edge.1, or_left _ _ (and_make _ _ x (equal_test edge.1 edge.1 refl)))
+    go (inl x) further = (edge.1, or_left _ _ (and_from _ _ x (eq-eqb edge.1 edge.1 refl)))
     go (inr x) further = let r = further x in (r.0, or_right _ _ r.1)
 
 edge-active : (es : List Entry) (os : List OutEdge) (n since t : ℕ) → has_out os n since ≡ true → is_active es since t ≡ true → is_in n (active_nodes es os t) ≡ true
@@ -161,11 +161,11 @@ edge-active es (edge ∷ os) n since t h k = go (or_cases _ _ h) (edge-active es
     here false e x = absurd (true≢false (sym e))
 
     go : (((edge.0 == n) && (edge.1 == since)) ≡ true) ⊎ (has_out os n since ≡ true) → (has_out os n since ≡ true → is_active es since t ≡ true → is_in n (active_nodes es os t) ≡ true) → is_in n (active_nodes es (edge ∷ os) t) ≡ true
-    go (inl x) further = let p = and_both (edge.0 == n) (edge.1 == since) x in here (is_active es edge.1 t) (subst (λ (z : ℕ). is_active es z t ≡ true) (sym (same_number edge.1 since p.1)) k) p.0
+    go (inl x) further = let p = and_parts (edge.0 == n) (edge.1 == since) x in here (is_active es edge.1 t) (subst (λ (z : ℕ). is_active es z t ≡ true) (sym (eqb-true edge.1 since p.1)) k) p.0
     go (inr x) further = later (is_active es edge.1 t) (further x k)
 
 dropped-settles : (graph : Graph) (s : Core) (z n m : ℕ) → is_prior s z n m ≡ true → heads s z n ≡ true → has_node (outs s m) n ≡ false → settles graph s z m n ≡ true
-dropped-settles graph s z n m p d k = or_left _ _ (or_right _ _ (and_make _ _ p (or_right _ _ (and_make _ _ d (turned _ k)))))
+dropped-settles graph s z n m p d k = or_left _ _ (or_right _ _ (and_from _ _ p (or_right _ _ (and_from _ _ d (turned _ k)))))
   where
     turned : (a : Bool) → a ≡ false → not a ≡ true
     turned a e = grind (arith, e)
@@ -187,11 +187,11 @@ framed-active graph s h q t m0 lt fr n ne k = parts (or_cases _ _ (sym (any-part
     until_at r z e a =
         let c = covers-parts q m0 t r a in
         let b : (live q z && behind (entries q m0) t z) ≡ true = subst (λ (o : Option ℕ). is_until q m0 o t ≡ true) e c.until in
-        let p = and_both (live q z) (behind (entries q m0) t z) b in
+        let p = and_parts (live q z) (behind (entries q m0) t z) b in
         (fr.lives z p.0, p.1)
 
     runs_if : (z : ℕ) → live s z ≡ true → at is_done (entries s n) z ≡ true → executes s z ≡ true
-    runs_if z l d = not_false _ (λ e. is_not_true _ (h.framing_comes_last.no_done z n (let f : is_framing s z ≡ true = grind (arith, e, l) in f)) d)
+    runs_if z l d = true_from_ne_false _ (λ e. both_ways _ (h.framing_comes_last.no_done z n (let f : is_framing s z ≡ true = grind (arith, e, l) in f)) d)
 
     left : IsLeft test m0 (entries s n) → Goal
     left l =
@@ -206,7 +206,7 @@ framed-active graph s h q t m0 lt fr n ne k = parts (or_cases _ _ (sym (any-part
         go x = stands (h.edges_are_kept.stands n m0 x.0 x.1)
           where
             ended_active : live s x.0 ≡ false → is_active (entries q m0) x.0 t ≡ true
-            ended_active d = not_false _ (λ y. fr.ended x.0 d (not_up_to-behind (entries q m0) t x.0 fr.entry y))
+            ended_active d = true_from_ne_false _ (λ y. fr.ended x.0 d (not_up_to-behind (entries q m0) t x.0 fr.entry y))
 
             keyed : (z : Option ℕ) → r.begins ≡ z → IsKeyOf s x.0 (Some (record r { begins = z })) → is_from q m0 z t ≡ true → Goal
             keyed None y w a = edge-active (entries q m0) (outs s m0) n x.0 t x.1 (ended_active w)
@@ -214,7 +214,7 @@ framed-active graph s h q t m0 lt fr n ne k = parts (or_cases _ _ (sym (any-part
 
             stands : IsRunEdge s n m0 x.0 ⊎ IsNewEdge s n m0 x.0 → Goal
             stands (inl w) = keyed r.begins refl (subst (IsKeyOf s x.0) e w.key) f
-            stands (inr w) = absurd (is_not_true _ w.not_picked (sym (seen-all m0 (entries s n)) ∙ ap is_some e))
+            stands (inr w) = absurd (both_ways _ w.not_picked (sym (seen-all m0 (entries s n)) ∙ ap is_some e))
 
     without_edge : (r : Run) → last_run_of s n m0 ≡ Some r → has_node (outs s m0) n ≡ false → test (record r { ends = first_open (entries s n) }) ≡ true → ⊥
     without_edge r e o a =

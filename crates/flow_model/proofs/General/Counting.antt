@@ -1,11 +1,11 @@
 -- A list of different numbers is no longer than one that has them all, and a set of numbers no longer than its range.
 use Rattle.std.proofs.Common.{◌≡◌, ℕ, suc, ◌+◌, ◌<◌, ◌≤◌, Bool, true, false, ◌||◌, ◌==◌, ◌⊎◌, inl, inr, refl, sym, ap, arith, List, [], ◌∷◌, length, filter, if◌then◌else◌, true≢false, ◌∙◌, subst}
+use Rattle.std.proofs.lemmas.Bool.{or_cases, or_left, or_right, eqb-true, eq-eqb, eqb-false, false_from_ne_true, both_ways, cases_Bool}
 use Rattle.std.specs.List.{list_any, AllByRecursion}
 use Rattle.signal_graph.specs.declared.node.Node.{Node}
 use Rattle.signal_graph.specs.Graph.{numbers_from, is_in}
 use Rattle.flow_model.specs.Machine.Sets.{IsSet, take_out}
 use Rattle.flow_model.specs.Kept.Lawful.{AreDistinct}
-use Rattle.flow_model.proofs.General.Truths.{or_cases, or_left, or_right, same_number, equal_test, other_number, not_true, is_not_true, true_or_false}
 use Rattle.flow_model.proofs.OneStep.VersionsStayFresh.{tail-distinct, head-distinct}
 use Rattle.flow_model.proofs.General.Sets.{in-take_out}
 
@@ -20,19 +20,19 @@ some-member test [] h = absurd (true≢false (sym h))
 some-member test (x ∷ xs) h = go (or_cases _ _ h) (some-member test xs)
   where
     go : (test x ≡ true) ⊎ (list_any test xs ≡ true) → (list_any test xs ≡ true → Member test xs) → Member test (x ∷ xs)
-    go (inl e) further = record { it = x; member = or_left _ _ (equal_test x x refl); passes = e }
+    go (inl e) further = record { it = x; member = or_left _ _ (eq-eqb x x refl); passes = e }
     go (inr e) further = let r = further e in record { it = r.it; member = or_right _ _ r.member; passes = r.passes }
 
 pub in-numbers : (k : ℕ) (nodes : List Node) (n : ℕ) → k ≤ n → n < k + length nodes → is_in n (numbers_from k nodes) ≡ true
 in-numbers k [] n a b = absurd (omega (arith, a, b))
-in-numbers k (x ∷ xs) n a b = go (true_or_false (k == n)) (λ (l : k + 1 ≤ n). in-numbers (k + 1) xs n l (omega arith))
+in-numbers k (x ∷ xs) n a b = go (cases_Bool (k == n)) (λ (l : k + 1 ≤ n). in-numbers (k + 1) xs n l (omega arith))
   where
     go : ((k == n) ≡ true) ⊎ ((k == n) ≡ false) → (k + 1 ≤ n → is_in n (numbers_from (k + 1) xs) ≡ true) → ((k == n) || is_in n (numbers_from (k + 1) xs)) ≡ true
     go (inl e) further = or_left _ _ e
-    go (inr e) further = let ne = other_number k n e in or_right _ _ (further (omega (arith, a, ne)))
+    go (inr e) further = let ne = eqb-false k n e in or_right _ _ (further (omega (arith, a, ne)))
 
 -- A list of different numbers is no longer than one that has them all.
-taken-length : (x : ℕ) (ys : List ℕ) → length (take_out x ys) ≤ length ys
+pub taken-length : (x : ℕ) (ys : List ℕ) → length (take_out x ys) ≤ length ys
 taken-length x [] = omega arith
 taken-length x (y ∷ ys) = go (y == x) (taken-length x ys)
   where
@@ -52,13 +52,13 @@ pub no_longer : (xs ys : List ℕ) → AreDistinct xs → ((x : ℕ) → is_in x
 no_longer [] ys d f = omega arith
 no_longer (x ∷ xs) ys d f =
     let r = no_longer xs (take_out x ys) (tail-distinct x xs d) inside in
-    let l = taken-shorter x ys (f x (or_left _ _ (equal_test x x refl))) in
+    let l = taken-shorter x ys (f x (or_left _ _ (eq-eqb x x refl))) in
     omega (arith, r, l)
   where
     inside : (y : ℕ) → is_in y xs ≡ true → is_in y (take_out x ys) ≡ true
     inside y i =
         let a = f y (or_right _ _ i) in
-        let e : (y == x) ≡ false = not_true _ (λ k. is_not_true _ (head-distinct x xs d) (subst (λ (w : ℕ). is_in w xs ≡ true) (same_number y x k) i)) in
+        let e : (y == x) ≡ false = false_from_ne_true _ (λ k. both_ways _ (head-distinct x xs d) (subst (λ (w : ℕ). is_in w xs ≡ true) (eqb-true y x k) i)) in
         in-take_out y x ys ∙ (rw (a, e) refl)
 
 -- ---- sets and filters

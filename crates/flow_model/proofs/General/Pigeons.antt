@@ -1,12 +1,12 @@
 -- Different numbers of a range are no more than the range has, so that a slot is free or all are used.
 use Rattle.std.proofs.Common.{◌≡◌, ℕ, zero, suc, ◌+◌, ◌<◌, ◌≤◌, Bool, true, false, ◌||◌, ◌==◌, ◌⊎◌, ◌≢◌, inl, inr, refl, sym, ap, arith, List, [], ◌∷◌, length, map, true≢false, ◌∙◌, subst, Option, Some}
+use Rattle.std.proofs.lemmas.Bool.{or_left, or_right, eqb-true, eq-eqb, eqb-false, false_from_ne_true, both_ways, cases_Bool}
 use Rattle.std.specs.Prelude.{is_some}
 use Rattle.std.specs.List.{list_any}
 use Rattle.signal_graph.specs.Graph.{is_in}
 use Rattle.flow_model.specs.Machine.State.{LiveCall, call_of, call_or}
 use Rattle.flow_model.specs.Machine.Steps.{uses_slot, free_slot}
 use Rattle.flow_model.specs.Kept.Lawful.{times, AreDistinct}
-use Rattle.flow_model.proofs.General.Truths.{or_left, or_right, same_number, equal_test, other_number, not_true, is_not_true, true_or_false}
 use Rattle.flow_model.proofs.OneStep.VersionsStayFresh.{live-in, tail-distinct, head-distinct, in-times}
 
 -- how often the numbers from one on stand in a list, k of them
@@ -15,17 +15,17 @@ total xs from zero = 0
 total xs from (suc k) = times from xs + total xs (suc from) k
 
 times-cons : (x y : ℕ) (ys : List ℕ) → times x (y ∷ ys) ≡ elim (y == x) as (λ _. ℕ) [ true ↦ suc (times x ys) | false ↦ times x ys ]
-times-cons x y ys = go (true_or_false (y == x))
+times-cons x y ys = go (cases_Bool (y == x))
   where
     go : ((y == x) ≡ true) ⊎ ((y == x) ≡ false) → times x (y ∷ ys) ≡ elim (y == x) as (λ _. ℕ) [ true ↦ suc (times x ys) | false ↦ times x ys ]
     go (inl e) = rw e refl
     go (inr e) = rw e refl
 
 pub times-it : (x y : ℕ) (ys : List ℕ) → y ≡ x → times x (y ∷ ys) ≡ suc (times x ys)
-times-it x y ys e = let k = equal_test y x e in times-cons x y ys ∙ rw k refl
+times-it x y ys e = let k = eq-eqb y x e in times-cons x y ys ∙ rw k refl
 
 pub times-other : (x y : ℕ) (ys : List ℕ) → y ≢ x → times x (y ∷ ys) ≡ times x ys
-times-other x y ys e = let k : (y == x) ≡ false = not_true _ (λ z. e (same_number y x z)) in times-cons x y ys ∙ rw k refl
+times-other x y ys e = let k : (y == x) ≡ false = false_from_ne_true _ (λ z. e (eqb-true y x z)) in times-cons x y ys ∙ rw k refl
 
 total-below : (y : ℕ) (ys : List ℕ) (from k : ℕ) → y < from → total (y ∷ ys) from k ≡ total ys from k
 total-below y ys from zero h = refl
@@ -36,19 +36,19 @@ total-below y ys from (suc k) h =
 
 total-in : (y : ℕ) (ys : List ℕ) (from k : ℕ) → from ≤ y → y < from + k → total (y ∷ ys) from k ≡ suc (total ys from k)
 total-in y ys from zero a b = absurd (omega arith)
-total-in y ys from (suc k) a b = go (true_or_false (y == from)) (λ (p : suc from ≤ y) (q : y < suc from + k). total-in y ys (suc from) k p q)
+total-in y ys from (suc k) a b = go (cases_Bool (y == from)) (λ (p : suc from ≤ y) (q : y < suc from + k). total-in y ys (suc from) k p q)
   where
     go : ((y == from) ≡ true) ⊎ ((y == from) ≡ false) → (suc from ≤ y → y < suc from + k → total (y ∷ ys) (suc from) k ≡ suc (total ys (suc from) k)) → total (y ∷ ys) from (suc k) ≡ suc (total ys from (suc k))
-    go (inl e) further = let q = same_number y from e in let r = total-below y ys (suc from) k (omega (arith, q)) in let t = times-it from y ys q in omega (arith, r, t)
-    go (inr e) further = let q = other_number y from e in let r = further (omega (arith, q)) (omega arith) in let t = times-other from y ys q in omega (arith, r, t)
+    go (inl e) further = let q = eqb-true y from e in let r = total-below y ys (suc from) k (omega (arith, q)) in let t = times-it from y ys q in omega (arith, r, t)
+    go (inr e) further = let q = eqb-false y from e in let r = further (omega (arith, q)) (omega arith) in let t = times-other from y ys q in omega (arith, r, t)
 
 total-most : (y : ℕ) (ys : List ℕ) (from k : ℕ) → total (y ∷ ys) from k ≤ suc (total ys from k)
 total-most y ys from zero = omega arith
-total-most y ys from (suc k) = go (true_or_false (y == from)) (total-most y ys (suc from) k)
+total-most y ys from (suc k) = go (cases_Bool (y == from)) (total-most y ys (suc from) k)
   where
     go : ((y == from) ≡ true) ⊎ ((y == from) ≡ false) → total (y ∷ ys) (suc from) k ≤ suc (total ys (suc from) k) → total (y ∷ ys) from (suc k) ≤ suc (total ys from (suc k))
-    go (inl e) r = let q = same_number y from e in let b = total-below y ys (suc from) k (omega (arith, q)) in let t = times-it from y ys q in omega (arith, b, t)
-    go (inr e) r = let q = other_number y from e in let t = times-other from y ys q in omega (arith, r, t)
+    go (inl e) r = let q = eqb-true y from e in let b = total-below y ys (suc from) k (omega (arith, q)) in let t = times-it from y ys q in omega (arith, b, t)
+    go (inr e) r = let q = eqb-false y from e in let t = times-other from y ys q in omega (arith, r, t)
 
 total-empty : (from k : ℕ) → total [] from k ≡ 0
 total-empty from zero = refl
@@ -61,7 +61,7 @@ total-length (x ∷ xs) from k = let r = total-length xs from k in let m = total
 pub total-all : (xs : List ℕ) (from k : ℕ) → ((x : ℕ) → is_in x xs ≡ true → (from ≤ x) × (x < from + k)) → length xs ≤ total xs from k
 total-all [] from k h = omega arith
 total-all (x ∷ xs) from k h =
-    let i = h x (or_left (x == x) (is_in x xs) (equal_test x x refl)) in
+    let i = h x (or_left (x == x) (is_in x xs) (eq-eqb x x refl)) in
     let r = total-all xs from k (λ y l. h y (or_right _ _ l)) in
     let e = total-in x xs from k i.0 i.1 in
     omega (arith, r, e)
@@ -79,11 +79,11 @@ total-bound xs from (suc k) d = let r = total-bound xs (suc from) k d in let e =
 
 pub total-missing : (xs : List ℕ) (from k c : ℕ) → AreDistinct xs → from ≤ c → c < from + k → times c xs ≡ 0 → suc (total xs from k) ≤ k
 total-missing xs from zero c d a b z = absurd (omega arith)
-total-missing xs from (suc k) c d a b z = go (true_or_false (c == from)) (λ (p : suc from ≤ c) (q : c < suc from + k). total-missing xs (suc from) k c d p q z)
+total-missing xs from (suc k) c d a b z = go (cases_Bool (c == from)) (λ (p : suc from ≤ c) (q : c < suc from + k). total-missing xs (suc from) k c d p q z)
   where
     go : ((c == from) ≡ true) ⊎ ((c == from) ≡ false) → (suc from ≤ c → c < suc from + k → suc (total xs (suc from) k) ≤ k) → suc (total xs from (suc k)) ≤ suc k
-    go (inl e) further = let q = same_number c from e in let t = subst (λ (x : ℕ). times x xs ≡ 0) q z in let r = total-bound xs (suc from) k d in omega (arith, t, r)
-    go (inr e) further = let q = other_number c from e in let r = further (omega (arith, q)) (omega arith) in let o = d from in omega (arith, r, o)
+    go (inl e) further = let q = eqb-true c from e in let t = subst (λ (x : ℕ). times x xs ≡ 0) q z in let r = total-bound xs (suc from) k d in omega (arith, t, r)
+    go (inr e) further = let q = eqb-false c from e in let r = further (omega (arith, q)) (omega arith) in let o = d from in omega (arith, r, o)
 
 -- ---- a field that differs from call to call
 
@@ -97,18 +97,18 @@ pub read-tail : (c : LiveCall) (cs : List LiveCall) (v : ℕ) → AreDistinct (m
 read-tail c cs v d k =
     let n = head-distinct c.version (map (λ (c : LiveCall). c.version) cs) d in
     let i = live-in cs v k in
-    let e : (c.version == v) ≡ false = not_true _ (λ z. is_not_true _ n (subst (λ (w : ℕ). is_in w (map (λ (c : LiveCall). c.version) cs) ≡ true) (sym (same_number c.version v z)) i)) in
+    let e : (c.version == v) ≡ false = false_from_ne_true _ (λ z. both_ways _ n (subst (λ (w : ℕ). is_in w (map (λ (c : LiveCall). c.version) cs) ≡ true) (sym (eqb-true c.version v z)) i)) in
     rw (e, call_of) refl
 
 pub holder : (f : LiveCall → ℕ) (cs : List LiveCall) (x : ℕ) → AreDistinct (map (λ (c : LiveCall). c.version) cs) → is_in x (map f cs) ≡ true → Holder f cs x
 holder f [] x d h = absurd (true≢false (sym h))
-holder f (c ∷ cs) x d h = go (true_or_false (f c == x)) (holder f cs x (tail-distinct c.version (map (λ (c : LiveCall). c.version) cs) d))
+holder f (c ∷ cs) x d h = go (cases_Bool (f c == x)) (holder f cs x (tail-distinct c.version (map (λ (c : LiveCall). c.version) cs) d))
   where
     go : ((f c == x) ≡ true) ⊎ ((f c == x) ≡ false) → (is_in x (map f cs) ≡ true → Holder f cs x) → Holder f (c ∷ cs) x
     go (inl e) further =
-        let w = equal_test c.version c.version refl in
+        let w = eq-eqb c.version c.version refl in
         let r : call_of (c ∷ cs) c.version ≡ Some c = rw (w, call_of) refl in
-        record { version = c.version; known = ap is_some r; value = ap (λ (o : Option LiveCall). f (call_or o)) r ∙ same_number (f c) x e }
+        record { version = c.version; known = ap is_some r; value = ap (λ (o : Option LiveCall). f (call_or o)) r ∙ eqb-true (f c) x e }
     go (inr e) further =
         let p = further (subst (λ (b : Bool). (b || is_in x (map f cs)) ≡ true) e h) in
         let r = read-tail c cs p.version d p.known in
@@ -117,7 +117,7 @@ holder f (c ∷ cs) x d h = go (true_or_false (f c == x)) (holder f cs x (tail-d
 pub field-distinct : (f : LiveCall → ℕ) (cs : List LiveCall) → AreDistinct (map (λ (c : LiveCall). c.version) cs)
     → ((u v : ℕ) → is_some (call_of cs u) ≡ true → is_some (call_of cs v) ≡ true → f (call_or (call_of cs u)) ≡ f (call_or (call_of cs v)) → u ≡ v) → AreDistinct (map f cs)
 field-distinct f [] d h x = omega arith
-field-distinct f (c ∷ cs) d h x = go (true_or_false (f c == x)) (field-distinct f cs (tail-distinct c.version (map (λ (c : LiveCall). c.version) cs) d) apart x)
+field-distinct f (c ∷ cs) d h x = go (cases_Bool (f c == x)) (field-distinct f cs (tail-distinct c.version (map (λ (c : LiveCall). c.version) cs) d) apart x)
   where
     apart : (u v : ℕ) → is_some (call_of cs u) ≡ true → is_some (call_of cs v) ≡ true → f (call_or (call_of cs u)) ≡ f (call_or (call_of cs v)) → u ≡ v
     apart u v k l e =
@@ -128,11 +128,11 @@ field-distinct f (c ∷ cs) d h x = go (true_or_false (f c == x)) (field-distinc
     none : f c ≡ x → is_in x (map f cs) ≡ true → ⊥
     none e i =
         let p = holder f cs x (tail-distinct c.version (map (λ (c : LiveCall). c.version) cs) d) i in
-        let w = equal_test c.version c.version refl in
+        let w = eq-eqb c.version c.version refl in
         let r : call_of (c ∷ cs) c.version ≡ Some c = rw (w, call_of) refl in
         let q = read-tail c cs p.version d p.known in
         let same : c.version ≡ p.version = h c.version p.version (ap is_some r) (ap is_some q ∙ p.known) (ap (λ (o : Option LiveCall). f (call_or o)) r ∙ e ∙ sym (ap (λ (o : Option LiveCall). f (call_or o)) q ∙ p.value)) in
-        is_not_true _ (head-distinct c.version (map (λ (c : LiveCall). c.version) cs) d) (subst (λ (v : ℕ). is_in v (map (λ (c : LiveCall). c.version) cs) ≡ true) (sym same) (live-in cs p.version p.known))
+        both_ways _ (head-distinct c.version (map (λ (c : LiveCall). c.version) cs) d) (subst (λ (v : ℕ). is_in v (map (λ (c : LiveCall). c.version) cs) ≡ true) (sym same) (live-in cs p.version p.known))
 
     zero_times : (n : ℕ) → (1 ≤ n → ⊥) → n ≡ 0
     zero_times zero k = refl
@@ -140,11 +140,11 @@ field-distinct f (c ∷ cs) d h x = go (true_or_false (f c == x)) (field-distinc
 
     go : ((f c == x) ≡ true) ⊎ ((f c == x) ≡ false) → times x (map f cs) ≤ 1 → times x (f c ∷ map f cs) ≤ 1
     go (inl e) r =
-        let q = same_number (f c) x e in
+        let q = eqb-true (f c) x e in
         let z = zero_times (times x (map f cs)) (λ k. none q (in-times x (map f cs) k)) in
         let t = times-it x (f c) (map f cs) q in
         omega (arith, z, t)
-    go (inr e) r = let q = other_number (f c) x e in let t = times-other x (f c) (map f cs) q in omega (arith, r, t)
+    go (inr e) r = let q = eqb-false (f c) x e in let t = times-other x (f c) (map f cs) q in omega (arith, r, t)
 
 -- ---- the free slot
 
@@ -159,13 +159,13 @@ pub record IsFreeSlot (k from : ℕ) (cs : List LiveCall) : Type 0 where
 
 pub find-slot : (k from : ℕ) (cs : List LiveCall) → IsFreeSlot k from cs ⊎ ((x : ℕ) → from ≤ x → x < from + k → uses_slot x cs ≡ true)
 find-slot zero from cs = inr (λ x a b. absurd (omega (arith, a, b)))
-find-slot (suc k) from cs = go (true_or_false (uses_slot from cs)) (find-slot k (suc from) cs)
+find-slot (suc k) from cs = go (cases_Bool (uses_slot from cs)) (find-slot k (suc from) cs)
   where
     go : (uses_slot from cs ≡ true) ⊎ (uses_slot from cs ≡ false) → IsFreeSlot k (suc from) cs ⊎ ((x : ℕ) → suc from ≤ x → x < suc from + k → uses_slot x cs ≡ true) → IsFreeSlot (suc k) from cs ⊎ ((x : ℕ) → from ≤ x → x < from + suc k → uses_slot x cs ≡ true)
     go (inr e) r = inl (record { unused = rw (e, free_slot) e; inside = rw (e, free_slot) (omega arith) })
     go (inl e) (inl r) = let i = r.inside in inl (record { unused = rw (e, free_slot) r.unused; inside = rw (e, free_slot) (omega (arith, i)) })
-    go (inl e) (inr r) = inr (λ x a b. at_or_above x a b (true_or_false (x == from)))
+    go (inl e) (inr r) = inr (λ x a b. at_or_above x a b (cases_Bool (x == from)))
       where
         at_or_above : (x : ℕ) → from ≤ x → x < from + suc k → ((x == from) ≡ true) ⊎ ((x == from) ≡ false) → uses_slot x cs ≡ true
-        at_or_above x a b (inl q) = subst (λ (y : ℕ). uses_slot y cs ≡ true) (sym (same_number x from q)) e
-        at_or_above x a b (inr q) = let ne = other_number x from q in r x (omega (arith, a, ne)) (omega (arith, b))
+        at_or_above x a b (inl q) = subst (λ (y : ℕ). uses_slot y cs ≡ true) (sym (eqb-true x from q)) e
+        at_or_above x a b (inr q) = let ne = eqb-false x from q in r x (omega (arith, a, ne)) (omega (arith, b))

@@ -3,9 +3,9 @@ use Rattle.std.proofs.Common.{◌≡◌, ℕ, Bool, true, false, ◌&&◌, ◌||
 use Rattle.std.specs.Prelude.{nat_lt}
 use Rattle.std.specs.List.{AllByRecursion}
 use Rattle.std.proofs.lemmas.Bool.Decides.{eqb_tells}
+use Rattle.std.proofs.lemmas.Bool.{eqb-true, eqb-false}
 use Rattle.signal_graph.specs.Graph.{is_in}
 use Rattle.flow_model.specs.Machine.Sets.{put, take_out, put_all, without, IsSet}
-use Rattle.flow_model.proofs.General.Truths.{same_number, other_number}
 
 pub in-put : (m n : ℕ) (xs : List ℕ) → is_in m (put n xs) ≡ ((m == n) || is_in m xs)
 in-put m n [] = grind (arith, eqb_tells)
@@ -21,7 +21,7 @@ in-put_all m (n ∷ ns) xs = let r = in-put_all m ns (put n xs) in let p = in-pu
 
 pub in-without : (m : ℕ) (ns xs : List ℕ) → is_in m (without ns xs) ≡ (is_in m ns && not (is_in m xs))
 in-without m [] xs = refl
-in-without m (n ∷ ns) xs = let r = in-without m ns xs in let e = λ (k : (n == m) ≡ true). ap (λ (w : ℕ). is_in w xs) (same_number n m k) in grind (arith, eqb_tells, r, e)
+in-without m (n ∷ ns) xs = let r = in-without m ns xs in let e = λ (k : (n == m) ≡ true). ap (λ (w : ℕ). is_in w xs) (eqb-true n m k) in grind (arith, eqb_tells, r, e)
 
 -- ---- sets stay sets
 
@@ -43,7 +43,7 @@ put-IsSet n [] h = (tt, tt)
 put-IsSet n (y ∷ ys) h = go (y == n) refl (nat_lt n y) refl (put-IsSet n ys h.1)
   where
     above : (y == n) ≡ false → nat_lt n y ≡ false → y < n
-    above e f = let ne = other_number y n e in let l : n < y → ⊥ = λ k. grind (arith, f, k) in between y n ne l
+    above e f = let ne = eqb-false y n e in let l : n < y → ⊥ = λ k. grind (arith, f, k) in between y n ne l
       where
         between : (y n : ℕ) → y ≢ n → (n < y → ⊥) → y < n
         between y n ne l = grind (arith, ne, l)

@@ -1,8 +1,8 @@
 -- Sums over a list rise and fall with their items, and so does the count of the members that pass a test.
 use Rattle.std.proofs.Common.{◌≡◌, ℕ, zero, suc, ◌+◌, ◌*◌, ◌<◌, ◌≤◌, Bool, true, false, ◌==◌, ◌⊎◌, inl, inr, refl, sym, ap, arith, List, [], ◌∷◌, ◌++◌, length, true≢false, ◌∙◌, subst}
 use Rattle.std.proofs.Math.Nat.{suc-mul}
+use Rattle.std.proofs.lemmas.Bool.{or_cases, or_left, or_right, eqb-true, eq-eqb, cases_Bool}
 use Rattle.signal_graph.specs.Graph.{is_in}
-use Rattle.flow_model.proofs.General.Truths.{or_cases, or_left, or_right, same_number, equal_test, true_or_false}
 
 abbrev pub total : {A : Type 0} → (A → ℕ) → List A → ℕ
 total f [] = 0
@@ -16,7 +16,7 @@ pub total-le_in : (f g : ℕ → ℕ) (xs : List ℕ) → ((x : ℕ) → is_in x
 total-le_in f g [] h = omega arith
 total-le_in f g (x ∷ xs) h =
     let r = total-le_in f g xs (λ y k. h y (or_right _ _ k)) in
-    let a = h x (or_left (x == x) (is_in x xs) (equal_test x x refl)) in
+    let a = h x (or_left (x == x) (is_in x xs) (eq-eqb x x refl)) in
     omega (arith, r, a)
 
 -- One item falls by so much, and no item rises.
@@ -25,13 +25,13 @@ total-falls f g k u [] i h d = absurd (true≢false (sym i))
 total-falls f g k u (x ∷ xs) i h d = go (or_cases _ _ i) (total-falls f g k u xs)
   where
     first : f x ≤ g x
-    first = h x (or_left (x == x) (is_in x xs) (equal_test x x refl))
+    first = h x (or_left (x == x) (is_in x xs) (eq-eqb x x refl))
 
     others : total f xs ≤ total g xs
     others = total-le_in f g xs (λ y j. h y (or_right _ _ j))
 
     go : ((x == u) ≡ true) ⊎ (is_in u xs ≡ true) → (is_in u xs ≡ true → ((y : ℕ) → is_in y xs ≡ true → f y ≤ g y) → f u + k ≤ g u → total f xs + k ≤ total g xs) → total f (x ∷ xs) + k ≤ total g (x ∷ xs)
-    go (inl e) further = let d2 = subst (λ (w : ℕ). f w + k ≤ g w) (sym (same_number x u e)) d in let o = others in omega (arith, d2, o)
+    go (inl e) further = let d2 = subst (λ (w : ℕ). f w + k ≤ g w) (sym (eqb-true x u e)) d in let o = others in omega (arith, d2, o)
     go (inr e) further = let r = further e (λ y j. h y (or_right _ _ j)) d in let a = first in omega (arith, r, a)
 
 pub total-add : {A : Type 0} (f g : A → ℕ) (xs : List A) → total (λ (x : A). f x + g x) xs ≡ total f xs + total g xs
@@ -85,10 +85,10 @@ pub record Passes (p : ℕ → Bool) (xs : List ℕ) : Type 0 where
 
 pub count-some : (p : ℕ → Bool) (xs : List ℕ) → (count p xs ≡ 0) ⊎ Passes p xs
 count-some p [] = inl refl
-count-some p (x ∷ xs) = go (true_or_false (p x)) (count-some p xs)
+count-some p (x ∷ xs) = go (cases_Bool (p x)) (count-some p xs)
   where
     go : (p x ≡ true) ⊎ (p x ≡ false) → (count p xs ≡ 0) ⊎ Passes p xs → (count p (x ∷ xs) ≡ 0) ⊎ Passes p (x ∷ xs)
-    go (inl e) r = inr (record { item = x; inside = or_left _ _ (equal_test x x refl); passes = e })
+    go (inl e) r = inr (record { item = x; inside = or_left _ _ (eq-eqb x x refl); passes = e })
     go (inr e) (inl r) = inl (let a = ap bit e in omega (arith, a, r))
     go (inr e) (inr r) = inr (record { item = r.item; inside = or_right _ _ r.inside; passes = r.passes })
 
@@ -100,13 +100,13 @@ up_to (suc n) = n ∷ up_to n
 
 pub in-up_to : (n k : ℕ) → n < k → is_in n (up_to k) ≡ true
 in-up_to n zero h = absurd (omega arith)
-in-up_to n (suc k) h = go (true_or_false (k == n)) (in-up_to n k)
+in-up_to n (suc k) h = go (cases_Bool (k == n)) (in-up_to n k)
   where
     below : (k n : ℕ) → (k == n) ≡ false → n < suc k → n < k
     below k n e l = let ne = other k n e in omega (arith, ne, l)
       where
         other : (k n : ℕ) → (k == n) ≡ false → k ≡ n → ⊥
-        other k n e x = true≢false (sym (equal_test k n x) ∙ e)
+        other k n e x = true≢false (sym (eq-eqb k n x) ∙ e)
 
     go : ((k == n) ≡ true) ⊎ ((k == n) ≡ false) → (n < k → is_in n (up_to k) ≡ true) → is_in n (up_to (suc k)) ≡ true
     go (inl e) further = or_left _ _ e
@@ -117,7 +117,7 @@ up_to-below n zero h = absurd (true≢false (sym h))
 up_to-below n (suc k) h = go (or_cases _ _ h) (up_to-below n k)
   where
     go : ((k == n) ≡ true) ⊎ (is_in n (up_to k) ≡ true) → (is_in n (up_to k) ≡ true → n < k) → n < suc k
-    go (inl e) further = let q = same_number k n e in omega (arith, q)
+    go (inl e) further = let q = eqb-true k n e in omega (arith, q)
     go (inr e) further = let r = further e in omega (arith, r)
 
 pub up_to-length : (k : ℕ) → length (up_to k) ≡ k

@@ -1,6 +1,7 @@
 -- What a call has found at a node is kept until its Done, and the Done until the call has ended.
 -- So the call can evaluate the node, and its body, only once.
 use Rattle.std.proofs.Common.{◌≡◌, ℕ, suc, ◌≤◌, Bool, true, false, ◌&&◌, not, ◌==◌, ◌⊎◌, inl, inr, refl, sym, ap, arith, List, [], ◌∷◌, true≢false, ◌∙◌, subst, Option, Some, None}
+use Rattle.std.proofs.lemmas.Bool.{eqb-true, eq-eqb, both_ways, cases_Bool, true_from_ne_false}
 use Rattle.std.specs.Prelude.{is_some, is_none}
 use Rattle.script_tree.specs.declared.value.Value.{Value}
 use Rattle.signal_graph.specs.declared.call.Call.{Call}
@@ -9,6 +10,7 @@ use Rattle.node_versions.specs.declared.entry.State.{State}
 use Rattle.node_versions.specs.declared.entry.State.TheVariants.{Mark, Frame, Done}
 use Rattle.node_versions.specs.declared.entry.Entry.{Entry}
 use Rattle.node_versions.specs.Entries.{OutEdge, has, at, is_mark, is_frame, is_done, first_open, front, rest, with_state, value_at, value_before, picks_before}
+use Rattle.node_versions.proofs.Places.{at-has}
 use Rattle.flow_model.specs.declared.step.Step.{Step}
 use Rattle.flow_model.specs.declared.step.Step.TheVariants as steps
 use Rattle.flow_model.specs.Machine.State.{Core, Cell, Found, call_of, cell, live, executes, entries, with_cell}
@@ -17,10 +19,9 @@ use Rattle.flow_model.specs.Machine.Changes.{stops, stops_call, new_entry, place
 use Rattle.flow_model.specs.Machine.Steps.{allowed, apply, begin, open_node, gather, keep_found, keep_body, is_change, collect, new_call}
 use Rattle.flow_model.specs.Kept.Lawful.{IsLawful, SomeHead, IsWorking}
 use Rattle.flow_model.proofs.OneStep.SameLengths.{step-begun}
-use Rattle.flow_model.proofs.General.Truths.{same_number, equal_test, not_false, is_not_true, true_or_false}
 use Rattle.flow_model.proofs.OneStep.WhoMayStep.{opens-live, executes-live, at_front-executes, at_front-heads, can_work-at_front, resolve-can_work, evaluate-at_front, body-at_front}
 use Rattle.flow_model.proofs.OneList.InOrder.{front-rest}
-use Rattle.flow_model.proofs.OneList.StatesAndPlaces.{at-has, with_state-at}
+use Rattle.flow_model.proofs.OneList.StatesAndPlaces.{with_state-at}
 use Rattle.flow_model.proofs.OneList.OneEntryACall.{placed-at_other, collected-at_live}
 use Rattle.flow_model.proofs.OneList.Entering.{with_cell-cell}
 use Rattle.flow_model.proofs.OneStep.ChangesOfOneList.{ListStep, stays, marks, frames, raises, finishes, collects, same_cell, step-list}
@@ -42,7 +43,7 @@ pub heads-entry : (graph : Graph) (s : Core) → IsLawful graph s → (t n : ℕ
 heads-entry graph s h t n k = at-has is_frame (entries s n) t (opens-frame graph s h t n (heads-opens graph s h t n k))
 
 done-now : (es : List Entry) (t : ℕ) (v : Value) (c : Bool) (ps : List (Option ℕ)) → has es t ≡ true → at is_done (with_state t (Done v c ps) es) t ≡ true
-done-now es t v c ps k = let w = with_state-at is_done t (Done v c ps) es t in let e = equal_test t t refl in shown (t == t) (has es t) _ _ w e k
+done-now es t v c ps k = let w = with_state-at is_done t (Done v c ps) es t in let e = eq-eqb t t refl in shown (t == t) (has es t) _ _ w e k
   where
     shown : (x c a b : Bool) → a ≡ elim x as (λ _. Bool) [ true ↦ c && true | false ↦ b ] → x ≡ true → c ≡ true → a ≡ true
     shown x c a b h j i = grind (arith, h, j, i)
@@ -63,7 +64,7 @@ list-head graph s h n t hd x es (finishes u v c ps f e) =
 list-head graph s h n t hd x es (collects e) = inl (ap first_open e ∙ collected-first_open (λ v. not (live s v)) (entries s n) (h.one_entry n) no_frame ∙ head-first (entries s n) t hd)
   where
     no_frame : (u : ℕ) → at is_frame (entries s n) u ≡ true → not (live s u) ≡ false
-    no_frame u f = ap not (not_false (live s u) (λ d. is_not_true _ (h.ended_is_prefix.no_frame n u d) f))
+    no_frame u f = ap not (true_from_ne_false (live s u) (λ d. both_ways _ (h.ended_is_prefix.no_frame n u d) f))
 
 -- A live call's Done stays.
 mark-no_done : (es : List Entry) (t : ℕ) → at is_mark es t ≡ true → at is_done es t ≡ false
@@ -78,18 +79,18 @@ mark-no_done (e ∷ es) t h = let r = mark-no_done es t in let s = one e.state i
 list-done : (graph : Graph) (s : Core) → IsLawful graph s → (n t : ℕ) → live s t ≡ true → at is_done (entries s n) t ≡ true → (es : List Entry) → ListStep graph s n es → at is_done es t ≡ true
 list-done graph s h n t l d es (stays e) = ap (λ (xs : List Entry). at is_done xs t) e ∙ d
 list-done graph s h n t l d es (marks u x fresh r e) = ap (λ (xs : List Entry). at is_done xs t) e
-    ∙ placed-at_other is_done (stops_call s u) (new_entry s u Mark) (entries s n) t (λ z. is_not_true _ fresh (subst (λ (v : ℕ). has (entries s n) v ≡ true) z (at-has is_done (entries s n) t d))) ∙ d
+    ∙ placed-at_other is_done (stops_call s u) (new_entry s u Mark) (entries s n) t (λ z. both_ways _ fresh (subst (λ (v : ℕ). has (entries s n) v ≡ true) z (at-has is_done (entries s n) t d))) ∙ d
 list-done graph s h n t l d es (frames u w fresh r e) = ap (λ (xs : List Entry). at is_done xs t) e
-    ∙ placed-at_other is_done (stops_call s u) (new_entry s u Frame) (entries s n) t (λ z. is_not_true _ fresh (subst (λ (v : ℕ). has (entries s n) v ≡ true) z (at-has is_done (entries s n) t d))) ∙ d
-list-done graph s h n t l d es (raises u w m e) = ap (λ (xs : List Entry). at is_done xs t) e ∙ go (true_or_false (t == u)) (with_state-at is_done u Frame (entries s n) t)
+    ∙ placed-at_other is_done (stops_call s u) (new_entry s u Frame) (entries s n) t (λ z. both_ways _ fresh (subst (λ (v : ℕ). has (entries s n) v ≡ true) z (at-has is_done (entries s n) t d))) ∙ d
+list-done graph s h n t l d es (raises u w m e) = ap (λ (xs : List Entry). at is_done xs t) e ∙ go (cases_Bool (t == u)) (with_state-at is_done u Frame (entries s n) t)
   where
     go : ((t == u) ≡ true) ⊎ ((t == u) ≡ false) → at is_done (with_state u Frame (entries s n)) t ≡ elim (t == u) as (λ _. Bool) [ true ↦ has (entries s n) u && false | false ↦ at is_done (entries s n) t ] → at is_done (with_state u Frame (entries s n)) t ≡ true
-    go (inl x) k = absurd (is_not_true _ (mark-no_done (entries s n) u m) (subst (λ (v : ℕ). at is_done (entries s n) v ≡ true) (same_number t u x) d))
+    go (inl x) k = absurd (both_ways _ (mark-no_done (entries s n) u m) (subst (λ (v : ℕ). at is_done (entries s n) v ≡ true) (eqb-true t u x) d))
     go (inr x) k = rw x at k ∙ d
-list-done graph s h n t l d es (finishes u v c ps f e) = ap (λ (xs : List Entry). at is_done xs t) e ∙ go (true_or_false (t == u)) (with_state-at is_done u (Done v c ps) (entries s n) t)
+list-done graph s h n t l d es (finishes u v c ps f e) = ap (λ (xs : List Entry). at is_done xs t) e ∙ go (cases_Bool (t == u)) (with_state-at is_done u (Done v c ps) (entries s n) t)
   where
     go : ((t == u) ≡ true) ⊎ ((t == u) ≡ false) → at is_done (with_state u (Done v c ps) (entries s n)) t ≡ elim (t == u) as (λ _. Bool) [ true ↦ has (entries s n) u && true | false ↦ at is_done (entries s n) t ] → at is_done (with_state u (Done v c ps) (entries s n)) t ≡ true
-    go (inl x) k = subst (λ (w : ℕ). at is_done (with_state u (Done v c ps) (entries s n)) w ≡ true) (sym (same_number t u x)) (done-now (entries s n) u v c ps (heads-entry graph s h u n (at_front-heads graph s u n f)))
+    go (inl x) k = subst (λ (w : ℕ). at is_done (with_state u (Done v c ps) (entries s n)) w ≡ true) (sym (eqb-true t u x)) (done-now (entries s n) u v c ps (heads-entry graph s h u n (at_front-heads graph s u n f)))
     go (inr x) k = rw x at k ∙ d
 list-done graph s h n t l d es (collects e) = ap (λ (xs : List Entry). at is_done xs t) e ∙ collected-at_live is_done (λ v. not (live s v)) (entries s n) t (ap not l) ∙ d
 
@@ -137,7 +138,7 @@ step-kept graph kept w s h (steps.Skip t m) a n k = inl (cell-kept kept s m (set
 step-kept graph kept w s h (steps.Gather t m i) a n k = inl (cell-kept kept s m (gather i (value_at (entries s i) t)) (λ c j. w.gathers c i (value_at (entries s i) t) j) n k)
 step-kept graph kept w s h (steps.Evaluate t m) a n k = inl (cell-kept kept s m (keep_found (found_now graph s t m)) (λ c j. w.finds c (found_now graph s t m) j) n k)
 step-kept graph kept w s h (steps.Body t m) a n k = inl (cell-kept kept s m (keep_body (body_now graph s m)) (λ c j. w.bodies c (body_now graph s m) j) n k)
-step-kept graph kept w s h (steps.Resolve t m) a n k = cases (true_or_false (n == m))
+step-kept graph kept w s h (steps.Resolve t m) a n k = cases (cases_Bool (n == m))
   where
     x : State
     x = Done (value_now graph s t m) (is_change graph s t m) (found_picks s m)
@@ -153,7 +154,7 @@ step-kept graph kept w s h (steps.Resolve t m) a n k = cases (true_or_false (n =
         ∙ done-now (entries s m) t (value_now graph s t m) (is_change graph s t m) (found_picks s m) (heads-entry graph s h t m hd)
 
     cases : ((n == m) ≡ true) ⊎ ((n == m) ≡ false) → (kept (cell (apply graph s (steps.Resolve t m)) n) ≡ true) ⊎ IsResolved s (apply graph s (steps.Resolve t m)) n
-    cases (inl e) = inr (subst (IsResolved s (apply graph s (steps.Resolve t m))) (sym (same_number n m e)) (record { call = t; first = hd; done = done }))
+    cases (inl e) = inr (subst (IsResolved s (apply graph s (steps.Resolve t m))) (sym (eqb-true n m e)) (record { call = t; first = hd; done = done }))
     cases (inr e) = inl (ap kept (cell-other fin m n cleared e) ∙ ap kept (cell-other s m n (set_state t x) e) ∙ k)
 step-kept graph kept w s h (steps.Discover t m c) a n k = inl (cell-kept kept (ensure_mark s t c) c (add_edge m t) (λ d j. w.edges d _ ∙ j) n (ensured-kept graph kept w s t c n k))
 step-kept graph kept w s h (steps.Drop t m o) a n k = inl (cell-kept kept (ensure_mark s t o) o (drop_edge m) (λ d j. w.edges d _ ∙ j) n (ensured-kept graph kept w s t o n k))
@@ -171,7 +172,7 @@ pub data HasWorked (kept : Cell → Bool) (s : Core) (t n : ℕ) : Type 0 where
   by_end : live s t ≡ false → t ≤ s.begun → HasWorked kept s t n
 
 pub step-worked : (graph : Graph) (kept : Cell → Bool) → IsKeptWork graph kept → (s : Core) → IsLawful graph s → (step : Step) → allowed graph s step ≡ true → (t n : ℕ) → HasWorked kept s t n → HasWorked kept (apply graph s step) t n
-step-worked graph kept w s h step a t n k = go (true_or_false (live q t)) k
+step-worked graph kept w s h step a t n k = go (cases_Bool (live q t)) k
   where
     q : Core
     q = apply graph s step
@@ -193,7 +194,7 @@ step-worked graph kept w s h step a t n k = go (true_or_false (live q t)) k
 
         cases : (first_open (entries q n) ≡ Some t) ⊎ (at is_done (entries q n) t ≡ true) → (kept (cell q n) ≡ true) ⊎ IsResolved s q n → HasWorked kept q t n
         cases (inr d) y = by_done lq d
-        cases (inl f) (inl y) = by_work (ap (λ (o : Option ℕ). is_some_of o t) f ∙ equal_test t t refl) y
+        cases (inl f) (inl y) = by_work (ap (λ (o : Option ℕ). is_some_of o t) f ∙ eq-eqb t t refl) y
         cases (inl f) (inr r) = by_done lq (subst (λ (v : ℕ). at is_done (entries q n) v ≡ true) (heads-same s t r.call n hd r.first) r.done)
 
     go : (live q t ≡ true) ⊎ (live q t ≡ false) → HasWorked kept s t n → HasWorked kept q t n
@@ -218,15 +219,15 @@ begin-worked graph kept s h caller c t n k = go (begin-call graph s h caller c t
     go : Began → HasWorked kept s t n → HasWorked kept q t n
     go e (by_work hd x) = by_work hd x
     go (inl e) (by_done l d) = by_done (ap is_some e.0 ∙ l) d
-    go (inr e) (by_done l d) = absurd (is_not_true _ (not_begun-live s h.versions_are_fresh) (subst (λ (v : ℕ). live s v ≡ true) e.0 l))
+    go (inr e) (by_done l d) = absurd (both_ways _ (not_begun-live s h.versions_are_fresh) (subst (λ (v : ℕ). live s v ≡ true) e.0 l))
     go (inl e) (by_end l b) = by_end (ap is_some e.0 ∙ l) (more t s.begun (suc s.begun) b refl)
     go (inr e) (by_end l b) = absurd (let x = e.0 in omega (arith, x, b))
 
 -- Such a call is not the first open one without its work.
 pub worked-kept : (graph : Graph) (kept : Cell → Bool) (s : Core) → IsLawful graph s → (t n : ℕ) → HasWorked kept s t n → at_front graph s t n ≡ true → kept (cell s n) ≡ true
 worked-kept graph kept s h t n (by_work hd x) f = x
-worked-kept graph kept s h t n (by_end l b) f = absurd (is_not_true _ l (executes-live s t (at_front-executes graph s t n f)))
-worked-kept graph kept s h t n (by_done l d) f = absurd (is_not_true _ (not_both (entries s n) t (opens-frame graph s h t n (heads-opens graph s h t n (at_front-heads graph s t n f)))) d)
+worked-kept graph kept s h t n (by_end l b) f = absurd (both_ways _ l (executes-live s t (at_front-executes graph s t n f)))
+worked-kept graph kept s h t n (by_done l d) f = absurd (both_ways _ (not_both (entries s n) t (opens-frame graph s h t n (heads-opens graph s h t n (at_front-heads graph s t n f)))) d)
 
 -- ---- evaluations and bodies
 

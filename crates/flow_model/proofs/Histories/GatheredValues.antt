@@ -1,9 +1,11 @@
 -- Each value that a call has gathered is, when it ends, the node's value after the call in the log.
 -- It is kept at the node until the call is Done there, and from then on the Done rests on it.
 use Rattle.std.proofs.Common.{◌≡◌, ℕ, suc, ◌<◌, ◌≤◌, Bool, true, false, ◌&&◌, ◌||◌, not, ◌==◌, ◌⊎◌, inl, inr, refl, sym, ap, arith, List, [], ◌∷◌, ◌++◌, length, ◌∙◌, subst, Option, Some}
+use Rattle.std.proofs.lemmas.Bool.{or_left, or_right, and_from, eq-eqb, both_ways, cases_Bool, not-true}
 use Rattle.std.specs.Prelude.{is_some}
 use Rattle.std.specs.List.{list_any}
 use Rattle.script_tree.specs.declared.value.Value.{Value}
+use Rattle.script_tree.proofs.Truths.{and_left, and_right}
 use Rattle.signal_graph.specs.declared.call.Call.{Call}
 use Rattle.signal_graph.specs.Graph.{Graph, IsGraph, is_in, is_source, node_at, inputs_of}
 use Rattle.signal_graph.specs.Values.{Values, val, nodes_in}
@@ -19,8 +21,7 @@ use Rattle.flow_model.specs.Machine.Steps.{allowed, apply, begin, gather, new_ca
 use Rattle.flow_model.specs.Kept.Runs.{was_due, picks_it, IsSettled, by_node}
 use Rattle.flow_model.specs.Kept.Lawful.{IsLawful, IsWorking, value_for}
 use Rattle.flow_model.specs.Machine.Histories.{Move, Begin, Make, may, after_move, after_moves, may_all, state, is_history, HasGathered}
-use Rattle.flow_model.proofs.General.Truths.{or_left, or_right, and_make, equal_test, is_not_true, true_or_false}
-use Rattle.flow_model.proofs.OneStep.WhoMayStep.{and_left, and_right, not_is, opens-live, executes-live, gather-due, due-can_work, can_work-at_front, at_front-heads}
+use Rattle.flow_model.proofs.OneStep.WhoMayStep.{opens-live, executes-live, gather-due, due-can_work, can_work-at_front, at_front-heads}
 use Rattle.flow_model.proofs.OneStep.ChangesOfOneList.{same_cell, step-list}
 use Rattle.flow_model.proofs.OneStep.SameLengths.{step-begun}
 use Rattle.flow_model.proofs.OneStep.WhoLivesAndFrames.{step-phases, phase-ended}
@@ -68,7 +69,7 @@ resolved-read : (graph : Graph) → IsGraph graph → (s : Core) → IsLawful gr
     → v ≡ value_for (apply graph s (steps.Resolve t n)) t m → HasRead graph (apply graph s (steps.Resolve t n)) t n m v
 resolved-read graph g s h t n m v a l hd k e =
     let r = resolve-finished graph g s t n h a in
-    by_due l (and_make _ _ r.done (r.due ∙ (working graph s h t n m hd k).changed)) (subst (λ (ps : List (Option ℕ)). (is_in m (inputs_of (node_at graph n)) || is_in m (nodes_in ps)) ≡ true) (sym picks) (h.work_is_kept.gathers_right n m k)) e
+    by_due l (and_from _ _ r.done (r.due ∙ (working graph s h t n m hd k).changed)) (subst (λ (ps : List (Option ℕ)). (is_in m (inputs_of (node_at graph n)) || is_in m (nodes_in ps)) ≡ true) (sym picks) (h.work_is_kept.gathers_right n m k)) e
   where
     ht : has (entries s n) t ≡ true
     ht = heads-entry graph s h t n hd
@@ -93,7 +94,7 @@ finished-read graph g s h t n m v hd k (steps.Resolve u i) a l e f = as_node i f
         (as_call u f.0 (subst (λ (x : ℕ). allowed graph s (steps.Resolve u x) ≡ true) (sym w) b) (subst (λ (x : ℕ). live (apply graph s (steps.Resolve u x)) t ≡ true) (sym w) c)
         (subst (λ (x : ℕ). v ≡ value_for (apply graph s (steps.Resolve u x)) t m) (sym w) d))
 finished-read graph g s h t n m v hd k (steps.Skip u i) a l e f =
-    absurd (is_not_true (touched graph s u i) (not_is _ (and_right _ _ (and_left _ _ a))) (subst (λ (j : ℕ). touched graph s u j ≡ true) f.1 (subst (λ (j : ℕ). touched graph s j n ≡ true) f.0 (working graph s h t n m hd k).changed)))
+    absurd (both_ways (touched graph s u i) (not-true _ (and_right _ _ (and_left _ _ a))) (subst (λ (j : ℕ). touched graph s u j ≡ true) f.1 (subst (λ (j : ℕ). touched graph s j n ≡ true) f.0 (working graph s h t n m hd k).changed)))
 finished-read graph g s h t n m v hd k (steps.Frame u i) a l e f = absurd f
 finished-read graph g s h t n m v hd k (steps.Start u) a l e f = absurd f
 finished-read graph g s h t n m v hd k (steps.Gather u i j) a l e f = absurd f
@@ -109,7 +110,7 @@ finished-read graph g s h t n m v hd k (steps.Collect i) a l e f = absurd f
 -- ---- each step and each beginning
 
 step-read : (graph : Graph) → IsGraph graph → (s : Core) → IsLawful graph s → (step : Step) → allowed graph s step ≡ true → (t n m : ℕ) (v : Value) → HasRead graph s t n m v → HasRead graph (apply graph s step) t n m v
-step-read graph g s h step a t n m v r = go (true_or_false (live q t)) r
+step-read graph g s h step a t n m v r = go (cases_Bool (live q t)) r
   where
     q : Core
     q = apply graph s step
@@ -124,10 +125,10 @@ step-read graph g s h step a t n m v r = go (true_or_false (live q t)) r
     stays hd k e o = cases (list-head graph s h n t hd (working graph s h t n m hd k).executing (entries q n) (step-list graph s step h a n)) (step-kept graph (λ c. is_some (gathered_of m c.gathered)) (gathered-work graph m) s h step a n k)
       where
         no_done : at is_done (entries q n) t ≡ true → ⊥
-        no_done d = is_not_true _ (not_both (entries q n) t (sym ((step-FramesAreOpen graph s step h a).opens_frames t n) ∙ o)) d
+        no_done d = both_ways _ (not_both (entries q n) t (sym ((step-FramesAreOpen graph s step h a).opens_frames t n) ∙ o)) d
 
         cases : (first_open (entries q n) ≡ Some t) ⊎ (at is_done (entries q n) t ≡ true) → (is_gathered q n m ≡ true) ⊎ IsResolved s q n → HasRead graph q t n m v
-        cases (inl f) (inl x) = by_gather (ap (λ (z : Option ℕ). is_some_of z t) f ∙ equal_test t t refl) x e
+        cases (inl f) (inl x) = by_gather (ap (λ (z : Option ℕ). is_some_of z t) f ∙ eq-eqb t t refl) x e
         cases (inl f) (inr x) = absurd (no_done (subst (λ (j : ℕ). at is_done (entries q n) j ≡ true) (heads-same s t x.call n hd x.first) x.done))
         cases (inr d) x = absurd (no_done d)
 
@@ -135,7 +136,7 @@ step-read graph g s h step a t n m v r = go (true_or_false (live q t)) r
     gathered l hd k e = cases (open-stays graph s step h a t n (heads-opens graph s h t n hd))
       where
         now : v ≡ value_for q t m
-        now = e ∙ sym (settled-value graph s step h a t m (opens-live s t n (heads-opens graph s h t n hd)) (by_node n (or_left _ _ (or_left _ _ (and_make _ _ hd k)))))
+        now = e ∙ sym (settled-value graph s step h a t m (opens-live s t n (heads-opens graph s h t n hd)) (by_node n (or_left _ _ (or_left _ _ (and_from _ _ hd k)))))
 
         cases : (opens q t n ≡ true) ⊎ Finishes step t n → HasRead graph q t n m v
         cases (inl o) = stays hd k now o
@@ -144,10 +145,10 @@ step-read graph g s h step a t n m v r = go (true_or_false (live q t)) r
     due : live q t ≡ true → live s t ≡ true → was_due graph s t n ≡ true → (is_in m (inputs_of (node_at graph n)) || picks_it s t n m) ≡ true → v ≡ value_for s t m → HasRead graph q t n m v
     due l ls d k e =
         let done = and_left (at is_done (entries s n) t) (touched graph s t n) d in
-        by_due l (and_make _ _ (shown-kept graph g s step h a t n l done is_done ∙ done) (touched-kept graph g s step h a t n l done ∙ and_right (at is_done (entries s n) t) (touched graph s t n) d))
+        by_due l (and_from _ _ (shown-kept graph g s step h a t n l done is_done ∙ done) (touched-kept graph g s step h a t n l done ∙ and_right (at is_done (entries s n) t) (touched graph s t n) d))
         (subst (λ (ps : List (Option ℕ)). (is_in m (inputs_of (node_at graph n)) || is_in m (nodes_in ps)) ≡ true)
         (sym (ap (λ (o : Option Entry). picks_of (state_of o)) (kept-up_to graph s h n t ls (done-unblocked graph s h t n done) (done-no_frame (entries s n) t done) (entries q n) (step-list graph s step h a n)))) k)
-        (e ∙ sym (settled-value graph s step h a t m ls (by_node n (or_right _ _ (and_make _ _ d k)))))
+        (e ∙ sym (settled-value graph s step h a t m ls (by_node n (or_right _ _ (and_from _ _ d k)))))
 
     go : (live q t ≡ true) ⊎ (live q t ≡ false) → HasRead graph s t n m v → HasRead graph q t n m v
     go x (by_end l b) = ended (phase-ended s q (step-phases graph s step a) t l) b
@@ -170,8 +171,8 @@ begin-read graph s h caller c t n m v r = go (begin-call graph s h caller c t) r
 
     go : Began → HasRead graph s t n m v → HasRead graph q t n m v
     go e (by_gather hd k x) = by_gather hd k x
-    go (inl e) (by_due l d k x) = by_due (ap is_some e.0 ∙ l) (and_make _ _ (and_left _ _ d) (ap (λ (o : Option LiveCall). not (is_source (node_at graph n)) && list_any (λ i. is_in i (call_or o).changed) (deps graph s t n)) e.0 ∙ and_right _ _ d)) k x
-    go (inr e) (by_due l d k x) = absurd (is_not_true _ (not_begun-live s h.versions_are_fresh) (subst (λ (j : ℕ). live s j ≡ true) e.0 l))
+    go (inl e) (by_due l d k x) = by_due (ap is_some e.0 ∙ l) (and_from _ _ (and_left _ _ d) (ap (λ (o : Option LiveCall). not (is_source (node_at graph n)) && list_any (λ i. is_in i (call_or o).changed) (deps graph s t n)) e.0 ∙ and_right _ _ d)) k x
+    go (inr e) (by_due l d k x) = absurd (both_ways _ (not_begun-live s h.versions_are_fresh) (subst (λ (j : ℕ). live s j ≡ true) e.0 l))
     go (inl e) (by_end l b) = by_end (ap is_some e.0 ∙ l) (more t s.begun (suc s.begun) b refl)
     go (inr e) (by_end l b) = absurd (let x = e.0 in omega (arith, x, b))
 
@@ -191,7 +192,7 @@ gathers-read graph s h t n m a = by_gather (ap (λ (es : List Entry). is_some_of
     hd = at_front-heads graph s t n (can_work-at_front graph s t n (due-can_work graph s t n (gather-due graph s t n m a)))
 
     last : (xs : List (ℕ × Value)) → is_some (gathered_of m (xs ++ (m, value_at (entries s m) t) ∷ [])) ≡ true
-    last [] = let e = equal_test m m refl in rw (e, gathered_of) refl
+    last [] = let e = eq-eqb m m refl in rw (e, gathered_of) refl
     last (x ∷ xs) = go (x.0 == m) (last xs)
       where
         go : (b : Bool) → is_some (gathered_of m (xs ++ (m, value_at (entries s m) t) ∷ [])) ≡ true → is_some (elim b as (λ _. Option Value) [ true ↦ Some x.1 | false ↦ gathered_of m (xs ++ (m, value_at (entries s m) t) ∷ []) ]) ≡ true
@@ -217,9 +218,9 @@ end-read graph g laws s h t n m v a r = go r
         e ∙ reads-new graph g laws s h t a m there ∙ (end-right graph g laws s h t a m i).0 ∙ ap (λ (vs : Values). val graph vs m) (sym (next-log graph g laws s h t a))
 
     go : HasRead graph s t n m v → v ≡ val graph (state_after graph (apply graph s (steps.End t)).log) m
-    go (by_gather hd k e) = settled (by_node n (or_left _ _ (or_left _ _ (and_make _ _ hd k)))) e
-    go (by_due l d k e) = settled (by_node n (or_right _ _ (and_make _ _ d k))) e
-    go (by_end l b) = absurd (is_not_true _ l lt)
+    go (by_gather hd k e) = settled (by_node n (or_left _ _ (or_left _ _ (and_from _ _ hd k)))) e
+    go (by_due l d k e) = settled (by_node n (or_right _ _ (and_from _ _ d k))) e
+    go (by_end l b) = absurd (both_ways _ l lt)
 
 pub gathered-right : (graph : Graph) → IsGraph graph → MachineLaws graph → KeepsLawful graph → (callers limit : ℕ) (moves : List Move) (t n m : ℕ) (v : Value) → is_history graph callers limit (moves ++ Make (steps.End t) ∷ []) ≡ true → HasGathered graph callers limit moves t n m v
     → v ≡ val graph (state_after graph (state graph callers limit (moves ++ Make (steps.End t) ∷ [])).log) m

@@ -1,15 +1,14 @@
 -- Where no call is live, each list has entries of ended calls alone, and its last Done is the one-thread machine's after the log.
-use Rattle.std.proofs.Common.{◌≡◌, ℕ, suc, ◌+◌, ◌<◌, true, false, refl, sym, ap, ap₂, arith, List, [], ◌∷◌, ◌++◌, map, length, ◌∙◌}
+use Rattle.std.proofs.Common.{◌≡◌, ℕ, suc, ◌+◌, ◌<◌, true, false, refl, sym, ap, ap₂, arith, List, [], ◌∷◌, map, length, ◌∙◌}
 use Rattle.std.specs.Prelude.{is_some}
 use Rattle.std.specs.Prelude.{filter, slice_index_or}
-use Rattle.std.proofs.lemmas.List.{length-append}
 use Rattle.script_tree.specs.declared.value.Value.{Value}
 use Rattle.script_tree.specs.declared.value.Value.TheVariants.{Fault as Faulty}
 use Rattle.script_tree.specs.declared.value.Fault.TheVariants.{NoChoice}
-use Rattle.signal_graph.specs.declared.node.Node.{Node}
 use Rattle.signal_graph.specs.Graph.{Graph, IsGraph}
-use Rattle.signal_graph.specs.Values.{Values, at, node_value, values_from, picks}
+use Rattle.signal_graph.specs.Values.{picks}
 use Rattle.signal_graph.specs.Legal.{state_after, finals}
+use Rattle.signal_graph.proofs.Values.{length-values_from}
 use Rattle.node_versions.specs.declared.entry.Entry.{Entry}
 use Rattle.node_versions.specs.Entries.{last_done, state_of, value_of, picks_of, ended_len}
 use Rattle.flow_model.specs.Machine.State.{Core, Cell, LiveCall, call_of, live, ended, entries, no_cell}
@@ -34,14 +33,6 @@ all-ended_len s none n = go (entries s n)
     go (e ∷ es) = let r = go es in let l = none-live s none e.version in grind (arith, r, l)
 
 -- ---- the values
-
-length-values_from : (nodes : List Node) (earlier kept : Values) → length (values_from earlier nodes kept) ≡ length earlier + length nodes
-length-values_from [] earlier kept = omega arith
-length-values_from (node ∷ rest) earlier kept =
-    let v = node_value node (at kept (length earlier)) earlier in
-    let r = length-values_from rest (earlier ++ v ∷ []) kept in
-    let l = length-append earlier (v ∷ []) in
-    omega (arith, r, l)
 
 same-list : (f : Cell → Value) (d : Value) (cs : List Cell) (vs : List Value) → length cs ≡ length vs → ((n : ℕ) → n < length cs → f (slice_index_or cs n no_cell) ≡ slice_index_or vs n d) → map f cs ≡ vs
 same-list f d [] [] l h = refl

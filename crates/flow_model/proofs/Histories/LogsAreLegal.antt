@@ -1,10 +1,9 @@
 -- Each step keeps the log legal, so the log of every history is.
-use Rattle.std.proofs.Common.{◌≡◌, ℕ, true, sym, List, [], ◌∷◌, ◌++◌, subst}
-use Rattle.signal_graph.specs.declared.log.Logged.{Logged}
+use Rattle.std.proofs.Common.{◌≡◌, ℕ, true, sym, List, subst}
 use Rattle.signal_graph.specs.Graph.{Graph, IsGraph}
-use Rattle.signal_graph.specs.Values.{Values, start}
-use Rattle.signal_graph.specs.Machine.{after, reply}
-use Rattle.signal_graph.specs.Legal.{Legal, LegalFrom, state_from}
+use Rattle.signal_graph.specs.Values.{start}
+use Rattle.signal_graph.specs.Legal.{Legal}
+use Rattle.signal_graph.proofs.LegalLogs.{legal_more}
 use Rattle.flow_model.specs.declared.step.Step.{Step}
 use Rattle.flow_model.specs.declared.step.Step.TheVariants as steps
 use Rattle.flow_model.specs.Machine.State.{Core, call, opening}
@@ -19,10 +18,6 @@ use Rattle.flow_model.proofs.Histories.Moves.{KeepsLawful, moves-reach}
 
 -- ---- the log
 
-legal-more : (graph : Graph) (kept : Values) (log : List Logged) (x : Logged) → LegalFrom graph kept log → x.reply ≡ reply graph (state_from graph kept log) x.call → LegalFrom graph kept (log ++ x ∷ [])
-legal-more graph kept [] x h e = (e, tt)
-legal-more graph kept (y ∷ ys) x h e = (h.0, legal-more graph (after graph kept y.call) ys x h.1 e)
-
 step-Legal : (graph : Graph) → IsGraph graph → MachineLaws graph → (s : Core) (step : Step) → IsLawful graph s → Legal graph s.log → allowed graph s step ≡ true → Legal graph (apply graph s step).log
 step-Legal graph g laws s (steps.Frame t n) h l a = subst (Legal graph) (sym (frame-log graph s t n)) l
 step-Legal graph g laws s (steps.Start t) h l a = l
@@ -35,7 +30,7 @@ step-Legal graph g laws s (steps.Discover t n c) h l a = subst (Legal graph) (sy
 step-Legal graph g laws s (steps.Drop t n o) h l a = subst (Legal graph) (sym (ensure_mark-log s t o)) l
 step-Legal graph g laws s (steps.Mark t m) h l a = l
 step-Legal graph g laws s (steps.Look t) h l a = l
-step-Legal graph g laws s (steps.End t) h l a = legal-more graph (start graph) s.log (logged (call s t)) l (reply-right graph g laws s h t a)
+step-Legal graph g laws s (steps.End t) h l a = legal_more graph (start graph) s.log (logged (call s t)) l (reply-right graph g laws s h t a)
 step-Legal graph g laws s (steps.Collect n) h l a = l
 
 -- ---- histories

@@ -3,8 +3,12 @@ use Rattle.std.proofs.Common.{◌≡◌, ℕ, zero, suc, ◌+◌, ◌<◌, ◌�
 use Rattle.std.specs.Prelude.{filter, if◌then◌else◌, is_none, slice_get}
 use Rattle.std.specs.List.{list_any, AllByRecursion}
 use Rattle.std.proofs.lemmas.Bool.Decides.{eqb_tells}
+use Rattle.std.proofs.lemmas.Bool.{or_cases, or_left, or_right, eqb-true, eq-eqb, false_from_ne_true, both_ways, cases_Bool}
 use Rattle.std.proofs.lemmas.List.Folds.{list_any-append}
+use Rattle.std.proofs.lemmas.Option.{slice_get_within}
+use Rattle.std.proofs.lemmas.Simd.{map-map}
 use Rattle.script_tree.specs.declared.value.Value.{Value}
+use Rattle.script_tree.proofs.Truths.{and_left, and_right}
 use Rattle.signal_graph.specs.declared.call.Call.{Call}
 use Rattle.signal_graph.specs.declared.call.Call.TheVariants.{Fire as Fires, Read as Reads}
 use Rattle.signal_graph.specs.declared.call.Reply.TheVariants.{Fire as Fired, Read as Seen}
@@ -14,6 +18,7 @@ use Rattle.signal_graph.specs.Values.{Values, values, val, picks, picks_of as no
 use Rattle.signal_graph.specs.Machine.{same, differs, looks_of, after, reply, changed, evaluated, looked}
 use Rattle.signal_graph.specs.Legal.{state_after}
 use Rattle.node_versions.specs.Entries.{at, is_done, changed_of}
+use Rattle.node_versions.proofs.Places.{at-has}
 use Rattle.flow_model.specs.declared.step.Step.TheVariants as steps
 use Rattle.flow_model.specs.Machine.State.{Core, call, live, entries, changes}
 use Rattle.flow_model.specs.Machine.Sets.{IsSet}
@@ -21,14 +26,11 @@ use Rattle.flow_model.specs.Machine.Words.{deps, touched, heads, is_found, next_
 use Rattle.flow_model.specs.Machine.Steps.{allowed, reply_of, logged}
 use Rattle.flow_model.specs.Kept.Runs.{was_due}
 use Rattle.flow_model.specs.Kept.Lawful.{IsLawful, has_evaluated}
-use Rattle.flow_model.proofs.General.Truths.{or_cases, or_left, or_right, same_number, equal_test, not_true, is_not_true, true_or_false}
-use Rattle.flow_model.proofs.OneStep.WhoMayStep.{and_left, and_right}
 use Rattle.flow_model.proofs.Opening.OpeningLists.{picks-fit, picked-listed, candidate-earlier}
-use Rattle.flow_model.proofs.OneList.StatesAndPlaces.{at-has}
 use Rattle.flow_model.proofs.OrderStays.OpenNodesHaveFrames.{entry-there}
 use Rattle.flow_model.proofs.Wants.FramedWith.{heads-opens}
 use Rattle.flow_model.proofs.Values.FoundByReads.{same-turned}
-use Rattle.flow_model.proofs.General.AnyAndAll.{any-alike, get-within}
+use Rattle.flow_model.proofs.General.AnyAndAll.{any-alike}
 use Rattle.flow_model.proofs.Ended.WhoEndsIsFirst.{end-live, idle-opens}
 use Rattle.flow_model.proofs.Ended.AfterEnd.{MachineLaws, number-there, state_before, next_state, new_value_of, changed-is, end-right, reads-new, rest_of, touched-is, touched-done, input-lower}
 use Rattle.flow_model.proofs.Values.EvaluatedIsCounted.{filter-same, below-apart}
@@ -40,7 +42,7 @@ number-inside k [] n h = absurd (true≢false (sym h))
 number-inside k (x ∷ xs) n h = go (or_cases _ _ h) (number-inside (k + 1) xs n)
   where
     go : ((k == n) ≡ true) ⊎ (is_in n (numbers_from (k + 1) xs) ≡ true) → (is_in n (numbers_from (k + 1) xs) ≡ true → n < k + 1 + length xs) → n < k + suc (length xs)
-    go (inl e) further = let y = same_number k n e in omega (arith, y)
+    go (inl e) further = let y = eqb-true k n e in omega (arith, y)
     go (inr e) further = let y = further e in omega (arith, y)
 
 inside : (graph : Graph) (n : ℕ) → is_in n (numbers graph) ≡ true → n < length graph.nodes
@@ -48,7 +50,7 @@ inside graph n h = let r = number-inside 0 graph.nodes n h in omega (arith, r)
 
 filter-in : (p : ℕ → Bool) (ns : List ℕ) (n : ℕ) → is_in n (filter p ns) ≡ (is_in n ns && p n)
 filter-in p [] n = refl
-filter-in p (x ∷ xs) n = go (p x) refl (filter-in p xs n) (true_or_false (x == n))
+filter-in p (x ∷ xs) n = go (p x) refl (filter-in p xs n) (cases_Bool (x == n))
   where
     go : (b : Bool) → p x ≡ b → is_in n (filter p xs) ≡ (is_in n xs && p n) → ((x == n) ≡ true) ⊎ ((x == n) ≡ false) → is_in n (if b then x ∷ filter p xs else filter p xs) ≡ (((x == n) || is_in n xs) && p n)
     go b e r (inr k) = other b
@@ -56,9 +58,9 @@ filter-in p (x ∷ xs) n = go (p x) refl (filter-in p xs n) (true_or_false (x ==
         other : (b : Bool) → is_in n (if b then x ∷ filter p xs else filter p xs) ≡ (((x == n) || is_in n xs) && p n)
         other true = ap (λ (c : Bool). c || is_in n (filter p xs)) k ∙ r ∙ sym (ap (λ (c : Bool). (c || is_in n xs) && p n) k)
         other false = r ∙ sym (ap (λ (c : Bool). (c || is_in n xs) && p n) k)
-    go true e r (inl k) = ap (λ (c : Bool). c || is_in n (filter p xs)) k ∙ sym (ap (λ (c : Bool). (c || is_in n xs) && p n) k ∙ (subst (λ (j : ℕ). p j ≡ true) (same_number x n k) e))
+    go true e r (inl k) = ap (λ (c : Bool). c || is_in n (filter p xs)) k ∙ sym (ap (λ (c : Bool). (c || is_in n xs) && p n) k ∙ (subst (λ (j : ℕ). p j ≡ true) (eqb-true x n k) e))
     go false e r (inl k) =
-        let z : p n ≡ false = subst (λ (j : ℕ). p j ≡ false) (same_number x n k) e in
+        let z : p n ≡ false = subst (λ (j : ℕ). p j ≡ false) (eqb-true x n k) e in
         r ∙ ap (λ (c : Bool). is_in n xs && c) z ∙ none (is_in n xs) ∙ sym (ap (λ (c : Bool). ((x == n) || is_in n xs) && c) z ∙ none ((x == n) || is_in n xs))
       where
         none : (c : Bool) → (c && false) ≡ false
@@ -74,7 +76,7 @@ all-member P [] h n k = absurd (true≢false (sym k))
 all-member P (x ∷ xs) h n k = go (or_cases _ _ k) (all-member P xs h.1 n)
   where
     go : ((x == n) ≡ true) ⊎ (is_in n xs ≡ true) → (is_in n xs ≡ true → P n) → P n
-    go (inl e) further = subst P (same_number x n e) h.0
+    go (inl e) further = subst P (eqb-true x n e) h.0
     go (inr e) further = further e
 
 empty-filter : (ns : List ℕ) → length (filter (λ n. is_in n []) ns) ≡ 0
@@ -84,11 +86,11 @@ empty-filter (n ∷ ns) = empty-filter ns
 -- A set of numbers from a range has as many members as numbers of the range are in it.
 set-count : (k : ℕ) (nodes : List Node) (xs : List ℕ) → IsSet xs → ((m : ℕ) → is_in m xs ≡ true → (k ≤ m) × (m < k + length nodes)) → length (filter (λ n. is_in n xs) (numbers_from k nodes)) ≡ length xs
 set-count k nodes [] h f = empty-filter (numbers_from k nodes)
-set-count k [] (y ∷ ys) h f = let r = f y (or_left _ _ (equal_test y y refl)) in absurd (let a = r.0 in let b = r.1 in omega (arith, a, b))
-set-count k (x ∷ nodes) (y ∷ ys) h f = go (true_or_false (y == k)) (set-count (k + 1) nodes ys h.1) (set-count (k + 1) nodes (y ∷ ys) h)
+set-count k [] (y ∷ ys) h f = let r = f y (or_left _ _ (eq-eqb y y refl)) in absurd (let a = r.0 in let b = r.1 in omega (arith, a, b))
+set-count k (x ∷ nodes) (y ∷ ys) h f = go (cases_Bool (y == k)) (set-count (k + 1) nodes ys h.1) (set-count (k + 1) nodes (y ∷ ys) h)
   where
     first : (k ≤ y) × (y < k + suc (length nodes))
-    first = f y (or_left _ _ (equal_test y y refl))
+    first = f y (or_left _ _ (eq-eqb y y refl))
 
     later : (m : ℕ) → is_in m ys ≡ true → y < m
     later m i = all-member (λ z. y < z) ys h.0 m i
@@ -100,7 +102,7 @@ set-count k (x ∷ nodes) (y ∷ ys) h f = go (true_or_false (y == k)) (set-coun
         → (((m : ℕ) → is_in m (y ∷ ys) ≡ true → (k + 1 ≤ m) × (m < k + 1 + length nodes)) → length (filter (λ n. is_in n (y ∷ ys)) (numbers_from (k + 1) nodes)) ≡ suc (length ys))
         → length (if is_in k (y ∷ ys) then k ∷ filter (λ n. is_in n (y ∷ ys)) (numbers_from (k + 1) nodes) else filter (λ n. is_in n (y ∷ ys)) (numbers_from (k + 1) nodes)) ≡ suc (length ys)
     go (inl e) tail whole =
-        let yk = same_number y k e in
+        let yk = eqb-true y k e in
         let here : is_in k (y ∷ ys) ≡ true = or_left _ _ e in
         let rest = filter-same (λ n. is_in n (y ∷ ys)) (λ n. is_in n ys) (numbers_from (k + 1) nodes) (λ n i. let b = below-apart (k + 1) nodes n i in let ne : (y == n) ≡ false = grind (arith, eqb_tells, b, yk) in ap (λ (c : Bool). c || is_in n ys) ne) in
         let t = tail (λ m i. ((let l = later m i in omega (arith, l, yk)), bound m (or_right _ _ i))) in
@@ -111,7 +113,7 @@ set-count k (x ∷ nodes) (y ∷ ys) h f = go (true_or_false (y == k)) (set-coun
         rw out (whole (λ m i. (above m (or_cases _ _ i) lk, bound m i)))
       where
         above : (m : ℕ) → ((y == m) ≡ true) ⊎ (is_in m ys ≡ true) → k < y → k + 1 ≤ m
-        above m (inl i) l = let z = same_number y m i in omega (arith, z, l)
+        above m (inl i) l = let z = eqb-true y m i in omega (arith, z, l)
         above m (inr i) l = let z = later m i in omega (arith, z, l)
 
 -- ---- looks
@@ -126,10 +128,6 @@ get-none : {A : Type 0} (xs : List A) (k : ℕ) → slice_get xs k ≡ None → 
 get-none [] k h = omega arith
 get-none (x ∷ xs) zero h = cc
 get-none (x ∷ xs) (suc k) h = let r = get-none xs k h in omega (arith, r)
-
-map-twice : {A B C : Type 0} (f : B → C) (g : A → B) (xs : List A) → map f (map g xs) ≡ map (λ x. f (g x)) xs
-map-twice f g [] = refl
-map-twice f g (x ∷ xs) = ap (λ ys. f (g x) ∷ ys) (map-twice f g xs)
 
 end-looked : (graph : Graph) (s : Core) (t : ℕ) → allowed graph s (steps.End t) ≡ true → is_none (next_look s t) ≡ true
 end-looked graph s t a = and_right _ _ (and_left _ _ a)
@@ -185,7 +183,7 @@ module _ (graph : Graph) (g : IsGraph graph) (laws : MachineLaws graph) (s : Cor
       ∙ ap (λ (b : Bool). not (is_source (node_at graph n)) && b) (any-alike (changes s t) (λ d. is_in d (changed graph K K_after)) (rest_of graph g laws s h t a n) (λ d k. sym (moved n d l k)))
     where
       no_head : heads s t n ≡ false
-      no_head = not_true _ (λ k. is_not_true _ (idle-opens graph s h t a n) (heads-opens graph s h t n k))
+      no_head = false_from_ne_true _ (λ k. both_ways _ (idle-opens graph s h t a n) (heads-opens graph s h t n k))
 
       last : (b : Bool) → (b || (false && is_found s n)) ≡ b
       last true = refl
@@ -193,7 +191,7 @@ module _ (graph : Graph) (g : IsGraph graph) (laws : MachineLaws graph) (s : Cor
 
       due : (b : Bool) → at is_done (entries s n) t ≡ b → (c : Bool) → is_source (node_at graph n) ≡ c → (at is_done (entries s n) t && touched graph s t n) ≡ (not (is_source (node_at graph n)) && list_any (changes s t) (rest_of graph g laws s h t a n))
       due false d c e =
-          let none : list_any (changes s t) (rest_of graph g laws s h t a n) ≡ false = not_true _ (λ k. is_not_true _ d (touched-done graph g laws s h t a n l k)) in
+          let none : list_any (changes s t) (rest_of graph g laws s h t a n) ≡ false = false_from_ne_true _ (λ k. both_ways _ d (touched-done graph g laws s h t a n l k)) in
           ap (λ (b : Bool). b && touched graph s t n) d ∙ sym (ap (λ (b : Bool). not (is_source (node_at graph n)) && b) none ∙ never (not (is_source (node_at graph n))))
         where
           never : (b : Bool) → (b && false) ≡ false
@@ -213,7 +211,7 @@ module _ (graph : Graph) (g : IsGraph graph) (laws : MachineLaws graph) (s : Cor
   looked-is : (call s t).looked ≡ looked graph K_after (looks_of (call s t).call)
   looked-is = read-all (val graph K_after) (call s t).looks (call s t).looked long each
       ∙ ap (map (val graph K_after)) (h.calls_are_right t lives).looks
-      ∙ map-twice (val graph K_after) (number_of graph) (looks_of (call s t).call)
+      ∙ map-map (val graph K_after) (number_of graph) (looks_of (call s t).call)
     where
       none : (o : Option ℕ) → is_none o ≡ true → o ≡ None
       none None e = refl
@@ -224,7 +222,7 @@ module _ (graph : Graph) (g : IsGraph graph) (laws : MachineLaws graph) (s : Cor
 
       each : (k m : ℕ) (v : Value) → slice_get (call s t).looks k ≡ Some m → slice_get (call s t).looked k ≡ Some v → v ≡ val graph K_after m
       each k m v i j =
-          let e = h.entries_are_kept.looks t k m lives (get-within (call s t).looked k v j) i in
+          let e = h.entries_are_kept.looks t k m lives (slice_get_within (call s t).looked k v j) i in
           let l : m < length graph.nodes = let x = entry-there s m t e in let y = h.lists in omega (arith, x, y) in
           h.values_are_read.looked t k m v lives i j ∙ reads-new graph g laws s h t a m e ∙ new-is m l
 

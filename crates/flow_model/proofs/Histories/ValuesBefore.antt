@@ -1,5 +1,6 @@
 -- The value before a call at a node that it has evaluated is, when it ends, the node's value before the call in the log.
 use Rattle.std.proofs.Common.{◌≡◌, ℕ, suc, ◌<◌, Bool, true, false, ◌==◌, ◌⊎◌, inl, inr, refl, sym, ap, arith, List, [], ◌∷◌, ◌++◌, length, ◌∙◌, subst, Option, Some}
+use Rattle.std.proofs.lemmas.Bool.{both_ways}
 use Rattle.std.specs.Prelude.{is_some}
 use Rattle.script_tree.specs.declared.value.Value.{Value}
 use Rattle.signal_graph.specs.declared.call.Call.{Call}
@@ -15,7 +16,6 @@ use Rattle.flow_model.specs.Machine.Words.{found_now}
 use Rattle.flow_model.specs.Machine.Steps.{allowed, apply, begin, keep_found, new_call}
 use Rattle.flow_model.specs.Kept.Lawful.{IsLawful}
 use Rattle.flow_model.specs.Machine.Histories.{Move, Begin, Make, may, after_move, after_moves, may_all, state, is_history, HasEvaluated}
-use Rattle.flow_model.proofs.General.Truths.{is_not_true}
 use Rattle.flow_model.proofs.OneStep.ChangesOfOneList.{same_cell, step-list}
 use Rattle.flow_model.proofs.OneStep.WhoLivesAndFrames.{step-phases}
 use Rattle.flow_model.proofs.OneStep.SameCallers.{phase-live}
@@ -42,7 +42,7 @@ record HasBefore (s : Core) (t n : ℕ) (v : Value) : Type 0 where
 unblocked : (graph : Graph) (s : Core) → IsLawful graph s → (t n : ℕ) → live s t ≡ true → HasWorked is_evaluated s t n → IsUnblocked (entries s n) t
 unblocked graph s h t n l (by_done k d) = done-unblocked graph s h t n d
 unblocked graph s h t n l (by_work hd f) = head-unblocked graph s h t n hd
-unblocked graph s h t n l (by_end d b) = absurd (is_not_true _ d l)
+unblocked graph s h t n l (by_end d b) = absurd (both_ways _ d l)
 
 step-before : (graph : Graph) (s : Core) → IsLawful graph s → (step : Step) → allowed graph s step ≡ true → (t n : ℕ) (v : Value) → HasBefore s t n v → HasBefore (apply graph s step) t n v
 step-before graph s h step a t n v r = record {

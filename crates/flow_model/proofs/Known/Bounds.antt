@@ -2,8 +2,9 @@
 use Rattle.std.proofs.Common.{◌≡◌, ℕ, zero, suc, ◌+◌, ◌<◌, ◌≤◌, Bool, true, false, ◌==◌, ◌⊎◌, inl, inr, refl, sym, ap, arith, List, [], ◌∷◌, ◌++◌, map, length, slice_index_or, filter, if◌then◌else◌, true≢false, ◌∙◌, subst, Option, Some, None}
 use Rattle.std.specs.Prelude.{is_some}
 use Rattle.std.specs.List.{AllByRecursion}
-use Rattle.std.proofs.lemmas.List.{length-append}
+use Rattle.std.proofs.lemmas.List.{length-append, length-map}
 use Rattle.std.proofs.lemmas.List.Folds.{list_any-append}
+use Rattle.std.proofs.lemmas.Bool.{or_cases, or_left, or_right, and_from, eqb-true, eq-eqb, ltb-true}
 use Rattle.script_tree.specs.declared.limits.TheConstants.{SELECTORS}
 use Rattle.script_tree.specs.declared.value.Value.{Value}
 use Rattle.script_tree.specs.declared.value.Value.TheVariants.{Fault as Faulty}
@@ -13,28 +14,26 @@ use Rattle.signal_graph.specs.declared.node.Node.TheVariants.{Source, Signal, Fo
 use Rattle.signal_graph.specs.Graph.{Graph, IsGraph, IsNode, node_at, number_of, numbers, is_in, inputs_of, selectors_of}
 use Rattle.signal_graph.specs.Machine.{sets_of, looks_of, first_wrong, names_node, names_source}
 use Rattle.signal_graph.specs.Values.{nodes_in}
+use Rattle.signal_graph.proofs.Members.{all-members, nodes_in-length}
 use Rattle.call_log.specs.Made.{versions_in}
 use Rattle.node_versions.specs.Entries.{OutEdge, has, has_out}
+use Rattle.node_versions.proofs.Places.{at-has}
 use Rattle.flow_model.specs.Machine.Sets.{IsSet}
 use Rattle.flow_model.specs.Machine.State.{Core, LiveCall, Found, call, cell, opens, entries, outs}
 use Rattle.flow_model.specs.Machine.Words.{is_gathered, is_candidate, found_candidates, picks_of_found, prior_picks}
 use Rattle.flow_model.specs.Machine.Steps.{nodes_set}
 use Rattle.flow_model.specs.Kept.Lawful.{IsLawful, SomeHead, times, count_edges, lists_candidate, has_evaluated}
 use Rattle.flow_model.specs.Follows.Bounds.{NamesNodes, HasBounds, choosers}
-use Rattle.flow_model.proofs.General.Truths.{or_cases, or_left, or_right, and_make, same_number, equal_test}
-use Rattle.flow_model.proofs.OneList.StatesAndPlaces.{at-has}
 use Rattle.flow_model.proofs.OrderStays.OpenNodesHaveFrames.{entry-there}
 use Rattle.flow_model.proofs.Wants.FramedWith.{heads-opens, opens-frame}
 use Rattle.flow_model.proofs.Edges.EdgesFitCandidates.{candidate-listed}
 use Rattle.flow_model.proofs.Opening.OpeningLists.{nodes-at, candidate-earlier}
 use Rattle.flow_model.proofs.Wants.EarlierNodes.{dep-earlier}
-use Rattle.flow_model.proofs.General.AnyAndAll.{length-map, in-filter}
+use Rattle.flow_model.proofs.General.AnyAndAll.{in-filter}
 use Rattle.flow_model.proofs.Known.SlotsAndGathered.{gathered-in}
-use Rattle.flow_model.proofs.Known.CallsInOrder.{all-members}
 use Rattle.flow_model.proofs.General.Counting.{in-numbers, no_longer, set-fits, filter-short, count-numbers}
-use Rattle.flow_model.proofs.Lengths.WorkIsBounded.{nodes_in-length, found-length}
+use Rattle.flow_model.proofs.Lengths.WorkIsBounded.{found-length}
 use Rattle.flow_model.proofs.Wants.WantsAreFree.{all-right, named-nodes}
-use Rattle.flow_model.proofs.Callers.OnlyBeginningsAdd.{less}
 use Rattle.flow_model.proofs.OrderStays.FullListsAreCollected.{calls-few}
 
 -- ---- what a call names
@@ -51,7 +50,7 @@ look-nodes graph [] a n h = absurd (true≢false (sym h))
 look-nodes graph (look ∷ looks) a n h = go (or_cases _ _ h) (look-nodes graph looks a.1 n)
   where
     go : ((number_of graph look == n) ≡ true) ⊎ (is_in n (map (number_of graph) looks) ≡ true) → (is_in n (map (number_of graph) looks) ≡ true → n < length graph.nodes) → n < length graph.nodes
-    go (inl e) further = subst (λ (k : ℕ). k < length graph.nodes) (same_number (number_of graph look) n e) (less (number_of graph look) (length graph.nodes) a.0)
+    go (inl e) further = subst (λ (k : ℕ). k < length graph.nodes) (eqb-true (number_of graph look) n e) (ltb-true (number_of graph look) (length graph.nodes) a.0)
     go (inr e) further = further e
 
 -- ---- the bounds
@@ -116,7 +115,7 @@ few-gathered graph g s h n =
     let ns = map (λ (p : ℕ × Value). p.0) (cell s n).gathered in
     let r = no_longer ns (inputs_of (node_at graph n) ++ found_candidates s n) (h.gathered_are_apart n)
     (λ m i. list_any-append (λ y. y == m) (inputs_of (node_at graph n)) (found_candidates s n) ∙ h.work_is_kept.gathers_right n m (gathered-in m (cell s n).gathered ∙ i)) in
-    let l = length-map (λ (p : ℕ × Value). p.0) (cell s n).gathered in
+    let l = length-map (cell s n).gathered (λ (p : ℕ × Value). p.0) in
     let a = length-append (inputs_of (node_at graph n)) (found_candidates s n) in
     let f = few-found graph g s h n in
     omega (arith, r, l, a, f)
@@ -143,7 +142,7 @@ edge-since n [] h = absurd (true≢false (sym h))
 edge-since n (edge ∷ edges) h = go (or_cases _ _ h) (edge-since n edges)
   where
     go : ((edge.0 == n) ≡ true) ⊎ (is_in n (map (λ (edge : OutEdge). edge.0) edges) ≡ true) → (is_in n (map (λ (edge : OutEdge). edge.0) edges) ≡ true → (since : ℕ) × (has_out edges n since ≡ true)) → (since : ℕ) × (has_out (edge ∷ edges) n since ≡ true)
-    go (inl e) further = (edge.1, or_left _ _ (and_make (edge.0 == n) (edge.1 == edge.1) e (equal_test edge.1 edge.1 refl)))
+    go (inl e) further = (edge.1, or_left _ _ (and_from (edge.0 == n) (edge.1 == edge.1) e (eq-eqb edge.1 edge.1 refl)))
     go (inr e) further = let r = further e in (r.0, or_right _ _ r.1)
 
 pub listed-node : (graph : Graph) (n m : ℕ) → lists_candidate m (selectors_of (node_at graph n)) ≡ true → n < length graph.nodes
@@ -160,13 +159,13 @@ few-outs graph s h m =
     let r = no_longer ns (choosers graph m) (λ n. subst (λ (k : ℕ). k ≤ 1) (sym (edges-once n (outs s m))) (h.edges_are_kept.once n m))
     (λ n i. let e = edge-since n (outs s m) i in let c = h.edges_fit.candidate n m e.0 e.1 in let l = listed-node graph n m c in
     in-filter (λ n. lists_candidate m (selectors_of (node_at graph n))) (numbers graph) n (in-numbers 0 graph.nodes n (omega arith) (omega (arith, l))) c) in
-    let l = length-map (λ (edge : OutEdge). edge.0) (outs s m) in
+    let l = length-map (outs s m) (λ (edge : OutEdge). edge.0) in
     omega (arith, r, l)
 
 -- Each live call has a version from one on that has begun.
 begun-versions : (cs : List LiveCall) (b : ℕ) → ((v : ℕ) → is_in v (map (λ (c : LiveCall). c.version) cs) ≡ true → (1 ≤ v) × (v ≤ b)) → AllByRecursion (λ (c : LiveCall). (1 ≤ c.version) × (c.version ≤ b)) cs
 begun-versions [] b f = tt
-begun-versions (c ∷ cs) b f = (f c.version (or_left _ _ (equal_test c.version c.version refl)), begun-versions cs b (λ v i. f v (or_right _ _ i)))
+begun-versions (c ∷ cs) b f = (f c.version (or_left _ _ (eq-eqb c.version c.version refl)), begun-versions cs b (λ v i. f v (or_right _ _ i)))
 
 pub has-bounds : (graph : Graph) → IsGraph graph → (s : Core) → IsLawful graph s → HasBounds graph s
 has-bounds graph g s h = record {

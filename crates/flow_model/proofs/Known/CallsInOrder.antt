@@ -1,18 +1,19 @@
 -- The live calls stand in the order of their versions and no more have begun than may, at the opening, after each step and beginning.
-use Rattle.std.proofs.Common.{◌≡◌, ℕ, suc, ◌<◌, ◌≤◌, Bool, true, false, ◌==◌, refl, sym, ap, arith, List, [], ◌∷◌, ◌++◌, map, ◌∙◌, subst, nat_lt}
+use Rattle.std.proofs.Common.{◌≡◌, ℕ, suc, ◌<◌, ◌≤◌, Bool, true, false, ◌==◌, sym, ap, arith, List, [], ◌∷◌, ◌++◌, map, ◌∙◌, subst, nat_lt}
 use Rattle.std.specs.List.{AllByRecursion}
 use Rattle.std.proofs.lemmas.List.{map-append}
 use Rattle.std.proofs.lemmas.List.Folds.{list_any-append}
+use Rattle.std.proofs.lemmas.Bool.{or_left}
+use Rattle.script_tree.proofs.Truths.{and_right}
 use Rattle.signal_graph.specs.declared.call.Call.{Call}
 use Rattle.signal_graph.specs.Graph.{Graph, is_in}
+use Rattle.signal_graph.proofs.Members.{all-members}
 use Rattle.call_log.specs.Made.{versions_in}
 use Rattle.flow_model.specs.declared.step.Step.{Step}
 use Rattle.flow_model.specs.Machine.Sets.{IsSet}
 use Rattle.flow_model.specs.Machine.State.{Core, LiveCall}
 use Rattle.flow_model.specs.Machine.Steps.{allowed, apply, can_begin, begin, new_call, without_call}
 use Rattle.flow_model.specs.Kept.Lawful.{IsLawful, BegunIsWithin, CallsAscend}
-use Rattle.flow_model.proofs.General.Truths.{or_left, or_right, equal_test}
-use Rattle.flow_model.proofs.OneStep.WhoMayStep.{and_right}
 use Rattle.flow_model.proofs.OneStep.SameLengths.{step-begun}
 use Rattle.flow_model.proofs.Callers.OnlyBeginningsAdd.{MakerStep, stays, logs, makers-versions, step-makers, step-within}
 
@@ -59,11 +60,6 @@ all-last P x (y ∷ ys) h p = (h.0, all-last P x ys h.1 p)
 last-IsSet : (x : ℕ) (xs : List ℕ) → IsSet xs → AllByRecursion (λ y. y < x) xs → IsSet (xs ++ x ∷ [])
 last-IsSet x [] h a = (tt, tt)
 last-IsSet x (y ∷ ys) h a = (all-last (λ z. y < z) x ys h.0 a.0, last-IsSet x ys h.1 a.1)
-
--- What is true of all members is true of each element.
-pub all-members : (P : ℕ → Type 0) (xs : List ℕ) → ((x : ℕ) → is_in x xs ≡ true → P x) → AllByRecursion P xs
-all-members P [] f = tt
-all-members P (x ∷ xs) f = (f x (or_left _ _ (equal_test x x refl)), all-members P xs (λ y k. f y (or_right _ _ k)))
 
 pub begin-CallsAscend : (graph : Graph) (s : Core) (caller : ℕ) (c : Call) → IsLawful graph s → CallsAscend (begin graph s caller c)
 begin-CallsAscend graph s caller c h =

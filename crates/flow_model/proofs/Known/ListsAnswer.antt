@@ -2,17 +2,18 @@
 use Rattle.std.proofs.Common.{◌≡◌, ℕ, suc, ◌<◌, ◌≤◌, Bool, true, false, not, ◌==◌, ◌⊎◌, inl, inr, refl, sym, ap, arith, List, [], ◌∷◌, length, filter, if◌then◌else◌, is_some, true≢false, ◌∙◌, subst, Option, Some, None}
 use Rattle.std.specs.Option.{option_or}
 use Rattle.std.proofs.lemmas.Bool.Decides.{eqb_tells}
+use Rattle.std.proofs.lemmas.Bool.{or_cases, or_left, or_right, and_from, eqb-true, eq-eqb, false_from_ne_true, both_ways, cases_Bool}
 use Rattle.signal_graph.specs.Graph.{Graph}
 use Rattle.node_versions.specs.declared.entry.State.{State}
 use Rattle.node_versions.specs.declared.entry.Entry.{Entry}
 use Rattle.node_versions.specs.Entries.{EndedIsPrefix, HasEndedPrefix, IsUnique, OutEdge, is_done, has, at, behind, up_to, before, last_done, only_done, has_out, is_edge, without_out}
+use Rattle.node_versions.proofs.Places.{at-has}
 use Rattle.flow_model.specs.Machine.State.{Core, live, ended, entries, outs}
 use Rattle.flow_model.specs.Machine.Changes.{remove_first}
 use Rattle.flow_model.specs.Kept.Lawful.{IsLawful, count_edges}
 use Rattle.flow_model.specs.Parts.Operations.{ListsAnswer}
-use Rattle.flow_model.proofs.General.Truths.{or_cases, or_left, or_right, and_make, equal_test, same_number, not_true, is_not_true, true_or_false}
 use Rattle.flow_model.proofs.OneList.InOrder.{on_calls}
-use Rattle.flow_model.proofs.OneList.StatesAndPlaces.{at-has, behind-has, behind-total}
+use Rattle.flow_model.proofs.OneList.StatesAndPlaces.{behind-has, behind-total}
 use Rattle.flow_model.proofs.OneList.OneEntryACall.{filter-at}
 use Rattle.flow_model.proofs.OrderStays.OpenNodesHaveFrames.{entry-there}
 
@@ -20,7 +21,7 @@ use Rattle.flow_model.proofs.OrderStays.OpenNodesHaveFrames.{entry-there}
 
 done-some : (es : List Entry) (u : ℕ) → at is_done es u ≡ true → is_some (last_done es) ≡ true
 done-some [] u h = absurd (true≢false (sym h))
-done-some (e ∷ es) u h = go (true_or_false (e.version == u)) (done-some es u)
+done-some (e ∷ es) u h = go (cases_Bool (e.version == u)) (done-some es u)
   where
     here : (o : Option Entry) (b : Bool) → b ≡ true → is_some (option_or o (elim b as (λ _. Option Entry) [ true ↦ Some e | false ↦ None ])) ≡ true
     here None true k = refl
@@ -54,22 +55,22 @@ ended-before : (graph : Graph) (s : Core) → IsLawful graph s → (n t : ℕ) �
 ended-before graph s h n t lt k = go (h.ended_is_prefix.done n (entry-there s n t k))
   where
     go : (u : ℕ) × (live s u ≡ false) × (at is_done (entries s n) u ≡ true) → EndedBefore s n t
-    go (u, e, d) = record { it = u; stands = side (or_cases _ _ (behind-total (entries s n) u t (at-has is_done (entries s n) u d) k (λ x. is_not_true _ e (subst (λ (w : ℕ). live s w ≡ true) (sym x) lt)))); done = d }
+    go (u, e, d) = record { it = u; stands = side (or_cases _ _ (behind-total (entries s n) u t (at-has is_done (entries s n) u d) k (λ x. both_ways _ e (subst (λ (w : ℕ). live s w ≡ true) (sym x) lt)))); done = d }
       where
         side : (behind (entries s n) u t ≡ true) ⊎ (behind (entries s n) t u ≡ true) → behind (entries s n) u t ≡ true
         side (inl b) = b
-        side (inr b) = absurd (is_not_true _ (h.ended_is_prefix.prefix n t u b e) lt)
+        side (inr b) = absurd (both_ways _ (h.ended_is_prefix.prefix n t u b e) lt)
 
 -- ---- the ended entries come first
 
-prefix-of : (ends : ℕ → Bool) (es : List Entry) → IsUnique es → ((u v : ℕ) → behind es u v ≡ true → ends v ≡ true → ends u ≡ true) → EndedIsPrefix (on_calls ends) es
+pub prefix-of : (ends : ℕ → Bool) (es : List Entry) → IsUnique es → ((u v : ℕ) → behind es u v ≡ true → ends v ≡ true → ends u ≡ true) → EndedIsPrefix (on_calls ends) es
 prefix-of ends [] q f = tt
 prefix-of ends (e ∷ es) q f = go (ends e.version) refl (prefix-of ends es q.1 (λ u v b. f u v (further u v b)))
   where
     further : (u v : ℕ) → behind es u v ≡ true → behind (e ∷ es) u v ≡ true
     further u v b =
         let i = (behind-has es u v b).0 in
-        let ne : (e.version == u) ≡ false = not_true _ (λ k. is_not_true _ q.0 (subst (λ (w : ℕ). has es w ≡ true) (sym (same_number e.version u k)) i)) in
+        let ne : (e.version == u) ≡ false = false_from_ne_true _ (λ k. both_ways _ q.0 (subst (λ (w : ℕ). has es w ≡ true) (sym (eqb-true e.version u k)) i)) in
         rw (ne, behind) b
 
     none : (xs : List Entry) → ((v : ℕ) → has xs v ≡ true → ends v ≡ true → ⊥) → filter (on_calls ends) xs ≡ []
@@ -77,15 +78,15 @@ prefix-of ends (e ∷ es) q f = go (ends e.version) refl (prefix-of ends es q.1 
     none (x ∷ xs) k = cases (ends x.version) refl (none xs (λ v i. k v (or_right _ _ i)))
       where
         cases : (b : Bool) → ends x.version ≡ b → filter (on_calls ends) xs ≡ [] → (if b then x ∷ filter (on_calls ends) xs else filter (on_calls ends) xs) ≡ []
-        cases true j r = absurd (k x.version (or_left _ _ (equal_test x.version x.version refl)) j)
+        cases true j r = absurd (k x.version (or_left _ _ (eq-eqb x.version x.version refl)) j)
         cases false j r = r
 
     go : (b : Bool) → ends e.version ≡ b → EndedIsPrefix (on_calls ends) es → elim b as (λ _. Type 0) [ true ↦ EndedIsPrefix (on_calls ends) es | false ↦ filter (on_calls ends) es ≡ [] ]
     go true k r = r
-    go false k r = none es (λ v i j. is_not_true _ k (f e.version v (first v i) j))
+    go false k r = none es (λ v i j. both_ways _ k (f e.version v (first v i) j))
       where
         first : (v : ℕ) → has es v ≡ true → behind (e ∷ es) e.version v ≡ true
-        first v i = let w = equal_test e.version e.version refl in rw (w, behind) i
+        first v i = let w = eq-eqb e.version e.version refl in rw (w, behind) i
 
 ended-prefix : (graph : Graph) (s : Core) → IsLawful graph s → (n : ℕ) → n < length s.cells → HasEndedPrefix (ended s) (entries s n)
 ended-prefix graph s h n k = record { prefix = prefix-of (λ v. not (live s v)) (entries s n) (h.one_entry n) (λ u v b e. is_ended u (h.ended_is_prefix.prefix n u v b (is_live v e))); done = found (h.ended_is_prefix.done n k) }
@@ -97,7 +98,7 @@ ended-prefix graph s h n k = record { prefix = prefix-of (λ v. not (live s v)) 
     is_live v e = grind (arith, e)
 
     found : (u : ℕ) × (live s u ≡ false) × (at is_done (entries s n) u ≡ true) → is_some (last_done (filter (ended s) (entries s n))) ≡ true
-    found (u, e, d) = done-some (filter (ended s) (entries s n)) u (filter-at is_done (λ v. not (live s v)) (entries s n) u ∙ and_make _ _ (is_ended u e) d)
+    found (u, e, d) = done-some (filter (ended s) (entries s n)) u (filter-at is_done (λ v. not (live s v)) (entries s n) u ∙ and_from _ _ (is_ended u e) d)
 
 -- ---- an out-edge goes
 
@@ -111,7 +112,7 @@ none-left n since (edge ∷ edges) h = go (edge.0 == n) refl (none-left n since 
 
 has-count : (n since : ℕ) (edges : List OutEdge) → has_out edges n since ≡ true → 1 ≤ count_edges n edges
 has-count n since [] h = absurd (true≢false (sym h))
-has-count n since (edge ∷ edges) h = go (true_or_false (edge.0 == n)) (has-count n since edges)
+has-count n since (edge ∷ edges) h = go (cases_Bool (edge.0 == n)) (has-count n since edges)
   where
     go : ((edge.0 == n) ≡ true) ⊎ ((edge.0 == n) ≡ false) → (has_out edges n since ≡ true → 1 ≤ count_edges n edges) → 1 ≤ count_edges n (edge ∷ edges)
     go (inl e) f = rw e (omega arith)
@@ -119,7 +120,7 @@ has-count n since (edge ∷ edges) h = go (true_or_false (edge.0 == n)) (has-cou
 
 removed-edge : (n since : ℕ) (edges : List OutEdge) → count_edges n edges ≤ 1 → has_out edges n since ≡ true → remove_first n edges ≡ without_out edges n since
 removed-edge n since [] c h = refl
-removed-edge n since (edge ∷ edges) c h = go (true_or_false (edge.0 == n)) (removed-edge n since edges)
+removed-edge n since (edge ∷ edges) c h = go (cases_Bool (edge.0 == n)) (removed-edge n since edges)
   where
     go : ((edge.0 == n) ≡ true) ⊎ ((edge.0 == n) ≡ false) → (count_edges n edges ≤ 1 → has_out edges n since ≡ true → remove_first n edges ≡ without_out edges n since) → remove_first n (edge ∷ edges) ≡ without_out (edge ∷ edges) n since
     go (inr e) f =

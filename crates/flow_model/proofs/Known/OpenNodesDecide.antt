@@ -1,22 +1,23 @@
 -- Work is due at open nodes alone, so what a node asks for is decided over these; and a call that ends has taken all its looks.
 use Rattle.std.proofs.Common.{◌≡◌, ℕ, zero, suc, ◌≤◌, Bool, true, ◌&&◌, not, ◌||◌, refl, sym, ap, arith, List, [], ◌∷◌, length, slice_get, true≢false, ◌∙◌}
+use Rattle.std.proofs.lemmas.List.{length-map}
 use Rattle.std.specs.Prelude.{is_none}
 use Rattle.std.specs.List.{list_any}
+use Rattle.std.specs.Cmp.{both_ways}
+use Rattle.script_tree.proofs.Truths.{and_left, and_right}
 use Rattle.signal_graph.specs.declared.call.Call.{Call}
 use Rattle.signal_graph.specs.declared.call.Call.TheVariants.{Fire as Fires, Read as Reads}
 use Rattle.signal_graph.specs.Graph.{Graph, number_of, numbers}
-use Rattle.signal_graph.specs.Machine.{looks_of}
+use Rattle.signal_graph.specs.Machine.{looks_of, looks_of_reply}
 use Rattle.node_versions.specs.Entries.{has}
 use Rattle.flow_model.specs.declared.step.Step.TheVariants as steps
 use Rattle.flow_model.specs.Machine.State.{Core, call, live, executes, opens, entries}
 use Rattle.flow_model.specs.Machine.Words.{due, next_look, has_room, is_idle, is_some_of}
 use Rattle.flow_model.specs.Machine.Steps.{allowed, asks_for, reply_of}
 use Rattle.flow_model.specs.Kept.Lawful.{IsLawful}
-use Rattle.flow_model.specs.Follows.Bounds.{looks_of_reply}
-use Rattle.flow_model.proofs.General.Truths.{same_truth}
-use Rattle.flow_model.proofs.OneStep.WhoMayStep.{and_left, and_right, executes-live, idle-executes, end-idle, due-can_work, can_work-at_front, at_front-heads}
+use Rattle.flow_model.proofs.OneStep.WhoMayStep.{executes-live, idle-executes, end-idle, due-can_work, can_work-at_front, at_front-heads}
 use Rattle.flow_model.proofs.Wants.FramedWith.{heads-opens}
-use Rattle.flow_model.proofs.General.AnyAndAll.{length-map, any-in}
+use Rattle.flow_model.proofs.General.AnyAndAll.{any-in}
 use Rattle.flow_model.proofs.General.Counting.{some-member, in-numbers}
 use Rattle.flow_model.proofs.Known.Bounds.{opens-node}
 
@@ -28,7 +29,7 @@ due-opens graph s h t n d = heads-opens graph s h t n (at_front-heads graph s t 
 
 -- Whether any node asks for m is decided over the call's open nodes.
 pub asks-over_open : (graph : Graph) (s : Core) → IsLawful graph s → (t m : ℕ) → list_any (asks_for graph s t m) (numbers graph) ≡ list_any (asks_for graph s t m) (call s t).open_nodes
-asks-over_open graph s h t m = same_truth _ _ to from
+asks-over_open graph s h t m = both_ways _ _ to from
   where
     to : list_any (asks_for graph s t m) (numbers graph) ≡ true → list_any (asks_for graph s t m) (call s t).open_nodes ≡ true
     to a = let x = some-member (asks_for graph s t m) (numbers graph) a in any-in (asks_for graph s t m) (call s t).open_nodes x.it (due-opens graph s h t x.it (and_left _ _ x.passes)) x.passes
@@ -53,7 +54,7 @@ all-looked (x ∷ xs) (suc k) h l = ap suc (all-looked xs k h (omega (arith, l))
 
 pub end-looks : (graph : Graph) (s : Core) → IsLawful graph s → (t : ℕ) → allowed graph s (steps.End t) ≡ true → length (looks_of_reply (reply_of (call s t) (call s t).call)) ≡ length (looks_of (call s t).call)
 end-looks graph s h t a = ap length (replied (call s t).call) ∙ all-looked (call s t).looks (length (call s t).looked) (and_right _ _ (and_left _ _ a)) (h.looks_are_few t lt)
-    ∙ ap length (h.calls_are_right t lt).looks ∙ length-map (number_of graph) (looks_of (call s t).call)
+    ∙ ap length (h.calls_are_right t lt).looks ∙ length-map (looks_of (call s t).call) (number_of graph)
   where
     lt : live s t ≡ true
     lt = executes-live s t (idle-executes s t (end-idle graph s t a))

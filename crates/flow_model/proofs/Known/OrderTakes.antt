@@ -1,9 +1,12 @@
 -- In a lawful state the pairs that entering a list records are taken by the recorded order, by slots.
 use Rattle.std.proofs.Common.{◌≡◌, ℕ, Bool, true, false, ◌&&◌, ◌||◌, ◌==◌, ◌≢◌, refl, sym, ap, arith, List, [], ◌∷◌, true≢false, ◌∙◌, subst, Option, Some, None}
+use Rattle.std.proofs.lemmas.Bool.{eq-eqb, false_from_ne_true, both_ways, not-true}
 use Rattle.std.specs.List.{list_any}
+use Rattle.script_tree.proofs.Truths.{and_right}
 use Rattle.signal_graph.specs.Graph.{Graph}
 use Rattle.order_graph.specs.declared.pair.Pair.{Pair}
 use Rattle.order_graph.specs.Order.{reaches, linked}
+use Rattle.order_graph.proofs.Reaching.{reaches-linked}
 use Rattle.node_versions.specs.declared.entry.State.TheVariants.{Mark}
 use Rattle.node_versions.specs.declared.entry.Entry.{Entry}
 use Rattle.node_versions.specs.Entries.{has, front, rest, first_entry, last_entry}
@@ -14,9 +17,7 @@ use Rattle.flow_model.specs.Machine.Steps.{allowed}
 use Rattle.flow_model.specs.Kept.Lawful.{IsLawful, ended_before, HasSlot}
 use Rattle.flow_model.specs.Parts.SlotPairs.{renamed, slot_of, slot_pairs, link_left_by_slot}
 use Rattle.flow_model.specs.Parts.Operations.{OrderTakes, IsFirstSlot}
-use Rattle.flow_model.proofs.General.Truths.{equal_test, not_true, is_not_true}
-use Rattle.flow_model.proofs.OneStep.WhoMayStep.{and_right, not_is, executes-live, idle-executes, end-idle}
-use Rattle.flow_model.proofs.OneList.Chains.{reaches-link}
+use Rattle.flow_model.proofs.OneStep.WhoMayStep.{executes-live, idle-executes, end-idle}
 use Rattle.flow_model.proofs.OneList.Entering.{enter-Standing, right-Grows}
 use Rattle.flow_model.proofs.OrderStays.AfterEachStep.{lawful-Standing}
 use Rattle.flow_model.proofs.Slots.TestsBySlot.{before-by_slot}
@@ -25,9 +26,9 @@ use Rattle.flow_model.proofs.Slots.PairsBySlot.{IfThere, version_if, renamed-rea
 -- A link that makes no cycle is of two calls, and no chain led back.
 forward : (ps : List Pair) (a b n : ℕ) → reaches (linked ps a b n) a a ≡ false → (a ≢ b) × (reaches ps b a ≡ false)
 forward ps a b n h =
-    let e = reaches-link ps a b n a a in (
-      λ x. let k = equal_test a b x in let w = equal_test a a refl in absurd (apart (reaches (linked ps a b n) a a) (reaches ps a a) (a == a) (reaches ps a a) (a == b) (reaches ps b a) h e w k),
-      not_true _ (λ r. let w = equal_test a a refl in back (reaches (linked ps a b n) a a) (reaches ps a a) (a == a) (reaches ps a a) (a == b) (reaches ps b a) h e w r),
+    let e = reaches-linked ps a b n a a in (
+      λ x. let k = eq-eqb a b x in let w = eq-eqb a a refl in absurd (apart (reaches (linked ps a b n) a a) (reaches ps a a) (a == a) (reaches ps a a) (a == b) (reaches ps b a) h e w k),
+      false_from_ne_true _ (λ r. let w = eq-eqb a a refl in back (reaches (linked ps a b n) a a) (reaches ps a a) (a == a) (reaches ps a a) (a == b) (reaches ps b a) h e w r),
     )
   where
     apart : (l r x q y z : Bool) → l ≡ false → l ≡ (r || ((x || q) && (y || z))) → x ≡ true → y ≡ true → ⊥
@@ -58,7 +59,7 @@ link-live true x y k = refl
 link-live false x y k = absurd (true≢false (sym k))
 
 left-forward : (graph : Graph) (s : Core) → IsLawful graph s → (t m : ℕ) → live s t ≡ true → has (entries s m) t ≡ false → (u : ℕ) → last_version None (fronts s t m) ≡ Some u → live s u ≡ true → (u ≢ t) × (reaches s.pairs t u ≡ false)
-left-forward graph s h t m lt k u e lu = forward s.pairs u t m (not_true _ (λ r. is_not_true _ (entered-no_cycle graph s h t m lt k u)
+left-forward graph s h t m lt k u e lu = forward s.pairs u t m (false_from_ne_true _ (λ r. both_ways _ (entered-no_cycle graph s h t m lt k u)
     ((right-Grows s t m (first_version (rests s t m)) (link_left s t m (last_version None (fronts s t m)) s.pairs) lt).more u u (ap (λ (ps : List Pair). reaches ps u u) linked_so ∙ r))))
   where
     linked_so : link_left s t m (last_version None (fronts s t m)) s.pairs ≡ linked s.pairs u t m
@@ -117,7 +118,7 @@ unreached (p ∷ ps) b h a =
     neither false y h = (refl, h)
 
 pub ends-first : (graph : Graph) (s : Core) → IsLawful graph s → (t : ℕ) → allowed graph s (steps.End t) ≡ true → IsFirstSlot s t
-ends-first graph s h t a = unreached (slot_pairs s) (slot_of s t) (before-by_slot graph s h t lt ∙ not_is _ (and_right _ _ a))
+ends-first graph s h t a = unreached (slot_pairs s) (slot_of s t) (before-by_slot graph s h t lt ∙ not-true _ (and_right _ _ a))
   where
     lt : live s t ≡ true
     lt = executes-live s t (idle-executes s t (end-idle graph s t a))

@@ -3,7 +3,9 @@ use Rattle.std.proofs.Common.{◌≡◌, ℕ, zero, suc, ◌+◌, ◌≤◌, Boo
 use Rattle.std.specs.List.{AllByRecursion, cons_option}
 use Rattle.std.specs.Option.{option_or}
 use Rattle.std.proofs.lemmas.List.{map-append}
+use Rattle.std.proofs.lemmas.Bool.{or_left, or_right, eqb-true, eq-eqb, both_ways, cases_Bool, not-true}
 use Rattle.script_tree.specs.declared.value.Value.{Value}
+use Rattle.script_tree.proofs.Truths.{and_left, and_right}
 use Rattle.signal_graph.specs.declared.call.Call.{Call}
 use Rattle.signal_graph.specs.Graph.{Graph, is_in}
 use Rattle.node_versions.specs.declared.entry.State.{State}
@@ -17,8 +19,7 @@ use Rattle.flow_model.specs.Machine.Words.{gathered_of, value_now, found_picks}
 use Rattle.flow_model.specs.Machine.Changes.{stops, new_entry, enter, raise, ensure_mark, place_entry, set_state, finish, cleared, add_edge, drop_edge}
 use Rattle.flow_model.specs.Machine.Steps.{allowed, apply, begin, new_call, open_node, frame, gather, keep_found, keep_body, collect, is_change}
 use Rattle.flow_model.specs.Kept.Lawful.{IsLawful, AreDistinct, times, HasSlot, EntriesHaveSlots, SlotFits, EntrySlotsFit, GatheredAreApart}
-use Rattle.flow_model.proofs.General.Truths.{or_left, or_right, same_number, equal_test, is_not_true, true_or_false}
-use Rattle.flow_model.proofs.OneStep.WhoMayStep.{and_left, and_right, not_is, executes-live, wants-live}
+use Rattle.flow_model.proofs.OneStep.WhoMayStep.{executes-live, wants-live}
 use Rattle.flow_model.proofs.OneStep.WhoLivesAndFrames.{step-phases}
 use Rattle.flow_model.proofs.OneStep.SameLengths.{step-parts}
 use Rattle.flow_model.proofs.OneStep.SameCallers.{step-stable, phase-live, slot-stable}
@@ -28,12 +29,13 @@ use Rattle.flow_model.proofs.OneStep.BegunCalls.{begin-call}
 use Rattle.flow_model.proofs.OneList.Entering.{with_cell-cell}
 use Rattle.flow_model.proofs.OneStep.VersionsStayFresh.{times-append, in-times}
 use Rattle.flow_model.proofs.Settled.AfterOtherSteps.{ensured-read}
+use Rattle.flow_model.proofs.Slots.PairsBySlot.{IfThere}
 
 -- ---- each entry, through the changes of a list
 
 each-weaker : (P Q : Entry → Type 0) (es : List Entry) → ((e : Entry) → has es e.version ≡ true → P e → Q e) → AllByRecursion P es → AllByRecursion Q es
 each-weaker P Q [] f h = tt
-each-weaker P Q (e ∷ es) f h = (f e (or_left _ _ (equal_test e.version e.version refl)) h.0, each-weaker P Q es (λ x k. f x (or_right _ _ k)) h.1)
+each-weaker P Q (e ∷ es) f h = (f e (or_left _ _ (eq-eqb e.version e.version refl)) h.0, each-weaker P Q es (λ x k. f x (or_right _ _ k)) h.1)
 
 each-placed : (P : Entry → Type 0) (stops : Entry → Bool) (e : Entry) (es : List Entry) → P e → AllByRecursion P es → AllByRecursion P (placed stops e es)
 each-placed P stops e [] p h = (p, tt)
@@ -58,10 +60,6 @@ each-filter P test (e ∷ es) h = go (test e) (each-filter P test es h.1)
     go : (b : Bool) → AllByRecursion P (filter test es) → AllByRecursion P (if b then e ∷ filter test es else filter test es)
     go true r = (h.0, r)
     go false r = r
-
-abbrev IfThere : (Entry → Type 0) → Option Entry → Type 0
-IfThere P None = Unit {0}
-IfThere P (Some e) = P e
 
 each-last : (P : Entry → Type 0) (es : List Entry) → AllByRecursion P es → IfThere P (last_done es)
 each-last P [] h = tt
@@ -108,7 +106,7 @@ begin-EntriesHaveSlots graph s caller c h n = each-weaker (HasSlot s) (HasSlot q
     go : (e : Entry) → has (entries s n) e.version ≡ true → HasSlot s e → live q e.version ≡ true
         → ((call_of q.calls e.version ≡ call_of s.calls e.version) × ((suc s.begun == e.version) ≡ false)) ⊎ ((e.version ≡ suc s.begun) × (call_of q.calls e.version ≡ Some (new_call graph s caller c))) → e.slot ≡ (call q e.version).slot
     go e i p l (inl x) = p (ap is_some (sym x.0) ∙ l) ∙ ap (λ (o : Option LiveCall). (call_or o).slot) (sym x.0)
-    go e i p l (inr x) = absurd (is_not_true _ (not_begun-entry graph s h n) (subst (λ (w : ℕ). has (entries s n) w ≡ true) x.0 i))
+    go e i p l (inr x) = absurd (both_ways _ (not_begun-entry graph s h n) (subst (λ (w : ℕ). has (entries s n) w ≡ true) x.0 i))
 
 -- Slots fit: a new entry has the slot of a live call.
 list-fits : (graph : Graph) (s : Core) → IsLawful graph s → (n : ℕ) → AllByRecursion (SlotFits s) (entries s n) → (es : List Entry) → ListStep graph s n es → AllByRecursion (SlotFits s) es
@@ -141,10 +139,10 @@ gathered-in m (p ∷ ps) = go (p.0 == m) (gathered-in m ps)
     go false r = r
 
 more-distinct : (m : ℕ) (xs : List ℕ) → AreDistinct xs → is_in m xs ≡ false → AreDistinct (xs ++ m ∷ [])
-more-distinct m xs d k x = let e = times-append x xs (m ∷ []) in go (true_or_false (m == x)) e (d x)
+more-distinct m xs d k x = let e = times-append x xs (m ∷ []) in go (cases_Bool (m == x)) e (d x)
   where
     absent : is_in x xs ≡ false → times x xs ≡ 0
-    absent j = zero_times (times x xs) (λ l. is_not_true _ j (in-times x xs l))
+    absent j = zero_times (times x xs) (λ l. both_ways _ j (in-times x xs l))
       where
         zero_times : (n : ℕ) → (1 ≤ n → ⊥) → n ≡ 0
         zero_times zero f = refl
@@ -152,7 +150,7 @@ more-distinct m xs d k x = let e = times-append x xs (m ∷ []) in go (true_or_f
 
     go : ((m == x) ≡ true) ⊎ ((m == x) ≡ false) → times x (xs ++ m ∷ []) ≡ times x xs + times x (m ∷ []) → times x xs ≤ 1 → times x (xs ++ m ∷ []) ≤ 1
     go (inl j) e r =
-        let z = absent (subst (λ (w : ℕ). is_in w xs ≡ false) (same_number m x j) k) in
+        let z = absent (subst (λ (w : ℕ). is_in w xs ≡ false) (eqb-true m x j) k) in
         let o : times x (m ∷ []) ≡ 1 = rw j refl in
         omega (arith, e, z, o)
     go (inr j) e r = let o : times x (m ∷ []) ≡ 0 = rw j refl in omega (arith, e, r, o)
@@ -183,7 +181,7 @@ step-GatheredAreApart graph s (steps.Frame t n) a h = framed-apart graph s t n h
 step-GatheredAreApart graph s (steps.Start t) a h = h
 step-GatheredAreApart graph s (steps.Skip t n) a h = one-cell s n (set_state t _) (h n) h
 step-GatheredAreApart graph s (steps.Gather t n m) a h = one-cell s n (gather m _)
-    (subst AreDistinct (sym (map-append (λ (p : ℕ × Value). p.0) (cell s n).gathered ((m, _) ∷ []))) (more-distinct m (nodes_of (cell s n).gathered) (h n) (sym (gathered-in m (cell s n).gathered) ∙ not_is _ (and_right _ _ (and_left _ _ a))))) h
+    (subst AreDistinct (sym (map-append (λ (p : ℕ × Value). p.0) (cell s n).gathered ((m, _) ∷ []))) (more-distinct m (nodes_of (cell s n).gathered) (h n) (sym (gathered-in m (cell s n).gathered) ∙ not-true _ (and_right _ _ (and_left _ _ a))))) h
 step-GatheredAreApart graph s (steps.Evaluate t n) a h = one-cell s n (keep_found _) (h n) h
 step-GatheredAreApart graph s (steps.Body t n) a h = one-cell s n (keep_body _) (h n) h
 step-GatheredAreApart graph s (steps.Resolve t n) a h =

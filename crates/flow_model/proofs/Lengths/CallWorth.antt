@@ -4,6 +4,7 @@ use Rattle.std.specs.Prelude.{is_some}
 use Rattle.std.specs.Prelude.{slice_get, is_none}
 use Rattle.script_tree.specs.declared.limits.TheConstants.{LOOKS}
 use Rattle.script_tree.specs.declared.value.Value.{Value}
+use Rattle.script_tree.proofs.Truths.{and_right}
 use Rattle.signal_graph.specs.declared.call.Call.{Call}
 use Rattle.signal_graph.specs.Graph.{Graph}
 use Rattle.node_versions.specs.declared.entry.Entry.{Entry}
@@ -16,7 +17,7 @@ use Rattle.flow_model.specs.Machine.Words.{next_look}
 use Rattle.flow_model.specs.Machine.Changes.{enter, raise, ensure_mark, opened, closed, tell_call, add_edge}
 use Rattle.flow_model.specs.Machine.Steps.{allowed, apply, begin, new_call, open_node, frame, started, counted, with_look, without_call, served_look, look_value}
 use Rattle.flow_model.specs.Kept.Lawful.{IsLawful}
-use Rattle.flow_model.proofs.OneStep.WhoMayStep.{and_right, start-is_framing, is_framing-live, look-idle, end-idle, idle-executes, executes-live}
+use Rattle.flow_model.proofs.OneStep.WhoMayStep.{start-is_framing, is_framing-live, look-idle, end-idle, idle-executes, executes-live}
 use Rattle.flow_model.proofs.General.Sums.{total, total-append, bit}
 use Rattle.flow_model.proofs.Lengths.ListWorth.{live_versions}
 

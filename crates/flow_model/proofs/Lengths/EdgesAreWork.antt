@@ -1,7 +1,9 @@
 -- Where a node's last Done stays, Discover and Drop raise the amount of work at their node, and lower it at no other.
 use Rattle.std.proofs.Common.{◌≡◌, ℕ, suc, ◌+◌, ◌≤◌, ◌<◌, Bool, true, false, ◌||◌, ◌==◌, ◌⊎◌, inl, inr, refl, sym, ap, arith, List, [], ◌∷◌, length, true≢false, ◌∙◌, subst}
+use Rattle.std.proofs.lemmas.Bool.{or_right, eqb-true, eq-eqb, false_from_ne_true, both_ways, cases_Bool, not-true}
 use Rattle.std.specs.Prelude.{is_some, filter, if◌then◌else◌}
 use Rattle.script_tree.specs.declared.value.Value.{Value}
+use Rattle.script_tree.proofs.Truths.{and_left, and_right}
 use Rattle.signal_graph.specs.Graph.{Graph, IsGraph, node_at, is_in, inputs_of}
 use Rattle.node_versions.specs.declared.entry.State.TheVariants.{Mark}
 use Rattle.node_versions.specs.Entries.{OutEdge, has, has_out, has_node, with_out}
@@ -11,8 +13,7 @@ use Rattle.flow_model.specs.Machine.Words.{heads, is_found, is_candidate, is_pri
 use Rattle.flow_model.specs.Machine.Changes.{place_entry, enter, ensure_mark, add_edge, drop_edge, remove_first}
 use Rattle.flow_model.specs.Machine.Steps.{allowed, apply}
 use Rattle.flow_model.specs.Kept.Lawful.{IsLawful, IsRunEdge, IsNewEdge, count_edges}
-use Rattle.flow_model.proofs.General.Truths.{or_right, same_number, equal_test, not_true, is_not_true, true_or_false}
-use Rattle.flow_model.proofs.OneStep.WhoMayStep.{and_left, and_right, not_is, at_front-heads, can_work-at_front, due-can_work, discover-due, drop-due}
+use Rattle.flow_model.proofs.OneStep.WhoMayStep.{at_front-heads, can_work-at_front, due-can_work, discover-due, drop-due}
 use Rattle.flow_model.proofs.OneList.Entering.{with_cell-cell}
 use Rattle.flow_model.proofs.OrderStays.OpenNodesHaveFrames.{cell-there, entry-there}
 use Rattle.flow_model.proofs.FramesSpread.AfterOtherSteps.{ensured-edges, removed-node}
@@ -34,7 +35,7 @@ more-nodes n0 n t [] h = absurd (true≢false (sym h))
 more-nodes n0 n t (edge ∷ os) h = let r = more-nodes n0 n t os in grind (arith, h, r)
 
 now-node : (n t : ℕ) (os : List OutEdge) → has_node (with_out os n t) n ≡ true
-now-node n t [] = let e = equal_test n n refl in rw (e, has_node) refl
+now-node n t [] = let e = eq-eqb n n refl in rw (e, has_node) refl
 now-node n t (edge ∷ os) = or_right _ _ (now-node n t os)
 
 -- What the head picks before is what the last Done picked.
@@ -51,7 +52,7 @@ record Discovers (graph : Graph) (s : Core) (t n c : ℕ) : Type 0 where
   none : has_node (outs s c) n ≡ false
 
 discovers : (graph : Graph) (s : Core) → IsLawful graph s → (t n c : ℕ) → allowed graph s (steps.Discover t n c) ≡ true → Discovers graph s t n c
-discovers graph s h t n c a = record { first = first; candidate = discover-candidate graph s t n c a; other = other; none = not_true _ (λ k. stood (some-edge (outs s c) n k)) }
+discovers graph s h t n c a = record { first = first; candidate = discover-candidate graph s t n c a; other = other; none = false_from_ne_true _ (λ k. stood (some-edge (outs s c) n k)) }
   where
     first : heads s t n ≡ true
     first = at_front-heads graph s t n (can_work-at_front graph s t n (due-can_work graph s t n (discover-due graph s t n c a)))
@@ -63,8 +64,8 @@ discovers graph s h t n c a = record { first = first; candidate = discover-candi
     stood x = go (h.edges_are_kept.stands n c x.0 x.1)
       where
         go : IsRunEdge s n c x.0 ⊎ IsNewEdge s n c x.0 → ⊥
-        go (inl r) = is_not_true _ other r.picked
-        go (inr r) = is_not_true _ (discover-no_edge graph s t n c a) (subst (λ (u : ℕ). has_out (outs s c) n u ≡ true) (heads-same s t x.0 n first r.first_open) x.1)
+        go (inl r) = both_ways _ other r.picked
+        go (inr r) = both_ways _ (discover-no_edge graph s t n c a) (subst (λ (u : ℕ). has_out (outs s c) n u ≡ true) (heads-same s t x.0 n first r.first_open) x.1)
 
 pub discovered-outs : (graph : Graph) (s : Core) (t n0 c m : ℕ) → (outs (apply graph s (steps.Discover t n0 c)) m ≡ outs s m) ⊎ ((m ≡ c) × (outs (apply graph s (steps.Discover t n0 c)) m ≡ with_out (outs s m) n0 t))
 discovered-outs graph s t n0 c m = go (with_cell-cell p c (add_edge n0 t) m)
@@ -86,7 +87,7 @@ discovered-further graph s h t n0 c n a e = record {
   body = λ k. ap is_some (part (λ (x : Cell). x.body) (λ x. refl) (λ x. refl)) ∙ k;
   last = same-last s q n e;
   added = λ m i j k. add m k (discovered-outs graph s t n0 c m);
-  taken = λ m i k. take m i k (discovered-outs graph s t n0 c m) (true_or_false (n == n0));
+  taken = λ m i k. take m i k (discovered-outs graph s t n0 c m) (cases_Bool (n == n0));
 }
   where
     q : Core
@@ -102,9 +103,9 @@ discovered-further graph s h t n0 c n a e = record {
     take : (m : ℕ) → is_in m (last_picks s n) ≡ true → has_node (outs s m) n ≡ false → (outs q m ≡ outs s m) ⊎ ((m ≡ c) × (outs q m ≡ with_out (outs s m) n0 t)) → ((n == n0) ≡ true) ⊎ ((n == n0) ≡ false) → has_node (outs q m) n ≡ false
     take m i k (inl x) w = ap (λ (os : List OutEdge). has_node os n) x ∙ k
     take m i k (inr x) (inr w) = ap (λ (os : List OutEdge). has_node os n) x.1 ∙ added-node n0 n t (outs s m) w ∙ k
-    take m i k (inr x) (inl w) = absurd (is_not_true _ (discovers graph s h t n0 c a).other (subst (λ (y : ℕ). is_in c (last_picks s y) ≡ true) (same_number n n0 w) (subst (λ (y : ℕ). is_in y (last_picks s n) ≡ true) x.0 i)))
+    take m i k (inr x) (inl w) = absurd (both_ways _ (discovers graph s h t n0 c a).other (subst (λ (y : ℕ). is_in c (last_picks s y) ≡ true) (eqb-true n n0 w) (subst (λ (y : ℕ). is_in y (last_picks s n) ≡ true) x.0 i)))
 
-ensured-length : (s : Core) (t c : ℕ) → length (ensure_mark s t c).cells ≡ length s.cells
+pub ensured-length : (s : Core) (t c : ℕ) → length (ensure_mark s t c).cells ≡ length s.cells
 ensured-length s t c = go (has (entries s c) t)
   where
     go : (b : Bool) → length (elim b as (λ _. Core) [ true ↦ s | false ↦ enter s t c Mark ]).cells ≡ length s.cells
@@ -167,7 +168,7 @@ dropped-outs graph s t n0 o m = go (with_cell-cell p o (drop_edge n0) m)
     go (inr e) = inr (e.0, ap (λ (x : Cell). x.outs) e.1 ∙ ap (remove_first n0) (ensured-edges s t o m))
 
 pub drop-other : (graph : Graph) (s : Core) (t n o : ℕ) → allowed graph s (steps.Drop t n o) ≡ true → is_candidate s n o ≡ false
-drop-other graph s t n o a = not_is _ (and_right _ _ (and_left _ _ (and_left _ _ a)))
+drop-other graph s t n o a = not-true _ (and_right _ _ (and_left _ _ (and_left _ _ a)))
 
 pub drop-edge : (graph : Graph) (s : Core) (t n o : ℕ) → allowed graph s (steps.Drop t n o) ≡ true → has_node (outs s o) n ≡ true
 drop-edge graph s t n o a = and_right _ _ (and_left _ _ a)
@@ -187,7 +188,7 @@ dropped-further graph s t n0 o n a e = record {
   found = part (λ (x : Cell). x.found) (λ x. refl) (λ x. refl);
   body = λ k. ap is_some (part (λ (x : Cell). x.body) (λ x. refl) (λ x. refl)) ∙ k;
   last = same-last s q n e;
-  added = λ m i j k. add m i k (dropped-outs graph s t n0 o m) (true_or_false (n == n0));
+  added = λ m i j k. add m i k (dropped-outs graph s t n0 o m) (cases_Bool (n == n0));
   taken = λ m i k. take m k (dropped-outs graph s t n0 o m);
 }
   where
@@ -200,7 +201,7 @@ dropped-further graph s t n0 o n a e = record {
     add : (m : ℕ) → is_candidate s n m ≡ true → has_node (outs s m) n ≡ true → (outs q m ≡ outs s m) ⊎ ((m ≡ o) × (outs q m ≡ remove_first n0 (outs s m))) → ((n == n0) ≡ true) ⊎ ((n == n0) ≡ false) → has_node (outs q m) n ≡ true
     add m i k (inl x) w = ap (λ (os : List OutEdge). has_node os n) x ∙ k
     add m i k (inr x) (inr w) = ap (λ (os : List OutEdge). has_node os n) x.1 ∙ removed-node n0 n (outs s m) w ∙ k
-    add m i k (inr x) (inl w) = absurd (is_not_true _ (drop-other graph s t n0 o a) (subst (λ (y : ℕ). is_candidate s y o ≡ true) (same_number n n0 w) (subst (λ (y : ℕ). is_candidate s n y ≡ true) x.0 i)))
+    add m i k (inr x) (inl w) = absurd (both_ways _ (drop-other graph s t n0 o a) (subst (λ (y : ℕ). is_candidate s y o ≡ true) (eqb-true n n0 w) (subst (λ (y : ℕ). is_candidate s n y ≡ true) x.0 i)))
 
     take : (m : ℕ) → has_node (outs s m) n ≡ false → (outs q m ≡ outs s m) ⊎ ((m ≡ o) × (outs q m ≡ remove_first n0 (outs s m))) → has_node (outs q m) n ≡ false
     take m k (inl x) = ap (λ (os : List OutEdge). has_node os n) x ∙ k

@@ -2,6 +2,7 @@
 -- Each beginning adds so much worth, and each step takes some away.
 use Rattle.std.proofs.Common.{◌≡◌, ℕ, suc, ◌+◌, ◌*◌, ◌≤◌, true, refl, ap, arith, List, [], ◌∷◌, length, map, ◌∙◌}
 use Rattle.std.proofs.Math.Nat.{suc-mul, mul-add, add-mul, mul_left_comm, mul-le-mul_left}
+use Rattle.std.proofs.lemmas.List.{length-map}
 use Rattle.signal_graph.specs.declared.call.Call.{Call}
 use Rattle.signal_graph.specs.Graph.{Graph, IsGraph, is_in}
 use Rattle.node_versions.specs.Entries.{at, is_done, is_frame, is_mark}
@@ -13,7 +14,6 @@ use Rattle.flow_model.specs.Machine.Histories.{Move, Begin, Make, after_move, af
 use Rattle.flow_model.specs.Follows.Callers.{count_begins}
 use Rattle.flow_model.specs.Follows.Lengths.{AreNext}
 use Rattle.flow_model.proofs.Lengths.FewInputs.{HasFewInputs}
-use Rattle.flow_model.proofs.General.AnyAndAll.{length-map}
 use Rattle.flow_model.proofs.Opening.OpeningLists.{opening-IsStart}
 use Rattle.flow_model.proofs.Opening.OpeningIsLawful.{opening-lawful}
 use Rattle.flow_model.proofs.Together.NextIsAllowed.{next-allowed}
@@ -131,7 +131,7 @@ state-worth graph s h =
         let r = h.room_is_kept.room n in
         let w = total-le (weight 80 (entries s n)) (λ (v : ℕ). 83) (live_versions s) (λ v. weigh-most 80 (at is_done (entries s n) v) (at is_frame (entries s n) v) (at is_mark (entries s n) v)) in
         let k = total-const 83 (live_versions s) in
-        let l : length (live_versions s) * 83 ≡ length s.calls * 83 = ap (λ (x : ℕ). x * 83) (length-map (λ (c : LiveCall). c.version) s.calls) in
+        let l : length (live_versions s) * 83 ≡ length s.calls * 83 = ap (λ (x : ℕ). x * 83) (length-map s.calls (λ (c : LiveCall). c.version)) in
         omega (arith, r, w, k, l)
 
 -- So many moves at most lead on from a lawful state: for each live call and each beginning, and for each entry.
@@ -168,6 +168,6 @@ pub next-length : (graph : Graph) → IsGraph graph → HasFewInputs graph → K
     → length steps ≤ length s.calls * (140 * length graph.nodes + 200) + length graph.nodes * (s.callers + 9)
 next-length graph g few keeps s h t steps n =
     let a = moves-length graph g few keeps s h (map Make steps) (next-moves graph g keeps t steps s h n) in
-    let b = length-map Make steps in
+    let b = length-map steps Make in
     let c : (length s.calls + count_begins (map Make steps)) * (140 * length graph.nodes + 200) ≡ length s.calls * (140 * length graph.nodes + 200) = ap (λ (k : ℕ). k * (140 * length graph.nodes + 200)) (let e = none-begins steps in omega (arith, e)) in
     omega (arith, a, b, c)

@@ -1,5 +1,6 @@
 -- Each step at a node's list lowers its worth: the steps that calls may still make at their entries, and one for each entry.
 use Rattle.std.proofs.Common.{◌≡◌, ℕ, suc, ◌+◌, ◌≤◌, Bool, true, false, ◌&&◌, ◌||◌, not, ◌==◌, ◌⊎◌, inl, inr, refl, sym, ap, arith, List, [], ◌∷◌, length, map, true≢false, subst, Option, Some}
+use Rattle.std.proofs.lemmas.Bool.{eqb-true, eq-eqb, eqb-false, false_from_ne_true, both_ways, cases_Bool}
 use Rattle.std.specs.Prelude.{is_some}
 use Rattle.script_tree.specs.declared.value.Value.{Value}
 use Rattle.signal_graph.specs.Graph.{Graph, is_in}
@@ -7,15 +8,16 @@ use Rattle.node_versions.specs.declared.entry.State.{State}
 use Rattle.node_versions.specs.declared.entry.State.TheVariants.{Mark, Frame, Done}
 use Rattle.node_versions.specs.declared.entry.Entry.{Entry}
 use Rattle.node_versions.specs.Entries.{has, at, is_mark, is_frame, is_done, placed, with_state, collected}
+use Rattle.node_versions.proofs.KeptLemmas.{length-with_state}
+use Rattle.node_versions.proofs.Places.{at-has}
 use Rattle.flow_model.specs.Machine.State.{Core, LiveCall, call_of, live, ended, entries}
 use Rattle.flow_model.specs.Machine.Changes.{stops, stops_call, new_entry}
 use Rattle.flow_model.specs.Machine.Words.{at_front}
 use Rattle.flow_model.specs.Kept.Lawful.{IsLawful}
-use Rattle.flow_model.proofs.General.Truths.{same_number, equal_test, other_number, not_true, is_not_true, true_or_false}
 use Rattle.flow_model.proofs.OneStep.WhoMayStep.{executes-live, at_front-executes, at_front-heads}
 use Rattle.flow_model.proofs.OneList.InOrder.{on_calls}
-use Rattle.flow_model.proofs.OneList.StatesAndPlaces.{at-has, with_state-at}
-use Rattle.flow_model.proofs.OneList.OneEntryACall.{placed-at_other, placed-at, placed-length, with_state-length, collected-at_live}
+use Rattle.flow_model.proofs.OneList.StatesAndPlaces.{with_state-at}
+use Rattle.flow_model.proofs.OneList.OneEntryACall.{placed-at_other, placed-at, placed-length, collected-at_live}
 use Rattle.flow_model.proofs.OneStep.VersionsStayFresh.{live-in}
 use Rattle.flow_model.proofs.Wants.FramedWith.{opens-frame, heads-opens}
 use Rattle.flow_model.proofs.Reactions.RunsThatHaveEnded.{not_both}
@@ -67,7 +69,7 @@ none-weight : (k : ℕ) (es : List Entry) (t : ℕ) → has es t ≡ false → w
 none-weight k es t h = weigh-same k _ _ _ false false false (none is_done) (none is_frame) (none is_mark)
   where
     none : (test : State → Bool) → at test es t ≡ false
-    none test = not_true _ (λ y. is_not_true _ h (at-has test es t y))
+    none test = false_from_ne_true _ (λ y. both_ways _ h (at-has test es t y))
 
 marked : (es : List Entry) (t : ℕ) → at is_mark es t ≡ true → (at is_done es t ≡ false) × (at is_frame es t ≡ false)
 marked [] t h = absurd (true≢false (sym h))
@@ -90,7 +92,7 @@ abbrev pub list_worth : ℕ → List ℕ → List Entry → ℕ
 list_worth k vs es = length es + total (weight k es) vs
 
 placed-worth : (k : ℕ) (vs : List ℕ) (stops : ℕ → Bool) (e : Entry) (es : List Entry) → is_done e.state ≡ false → has es e.version ≡ false → is_in e.version vs ≡ true → list_worth k vs (placed (on_calls stops) e es) + 1 ≤ list_worth k vs es
-placed-worth k vs stops e es d h i = ended (placed-length stops e es) (total-falls (weight k qs) (weight k es) 2 e.version vs i (λ v j. below v (true_or_false (v == e.version))) own)
+placed-worth k vs stops e es d h i = ended (placed-length stops e es) (total-falls (weight k qs) (weight k es) 2 e.version vs i (λ v j. below v (cases_Bool (v == e.version))) own)
   where
     qs : List Entry
     qs = placed (on_calls stops) e es
@@ -103,28 +105,28 @@ placed-worth k vs stops e es d h i = ended (placed-length stops e es) (total-fal
         omega (arith, a, b, c)
 
     below : (v : ℕ) → ((v == e.version) ≡ true) ⊎ ((v == e.version) ≡ false) → weight k qs v ≤ weight k es v
-    below v (inl x) = subst (λ (w : ℕ). weight k qs w ≤ weight k es w) (sym (same_number v e.version x)) (let o = own in omega (arith, o))
-    below v (inr x) = let r = weight-same k es qs v (λ test. placed-at_other test stops e es v (other_number v e.version x)) in omega (arith, r)
+    below v (inl x) = subst (λ (w : ℕ). weight k qs w ≤ weight k es w) (sym (eqb-true v e.version x)) (let o = own in omega (arith, o))
+    below v (inr x) = let r = weight-same k es qs v (λ test. placed-at_other test stops e es v (eqb-false v e.version x)) in omega (arith, r)
 
     ended : length qs ≡ suc (length es) → total (weight k qs) vs + 2 ≤ total (weight k es) vs → list_worth k vs qs + 1 ≤ list_worth k vs es
     ended a b = omega (arith, a, b)
 
 -- a call's entry gets another state
 changed-worth : (k b : ℕ) (vs : List ℕ) (t : ℕ) (x : State) (es : List Entry) → is_in t vs ≡ true → weight k (with_state t x es) t + b ≤ weight k es t → list_worth k vs (with_state t x es) + b ≤ list_worth k vs es
-changed-worth k b vs t x es i d = ended (with_state-length t x es) (total-falls (weight k qs) (weight k es) b t vs i (λ v j. below v (true_or_false (v == t))) d)
+changed-worth k b vs t x es i d = ended (length-with_state t x es) (total-falls (weight k qs) (weight k es) b t vs i (λ v j. below v (cases_Bool (v == t))) d)
   where
     qs : List Entry
     qs = with_state t x es
 
     below : (v : ℕ) → ((v == t) ≡ true) ⊎ ((v == t) ≡ false) → weight k qs v ≤ weight k es v
-    below v (inl e) = subst (λ (w : ℕ). weight k qs w ≤ weight k es w) (sym (same_number v t e)) (omega (arith, d))
+    below v (inl e) = subst (λ (w : ℕ). weight k qs w ≤ weight k es w) (sym (eqb-true v t e)) (omega (arith, d))
     below v (inr e) = let r = weight-same k es qs v (λ test. let w = with_state-at test t x es v in rw e at w) in omega (arith, r)
 
     ended : length qs ≡ length es → total (weight k qs) vs + b ≤ total (weight k es) vs → list_worth k vs qs + b ≤ list_worth k vs es
     ended a c = omega (arith, a, c)
 
 own-state : (test : State → Bool) (t : ℕ) (x : State) (es : List Entry) → has es t ≡ true → at test (with_state t x es) t ≡ test x
-own-state test t x es h = let w = with_state-at test t x es t in let e = equal_test t t refl in shown (t == t) (has es t) _ (test x) _ w e h
+own-state test t x es h = let w = with_state-at test t x es t in let e = eq-eqb t t refl in shown (t == t) (has es t) _ (test x) _ w e h
   where
     shown : (b c a p q : Bool) → a ≡ elim b as (λ _. Bool) [ true ↦ c && p | false ↦ q ] → b ≡ true → c ≡ true → a ≡ p
     shown b c a p q h j i = grind (arith, h, j, i)

@@ -1,5 +1,6 @@
 -- The amount of work at a node is at most 78, and less than the node's list is worth.
 use Rattle.std.proofs.Common.{◌≡◌, ℕ, zero, suc, ◌+◌, ◌≤◌, ◌<◌, true, ◌⊎◌, inl, inr, refl, sym, ap, arith, List, [], ◌∷◌, length, map, true≢false, ◌∙◌, subst, Option, Some, None, slice_index_or}
+use Rattle.std.proofs.lemmas.List.{length-map}
 use Rattle.std.specs.Prelude.{is_some}
 use Rattle.std.specs.List.{AllZip}
 use Rattle.script_tree.specs.declared.limits.TheConstants.{SELECTORS}
@@ -11,17 +12,18 @@ use Rattle.signal_graph.specs.declared.node.Node.{Node}
 use Rattle.signal_graph.specs.declared.node.Node.TheVariants.{Source, Signal, Fold, Choose}
 use Rattle.signal_graph.specs.Graph.{Graph, IsGraph, IsNode, node_at, is_in, inputs_of, selectors_of}
 use Rattle.signal_graph.specs.Values.{nodes_in, taken, select}
+use Rattle.signal_graph.proofs.Members.{nodes_in-length}
 use Rattle.node_versions.specs.declared.entry.Entry.{Entry}
 use Rattle.node_versions.specs.Entries.{has, is_done, last_done, state_of, picks_of, picks_at}
+use Rattle.node_versions.proofs.Collecting.{last_is_done}
+use Rattle.node_versions.proofs.Places.{at-has}
 use Rattle.flow_model.specs.Machine.State.{Core, Found, cell, entries}
 use Rattle.flow_model.specs.Machine.Words.{picks_of_found, finds, run_over}
 use Rattle.flow_model.proofs.Lengths.FewInputs.{HasFewInputs}
 use Rattle.flow_model.specs.Kept.Lawful.{IsLawful, IsPickOf, SomeHead, IsWorking}
 use Rattle.flow_model.proofs.OneStep.WhoMayStep.{opens-live}
-use Rattle.flow_model.proofs.OneList.StatesAndPlaces.{at-has}
-use Rattle.flow_model.proofs.General.AnyAndAll.{length-map}
 use Rattle.flow_model.proofs.Opening.OpeningLists.{nodes-at}
-use Rattle.flow_model.proofs.OneList.OneEntryACall.{last_done-at, last_done-done}
+use Rattle.flow_model.proofs.OneList.OneEntryACall.{last_done-at}
 use Rattle.flow_model.proofs.Wants.EarlierNodes.{own-done}
 use Rattle.flow_model.proofs.Wants.FramedWith.{opens-frame, heads-opens}
 use Rattle.flow_model.proofs.OneStep.VersionsStayFresh.{live-in}
@@ -30,11 +32,6 @@ use Rattle.flow_model.proofs.Lengths.ListWorth.{list_worth, live_versions, weigh
 use Rattle.flow_model.proofs.Lengths.WorkDone.{Progress, last_picks, candidates, progress, work, found_work, is_added, is_taken}
 
 -- ---- how many picks there are
-
-pub nodes_in-length : (ps : List (Option ℕ)) → length (nodes_in ps) ≤ length ps
-nodes_in-length [] = omega arith
-nodes_in-length (None ∷ ps) = let r = nodes_in-length ps in omega (arith, r)
-nodes_in-length (Some c ∷ ps) = let r = nodes_in-length ps in omega (arith, r)
 
 few-selectors : (graph : Graph) → IsGraph graph → (n : ℕ) → length (selectors_of (node_at graph n)) ≤ SELECTORS
 few-selectors graph g n = go (below_or_not n (length graph.nodes))
@@ -70,8 +67,8 @@ found-length (Signal script inputs) read acc = omega arith
 found-length (Fold v script inputs) read acc = omega arith
 found-length (Choose selectors body inputs) read acc =
     let f = λ (selector : Selector). select (run_over selector.script selector.inputs read (Faulty Kind)) selector.candidates in
-    let a = length-map taken (map f selectors) in
-    let b = length-map f selectors in
+    let a = length-map (map f selectors) taken in
+    let b = length-map selectors f in
     omega (arith, a, b)
 
 few-candidates : (graph : Graph) → IsGraph graph → (s : Core) → IsLawful graph s → (n : ℕ) → length (candidates (cell s n).found) ≤ SELECTORS
@@ -99,7 +96,7 @@ few-picks graph g s h n = go (last_done (entries s n)) refl
     go : (o : Option Entry) → last_done (entries s n) ≡ o → length (nodes_in (picks_of (state_of o))) ≤ SELECTORS
     go None e = omega arith
     go (Some x) e =
-        let d = last_done-at is_done (entries s n) x (h.one_entry n) e ∙ last_done-done (entries s n) x e in
+        let d = last_done-at is_done (entries s n) x (h.one_entry n) e ∙ last_is_done (entries s n) x e in
         let own : picks_at (entries s n) x.version ≡ picks_of x.state = ap (λ (o : Option Entry). picks_of (state_of o)) (own-done (entries s n) x (h.one_entry n) e) in
         let z = zip-length (selectors_of (node_at graph n)) (picks_of x.state) (subst (AllZip IsPickOf (selectors_of (node_at graph n))) own (h.picks_fit x.version n d)) in
         let a = nodes_in-length (picks_of x.state) in

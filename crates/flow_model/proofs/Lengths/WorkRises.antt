@@ -1,7 +1,9 @@
 -- Where a node's last Done stays, no step but Resolve lowers the amount of work there, and each step that works there raises it.
 use Rattle.std.proofs.Common.{◌≡◌, ℕ, ◌+◌, ◌≤◌, ◌<◌, Bool, true, false, ◌==◌, ◌⊎◌, inl, inr, refl, sym, ap, arith, List, [], ◌∷◌, ◌++◌, length, true≢false, ◌∙◌, subst, Option, Some, None}
+use Rattle.std.proofs.lemmas.Bool.{or_cases, eqb-true, eq-eqb, cases_Bool, not-true}
 use Rattle.std.specs.Prelude.{is_some, is_none}
 use Rattle.script_tree.specs.declared.value.Value.{Value}
+use Rattle.script_tree.proofs.Truths.{and_left, and_right}
 use Rattle.signal_graph.specs.Graph.{Graph, node_at, is_in, inputs_of}
 use Rattle.node_versions.specs.declared.entry.State.TheVariants.{Mark, Done}
 use Rattle.node_versions.specs.Entries.{OutEdge, value_at, value_before, picks_before, has_node}
@@ -12,8 +14,7 @@ use Rattle.flow_model.specs.Machine.Words.{gathered_of, is_candidate, is_gathere
 use Rattle.flow_model.specs.Machine.Changes.{place_entry, set_state, finish, cleared}
 use Rattle.flow_model.specs.Machine.Steps.{allowed, apply, gather, keep_found, keep_body, is_change, collect}
 use Rattle.flow_model.specs.Kept.Lawful.{IsLawful}
-use Rattle.flow_model.proofs.General.Truths.{or_cases, same_number, equal_test, true_or_false}
-use Rattle.flow_model.proofs.OneStep.WhoMayStep.{and_left, and_right, not_is, at_front-heads, can_work-at_front, due-can_work, gather-due, evaluate-at_front, body-at_front}
+use Rattle.flow_model.proofs.OneStep.WhoMayStep.{at_front-heads, can_work-at_front, due-can_work, gather-due, evaluate-at_front, body-at_front}
 use Rattle.flow_model.proofs.OneList.Entering.{with_cell-cell}
 use Rattle.flow_model.proofs.OrderStays.OpenNodesHaveFrames.{cell-there, cell-other, entry-there}
 use Rattle.flow_model.proofs.FramesSpread.AfterOtherSteps.{same_outs}
@@ -33,7 +34,7 @@ more-gathered (p ∷ ps) m i v h = go (p.0 == m) h (more-gathered ps m i v)
     go false k r = r k
 
 now-gathered : (g : List (ℕ × Value)) (i : ℕ) (v : Value) → has_gathered (g ++ (i, v) ∷ []) i ≡ true
-now-gathered [] i v = let e = equal_test i i refl in rw (e, gathered_of) refl
+now-gathered [] i v = let e = eq-eqb i i refl in rw (e, gathered_of) refl
 now-gathered (p ∷ ps) i v = go (p.0 == i) (now-gathered ps i v)
   where
     go : (b : Bool) → has_gathered (ps ++ (i, v) ∷ []) i ≡ true → is_some (elim b as (λ _. Option Value) [ true ↦ Some p.1 | false ↦ gathered_of i (ps ++ (i, v) ∷ []) ]) ≡ true
@@ -61,7 +62,7 @@ gathered-further graph s t n0 i n e = record {
     go m k (inr x) = ap (λ (c : Cell). has_gathered c.gathered m) x.1 ∙ more-gathered (cell s n).gathered m i (value_at (entries s i) t) k
 
 pub gather-fresh : (graph : Graph) (s : Core) (t n i : ℕ) → allowed graph s (steps.Gather t n i) ≡ true → is_gathered s n i ≡ false
-gather-fresh graph s t n i a = not_is _ (and_right _ _ (and_left _ _ a))
+gather-fresh graph s t n i a = not-true _ (and_right _ _ (and_left _ _ a))
 
 gather-rises : (graph : Graph) (s : Core) → IsLawful graph s → (t n i : ℕ) → allowed graph s (steps.Gather t n i) ≡ true → Rises (inputs_of (node_at graph n)) (progress s n) (progress (apply graph s (steps.Gather t n i)) n)
 gather-rises graph s h t n i a = go (or_cases _ _ (and_right _ _ (and_left _ _ (and_left _ _ a))))
@@ -118,7 +119,7 @@ body-rises graph s h t n a = by_body (and_right _ _ (and_left _ _ (and_left _ _ 
 -- ---- Evaluate
 
 evaluate-fresh : (graph : Graph) (s : Core) (t n : ℕ) → allowed graph s (steps.Evaluate t n) ≡ true → (cell s n).found ≡ None
-evaluate-fresh graph s t n a = none (cell s n).found (not_is _ (and_right _ _ a))
+evaluate-fresh graph s t n a = none (cell s n).found (not-true _ (and_right _ _ a))
   where
     none : (o : Option Found) → is_some o ≡ false → o ≡ None
     none None k = refl
@@ -132,7 +133,7 @@ evaluated-rises graph s h t n a =
     work-found (inputs_of (node_at graph n)) (progress s n) (progress q n) (ap has_gathered (same-part (λ (c : Cell). c.gathered) s n f (λ c. refl) n)) (evaluate-fresh graph s t n a) (ap (λ (c : Cell). is_some c.found) (cell-there s n f l))
 
 evaluated-stays : (graph : Graph) (s : Core) → IsLawful graph s → (t n0 n : ℕ) → allowed graph s (steps.Evaluate t n0) ≡ true → SameLast s (apply graph s (steps.Evaluate t n0)) n → work graph s n ≤ work graph (apply graph s (steps.Evaluate t n0)) n
-evaluated-stays graph s h t n0 n a e = go (true_or_false (n == n0))
+evaluated-stays graph s h t n0 n a e = go (cases_Bool (n == n0))
   where
     f : Cell → Cell
     f = keep_found (found_now graph s t n0)
@@ -141,7 +142,7 @@ evaluated-stays graph s h t n0 n a e = go (true_or_false (n == n0))
     q = apply graph s (steps.Evaluate t n0)
 
     go : ((n == n0) ≡ true) ⊎ ((n == n0) ≡ false) → work graph s n ≤ work graph q n
-    go (inl w) = subst (λ (m : ℕ). work graph s m ≤ work graph q m) (sym (same_number n n0 w)) (let r = evaluated-rises graph s h t n0 a in omega (arith, r))
+    go (inl w) = subst (λ (m : ℕ). work graph s m ≤ work graph q m) (sym (eqb-true n n0 w)) (let r = evaluated-rises graph s h t n0 a in omega (arith, r))
     go (inr w) =
         let c = cell-other s n0 n f w in
         work-stays (inputs_of (node_at graph n)) (progress s n) (progress q n) (same-further s q n (record { gathered = ap (λ (x : Cell). x.gathered) c; found = ap (λ (x : Cell). x.found) c; body = ap (λ (x : Cell). x.body) c; edges = same_outs s n0 f (λ x. refl) }) e)

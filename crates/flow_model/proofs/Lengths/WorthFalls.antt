@@ -3,7 +3,9 @@ use Rattle.std.proofs.Common.{◌≡◌, ℕ, zero, suc, ◌+◌, ◌≤◌, ◌
 use Rattle.std.specs.Prelude.{nat_lt, slice_get}
 use Rattle.std.specs.List.{list_any, AllByRecursion}
 use Rattle.std.proofs.lemmas.List.Folds.{list_any-append}
+use Rattle.std.proofs.lemmas.Bool.{or_cases, or_left, or_right, eqb-true, eq-eqb, cases_Bool}
 use Rattle.script_tree.specs.declared.value.Value.{Value}
+use Rattle.script_tree.proofs.Truths.{and_left, and_right}
 use Rattle.signal_graph.specs.Graph.{Graph, IsGraph, node_at, number_of, numbers, is_in, inputs_of}
 use Rattle.signal_graph.specs.Machine.{names_node, names_source, first_wrong, sets_of, looks_of}
 use Rattle.node_versions.specs.declared.entry.State.TheVariants.{Mark, Frame, Done}
@@ -17,8 +19,7 @@ use Rattle.flow_model.specs.Machine.Changes.{place_entry, set_state, enter, rais
 use Rattle.flow_model.specs.Machine.Steps.{allowed, apply, open_node, frame, asks_for, is_change, collect}
 use Rattle.flow_model.proofs.Lengths.FewInputs.{HasFewInputs}
 use Rattle.flow_model.specs.Kept.Lawful.{IsLawful}
-use Rattle.flow_model.proofs.General.Truths.{or_cases, or_left, or_right, same_number, equal_test, true_or_false}
-use Rattle.flow_model.proofs.OneStep.WhoMayStep.{and_left, and_right, executes-live, frame-wants, skip-can_work, resolve-can_work, can_work-at_front, at_front-heads, due-can_work, mark-executes, mark-no_entry, idle-executes, gather-due, evaluate-at_front, body-at_front, discover-due, drop-due}
+use Rattle.flow_model.proofs.OneStep.WhoMayStep.{executes-live, frame-wants, skip-can_work, resolve-can_work, can_work-at_front, at_front-heads, due-can_work, mark-executes, mark-no_entry, idle-executes, gather-due, evaluate-at_front, body-at_front, discover-due, drop-due}
 use Rattle.flow_model.proofs.OrderStays.AfterEachStep.{wanted-fresh}
 use Rattle.flow_model.proofs.OneStep.ChangesOfOneList.{marks, frames, raises, same_cell, step-list}
 use Rattle.flow_model.proofs.OrderStays.OpenNodesHaveFrames.{cell-there, entry-there}
@@ -132,10 +133,10 @@ others-fall graph s k step a n r =
     (λ e. let w = step-work graph s step k.lawful a n r e in omega (arith, w)) (omega arith) (omega arith)
 
 all-fall : (graph : Graph) (s : Core) → Setting graph s → (step : Step) → allowed graph s step ≡ true → (n : ℕ) → Falls graph s (apply graph s step) n 0
-all-fall graph s k (steps.Resolve t m) a n = go (true_or_false (n == m))
+all-fall graph s k (steps.Resolve t m) a n = go (cases_Bool (n == m))
   where
     go : ((n == m) ≡ true) ⊎ ((n == m) ≡ false) → Falls graph s (apply graph s (steps.Resolve t m)) n 0
-    go (inl e) = subst (λ (x : ℕ). Falls graph s (apply graph s (steps.Resolve t m)) x 0) (sym (same_number n m e)) (one-less graph s (apply graph s (steps.Resolve t m)) m (resolve-falls graph s k t m a))
+    go (inl e) = subst (λ (x : ℕ). Falls graph s (apply graph s (steps.Resolve t m)) x 0) (sym (eqb-true n m e)) (one-less graph s (apply graph s (steps.Resolve t m)) m (resolve-falls graph s k t m a))
     go (inr e) = others-fall graph s k (steps.Resolve t m) a n e
 all-fall graph s k step a n = others-fall graph s k step a n refl
 
@@ -216,7 +217,7 @@ look-there graph s h t m i k =
   where
     found : (o : Option ℕ) → is_some_of o m ≡ true → o ≡ Some m
     found None j = absurd (true≢false (sym j))
-    found (Some v) j = ap Some (same_number v m j)
+    found (Some v) j = ap Some (eqb-true v m j)
 
 mark-there : (graph : Graph) → IsGraph graph → (s : Core) → IsLawful graph s → (t m : ℕ) → allowed graph s (steps.Mark t m) ≡ true → m < length graph.nodes
 mark-there graph g s h t m a = go (or_cases _ _ (and_right _ _ a))
@@ -241,7 +242,7 @@ collect-there graph s n a = some (entries s n) (λ u k. entry-there s n u k) (lo
 
     some : (es : List Entry) → ((u : ℕ) → has es u ≡ true → n < length s.cells) → 1 ≤ length es → n < length s.cells
     some [] f l = absurd (omega arith)
-    some (e ∷ es) f l = f e.version (or_left _ _ (equal_test e.version e.version refl))
+    some (e ∷ es) f l = f e.version (or_left _ _ (eq-eqb e.version e.version refl))
 
 collect-lowers : (graph : Graph) (s : Core) → IsLawful graph s → (n : ℕ) → allowed graph s (steps.Collect n) ≡ true → Lowers 80 s n (entries (apply graph s (steps.Collect n)) n) 1
 collect-lowers graph s h n a = collected-keeps graph 80 1 s h n _ (ap (λ (c : Cell). c.entries) (cell-there s n (collect s) (collect-there graph s n a))) (less (length (collected (ended s) (entries s n))) (length (entries s n)) a)
@@ -251,10 +252,10 @@ collect-lowers graph s h n a = collected-keeps graph 80 1 s h n _ (ap (λ (c : C
 
 -- ---- all steps
 
-head-there : (graph : Graph) (s : Core) → IsLawful graph s → (t n : ℕ) → at_front graph s t n ≡ true → n < length graph.nodes
+pub head-there : (graph : Graph) (s : Core) → IsLawful graph s → (t n : ℕ) → at_front graph s t n ≡ true → n < length graph.nodes
 head-there graph s h t n f = let l = entry-there s n t (heads-entry graph s h t n (at_front-heads graph s t n f)) in let e = h.lists in omega (arith, l, e)
 
-due-there : (graph : Graph) (s : Core) → IsLawful graph s → (t n : ℕ) → due graph s t n ≡ true → n < length graph.nodes
+pub due-there : (graph : Graph) (s : Core) → IsLawful graph s → (t n : ℕ) → due graph s t n ≡ true → n < length graph.nodes
 due-there graph s h t n d = head-there graph s h t n (can_work-at_front graph s t n (due-can_work graph s t n d))
 
 at-node : (graph : Graph) (s : Core) → Setting graph s → (step : Step) → allowed graph s step ≡ true → (n : ℕ) → n < length graph.nodes → Falls graph s (apply graph s step) n 1 → StateFalls graph s (apply graph s step)

@@ -1,16 +1,17 @@
 -- A call that gets a Frame is before none of the calls whose out-edges are active for it.
 use Rattle.std.proofs.Common.{◌≡◌, ℕ, Bool, true, false, ◌||◌, not, ◌==◌, refl, arith, List, [], ◌∷◌, ◌++◌}
 use Rattle.std.proofs.lemmas.Bool.Decides.{eqb_tells}
+use Rattle.std.proofs.lemmas.Bool.{false_from_ne_true, both_ways}
 use Rattle.signal_graph.specs.Graph.{Graph}
 use Rattle.node_versions.specs.declared.entry.State.{State}
 use Rattle.node_versions.specs.declared.entry.State.TheVariants.{Frame}
 use Rattle.node_versions.specs.declared.entry.Entry.{Entry}
 use Rattle.node_versions.specs.Entries.{has, behind, up_to, is_active, with_state, front, rest, placed}
+use Rattle.node_versions.proofs.KeptLemmas.{has-with_state}
 use Rattle.flow_model.specs.Machine.State.{Core, live, entries, precedes}
 use Rattle.flow_model.specs.Machine.Changes.{stops, stops_call, new_entry}
 use Rattle.flow_model.specs.Kept.Lawful.{IsLawful}
-use Rattle.flow_model.proofs.General.Truths.{not_true, is_not_true}
-use Rattle.flow_model.proofs.OneList.InOrder.{with_state-has, front-goes, front-has}
+use Rattle.flow_model.proofs.OneList.InOrder.{front-goes, front-has}
 use Rattle.flow_model.proofs.OneList.OneEntryACall.{placed-has}
 use Rattle.flow_model.proofs.Wants.FramedWith.{before-not_after}
 
@@ -28,7 +29,7 @@ pub raised-place : (graph : Graph) (s : Core) → IsLawful graph s → (t m u : 
 raised-place graph s h t m u lt ht a hu ne = before-not_after graph s h u t (h.order_is_kept.lists m u t (active-behind (entries s m) u t hu ht up ne) lt)
   where
     up : has (up_to (entries s m) t) u ≡ true
-    up = let w = with_state-has t Frame (entries s m) u in let v = with_state-up_to t Frame (entries s m) t u in grind (arith, a, hu, w, v)
+    up = let w = has-with_state t Frame (entries s m) u in let v = with_state-up_to t Frame (entries s m) t u in grind (arith, a, hu, w, v)
 
 more-up_to : (xs ys : List Entry) (e : Entry) (u : ℕ) → has xs e.version ≡ false → has (up_to (xs ++ e ∷ ys) e.version) u ≡ (has xs u || (e.version == u))
 more-up_to [] ys e u h = grind (arith, eqb_tells)
@@ -40,7 +41,7 @@ pub placed-place : (s : Core) (t m u : ℕ) → has (entries s m) t ≡ false �
 placed-place s t m u fresh a hu ne =
     let es = entries s m in
     let e = new_entry s t Frame in
-    let none : has (front (stops s t) es) t ≡ false = not_true _ (λ k. is_not_true _ fresh (front-has (stops_call s t) es t k)) in
+    let none : has (front (stops s t) es) t ≡ false = false_from_ne_true _ (λ k. both_ways _ fresh (front-has (stops_call s t) es t k)) in
     let p = placed-has (stops_call s t) e es u in
     let m1 = more-up_to (front (stops s t) es) (rest (stops s t) es) e u none in
     let f : has (front (stops s t) es) u ≡ true = in_front (has (placed (stops s t) e es) u) (has (up_to (placed (stops s t) e es) t) u) (has es u) (t == u) (has (front (stops s t) es) u) a p m1 hu ne in

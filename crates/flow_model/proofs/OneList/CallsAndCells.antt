@@ -2,11 +2,11 @@
 use Rattle.std.proofs.Common.{◌≡◌, ℕ, Bool, true, false, ◌||◌, ◌==◌, ◌⊎◌, ◌≢◌, inl, inr, refl, sym, ap, arith, List, [], ◌∷◌, ◌++◌, true≢false, ◌∙◌, subst, Option, Some, None}
 use Rattle.std.specs.Prelude.{is_some}
 use Rattle.std.proofs.lemmas.Bool.Decides.{eqb_tells}
+use Rattle.std.proofs.lemmas.Bool.{eqb-true, eq-eqb, both_ways, cases_Bool}
 use Rattle.std.specs.Prelude.{map}
 use Rattle.std.specs.List.{list_any}
 use Rattle.flow_model.specs.Machine.State.{Core, LiveCall, call, call_of, call_or, live, executes, with_call, change_call}
 use Rattle.flow_model.specs.Machine.Steps.{without_call, started}
-use Rattle.flow_model.proofs.General.Truths.{same_number, equal_test, is_not_true, true_or_false}
 
 -- The change keeps what tells one call from another, and its phase.
 pub record KeepsPhase (f : LiveCall → LiveCall) : Type 0 where
@@ -50,11 +50,11 @@ pub with_call-live : (s : Core) (t : ℕ) (f : LiveCall → LiveCall) → ((c : 
 with_call-live s t f k = λ i u. at u i
   where
     go : (u : ℕ) → ((u == t) ≡ true) ⊎ ((u == t) ≡ false) → live (with_call s t f) u ≡ live s u
-    go u (inl e) = subst (λ (w : ℕ). live (with_call s t f) w ≡ live s w) (sym (same_number u t e)) (ap is_some (change_call-same t f k s.calls) ∙ option_call-live f (call_of s.calls t))
-    go u (inr e) = ap is_some (change_call-other t u f k s.calls (λ x. is_not_true _ e (equal_test u t x)))
+    go u (inl e) = subst (λ (w : ℕ). live (with_call s t f) w ≡ live s w) (sym (eqb-true u t e)) (ap is_some (change_call-same t f k s.calls) ∙ option_call-live f (call_of s.calls t))
+    go u (inr e) = ap is_some (change_call-other t u f k s.calls (λ x. both_ways _ e (eq-eqb u t x)))
 
     at : (u : ℕ) → live (with_call s t f) u ≡ live s u
-    at u = go u (true_or_false (u == t))
+    at u = go u (cases_Bool (u == t))
 
 pub with_call-executes : (s : Core) (t : ℕ) (f : LiveCall → LiveCall) → KeepsPhase f → executes (with_call s t f) ≡ executes s
 with_call-executes s t f k = λ i u. at u i
@@ -63,11 +63,11 @@ with_call-executes s t f k = λ i u. at u i
     reads o = (call_or o).executing
 
     go : (u : ℕ) → ((u == t) ≡ true) ⊎ ((u == t) ≡ false) → executes (with_call s t f) u ≡ executes s u
-    go u (inl e) = subst (λ (w : ℕ). executes (with_call s t f) w ≡ executes s w) (sym (same_number u t e)) (ap (λ (o : Option LiveCall). (call_or o).executing) (change_call-same t f k.version s.calls) ∙ option_call-executes f k (call_of s.calls t))
-    go u (inr e) = ap (λ (o : Option LiveCall). (call_or o).executing) (change_call-other t u f k.version s.calls (λ x. is_not_true _ e (equal_test u t x)))
+    go u (inl e) = subst (λ (w : ℕ). executes (with_call s t f) w ≡ executes s w) (sym (eqb-true u t e)) (ap (λ (o : Option LiveCall). (call_or o).executing) (change_call-same t f k.version s.calls) ∙ option_call-executes f k (call_of s.calls t))
+    go u (inr e) = ap (λ (o : Option LiveCall). (call_or o).executing) (change_call-other t u f k.version s.calls (λ x. both_ways _ e (eq-eqb u t x)))
 
     at : (u : ℕ) → executes (with_call s t f) u ≡ executes s u
-    at u = go u (true_or_false (u == t))
+    at u = go u (cases_Bool (u == t))
 
 pub map_call-live : (s : Core) (f : LiveCall → LiveCall) → ((c : LiveCall) → (f c).version ≡ c.version) → live (record s { calls = map f s.calls }) ≡ live s
 map_call-live s f k = λ i u. (ap is_some (map_call-reads f k s.calls u) ∙ option_call-live f (call_of s.calls u)) i
@@ -102,8 +102,8 @@ with_call-field {A} read s t f k u lt = go (u == t) refl
     changed (Some c) h = refl
 
     go : (b : Bool) → (u == t) ≡ b → read (call (with_call s t f) u) ≡ elim b as (λ _. A) [ true ↦ read (f (call s t)) | false ↦ read (call s u) ]
-    go true e = ap (λ (w : ℕ). read (call (with_call s t f) w)) (same_number u t e) ∙ ap (λ (o : Option LiveCall). read (call_or o)) (change_call-same t f k s.calls) ∙ ap read (changed (call_of s.calls t) lt)
-    go false e = ap (λ (o : Option LiveCall). read (call_or o)) (change_call-other t u f k s.calls (λ x. is_not_true _ e (equal_test u t x)))
+    go true e = ap (λ (w : ℕ). read (call (with_call s t f) w)) (eqb-true u t e) ∙ ap (λ (o : Option LiveCall). read (call_or o)) (change_call-same t f k s.calls) ∙ ap read (changed (call_of s.calls t) lt)
+    go false e = ap (λ (o : Option LiveCall). read (call_or o)) (change_call-other t u f k s.calls (λ x. both_ways _ e (eq-eqb u t x)))
 
 -- The last call of a longer list is read as before under any other version.
 pub last_call-other : (o : Option LiveCall) (c : LiveCall) (u : ℕ) → (c.version == u) ≡ false → last_call o c u ≡ o
@@ -111,7 +111,7 @@ last_call-other (Some x) c u h = refl
 last_call-other None c u h = rw (h, last_call) refl
 
 pub last_call-it : (o : Option LiveCall) (c : LiveCall) → o ≡ None → last_call o c c.version ≡ Some c
-last_call-it o c h = let e = equal_test c.version c.version refl in rw (h, last_call, e) refl
+last_call-it o c h = let e = eq-eqb c.version c.version refl in rw (h, last_call, e) refl
 
 -- A field that a change keeps is read as before.
 option_call-field : {A : Type 0} (read : LiveCall → A) (f : LiveCall → LiveCall) → ((c : LiveCall) → read (f c) ≡ read c) → (o : Option LiveCall) → read (call_or (option_call f o)) ≡ read (call_or o)
@@ -119,11 +119,11 @@ option_call-field read f k None = refl
 option_call-field read f k (Some c) = k c
 
 pub with_call-keeps : {A : Type 0} (read : LiveCall → A) (s : Core) (t : ℕ) (f : LiveCall → LiveCall) → ((c : LiveCall) → (f c).version ≡ c.version) → ((c : LiveCall) → read (f c) ≡ read c) → (u : ℕ) → read (call (with_call s t f) u) ≡ read (call s u)
-with_call-keeps {A} read s t f v k u = go (true_or_false (u == t))
+with_call-keeps {A} read s t f v k u = go (cases_Bool (u == t))
   where
     go : ((u == t) ≡ true) ⊎ ((u == t) ≡ false) → read (call (with_call s t f) u) ≡ read (call s u)
-    go (inl e) = subst (λ (w : ℕ). read (call (with_call s t f) w) ≡ read (call s w)) (sym (same_number u t e)) (ap (λ (o : Option LiveCall). read (call_or o)) (change_call-same t f v s.calls) ∙ option_call-field read f k (call_of s.calls t))
-    go (inr e) = ap (λ (o : Option LiveCall). read (call_or o)) (change_call-other t u f v s.calls (λ x. is_not_true _ e (equal_test u t x)))
+    go (inl e) = subst (λ (w : ℕ). read (call (with_call s t f) w) ≡ read (call s w)) (sym (eqb-true u t e)) (ap (λ (o : Option LiveCall). read (call_or o)) (change_call-same t f v s.calls) ∙ option_call-field read f k (call_of s.calls t))
+    go (inr e) = ap (λ (o : Option LiveCall). read (call_or o)) (change_call-other t u f v s.calls (λ x. both_ways _ e (eq-eqb u t x)))
 
 pub map_call-keeps : {A : Type 0} (read : LiveCall → A) (s : Core) (f : LiveCall → LiveCall) → ((c : LiveCall) → (f c).version ≡ c.version) → ((c : LiveCall) → read (f c) ≡ read c) → (u : ℕ) → read (call (record s { calls = map f s.calls }) u) ≡ read (call s u)
 map_call-keeps read s f v k u = ap (λ (o : Option LiveCall). read (call_or o)) (map_call-reads f v s.calls u) ∙ option_call-field read f k (call_of s.calls u)

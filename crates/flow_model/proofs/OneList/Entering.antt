@@ -1,16 +1,17 @@
 -- Where a call enters a list, the order has no cycle, no framing call comes before an executing one, and each list stands in order.
 use Rattle.std.proofs.Common.{◌≡◌, ℕ, zero, suc, Bool, true, false, ◌&&◌, ◌||◌, not, ◌⊎◌, ◌≢◌, inl, inr, refl, sym, ap, arith, List, [], ◌∷◌, ◌∙◌, subst, Option, Some, None, slice_index_or}
 use Rattle.std.proofs.lemmas.Bool.Decides.{eqb_tells}
+use Rattle.std.proofs.lemmas.Bool.{both_ways}
 use Rattle.order_graph.specs.declared.pair.Pair.{Pair}
 use Rattle.order_graph.specs.Order.{reaches, linked}
+use Rattle.order_graph.proofs.Reaching.{reaches-join, reaches-linked}
 use Rattle.node_versions.specs.declared.entry.State.{State}
 use Rattle.node_versions.specs.declared.entry.Entry.{Entry}
 use Rattle.node_versions.specs.Entries.{has, front, rest, placed}
 use Rattle.flow_model.specs.Machine.Lists.{change_at}
 use Rattle.flow_model.specs.Machine.State.{Core, Cell, cell, no_cell, live, executes, is_framing, entries, with_cell}
 use Rattle.flow_model.specs.Machine.Changes.{stops, stops_call, first_version, last_version, link_left, link_right, linked_at, new_entry, place_entry, enter}
-use Rattle.flow_model.proofs.General.Truths.{is_not_true}
-use Rattle.flow_model.proofs.OneList.Chains.{reaches-link, reaches-trans, link-no_cycle}
+use Rattle.flow_model.proofs.OneList.Chains.{link-no_cycle}
 use Rattle.flow_model.proofs.OneList.InOrder.{Ascends, Ascends-map, Ascends-across, placed-Ascends, IsTransitive, front-goes, rest-stops, front-rest, front-has, rest-has, last-has, first-has}
 
 -- The recorded order, where f and x are the tests for framing and executing calls.
@@ -25,7 +26,7 @@ pub record IsOneOf (f x : ℕ → Bool) (u : ℕ) : Type 0 where
 link-apart : (ps : List Pair) (f x : ℕ → Bool) (a b n : ℕ) → Apart ps f x → IsOneOf f x a → IsOneOf f x b → (f a && x b) ≡ false
     → (u v : ℕ) → f u ≡ true → x v ≡ true → reaches (linked ps a b n) u v ≡ false
 link-apart ps f x a b n h oa ob fits u v fu xv =
-    let e = reaches-link ps a b n u v in
+    let e = reaches-linked ps a b n u v in
     let h1 = h.apart u v fu xv in
     let h2 = h.apart u a fu in
     let h3 = λ (y : f b ≡ true). h.apart b v y xv in
@@ -63,7 +64,7 @@ is_framing-live s u h = record { one = grind arith; not_both = grind arith }
 
 Comes-trans : (s : Core) (old : ℕ → ℕ → Bool) → ((u v : ℕ) → reaches s.pairs u v ≡ true → (live s u && live s v) ≡ true) → IsTransitive (λ u v. old u v ≡ true) → IsTransitive (Comes s old)
 Comes-trans s old pl ot u v w h k =
-    let t = reaches-trans s.pairs u v w in
+    let t = reaches-join s.pairs u v w in
     let l1 = pl u v in
     let l2 = pl v w in
     let o = ot u v w in
@@ -94,16 +95,16 @@ right-away s old t m None v h lt q =
     let g = q.right_stops v refl in
     let c = h.order.no_cycle t in
     let a = h.order.apart v t in
-    let tr = reaches-trans s.pairs t v t in
+    let tr = reaches-join s.pairs t v t in
     grind (arith, c, a, tr)
 right-away s old t m (Some u) v h lt q =
     let g = q.right_stops v refl in
     let c = h.order.no_cycle t in
     let a = h.order.apart v t in
-    let tr = reaches-trans s.pairs t v t in
-    let e = reaches-link s.pairs u t m v t in
+    let tr = reaches-join s.pairs t v t in
+    let e = reaches-linked s.pairs u t m v t in
     let x = q.across u v refl refl in
-    let tu = reaches-trans s.pairs u v u in
+    let tu = reaches-join s.pairs u v u in
     let cu = h.order.no_cycle u in
     grind (arith, eqb_tells, c, a, tr, e, x, tu, cu)
 
@@ -124,9 +125,9 @@ pub record Grows (s : Core) (ps qs : List Pair) : Type 0 where
 
 link-Grows : (s : Core) (ps : List Pair) (a b n : ℕ) → live s a ≡ true → live s b ≡ true → Grows s ps (linked ps a b n)
 link-Grows s ps a b n la lb = record {
-  more = λ u v h. let e = reaches-link ps a b n u v in grind (arith, e);
+  more = λ u v h. let e = reaches-linked ps a b n u v in grind (arith, e);
   still_live = λ f u v h.
-      let e = reaches-link ps a b n u v in
+      let e = reaches-linked ps a b n u v in
       let f1 = f u v in
       let f2 = f u a in
       let f3 = f b v in
@@ -149,10 +150,10 @@ right-Grows s t m None ps lt = same-Grows s ps
 right-Grows s t m (Some v) ps lt = if-Grows s (live s v) _ _ _ (λ lv. link-Grows s ps t v m lt lv) (λ _. same-Grows s ps)
 
 left-linked : (s : Core) (t m u : ℕ) (ps : List Pair) → live s u ≡ true → reaches (link_left s t m (Some u) ps) u t ≡ true
-left-linked s t m u ps lu = let e = reaches-link ps u t m u t in grind (arith, eqb_tells, e)
+left-linked s t m u ps lu = let e = reaches-linked ps u t m u t in grind (arith, eqb_tells, e)
 
 right-linked : (s : Core) (t m v : ℕ) (ps : List Pair) → live s v ≡ true → reaches (link_right s t m (Some v) ps) t v ≡ true
-right-linked s t m v ps lv = let e = reaches-link ps t v m t v in grind (arith, eqb_tells, e)
+right-linked s t m v ps lv = let e = reaches-linked ps t v m t v in grind (arith, eqb_tells, e)
 
 -- ---- The state after t entered m
 
@@ -162,8 +163,8 @@ neighbours s old t m h lt no_entry =
     let es = entries s m in
     let joined = subst (Ascends (Comes s old)) (sym (front-rest (stops_call s t) es)) (h.lists m) in
     record {
-      left_goes = λ u e. let k = last-has _ u e in (λ x. is_not_true _ no_entry (subst (λ (w : ℕ). has es w ≡ true) x (front-has (stops_call s t) es u k)), front-goes (stops_call s t) es u k);
-      right_stops = λ v e. let k = first-has _ v e in (λ x. is_not_true _ no_entry (subst (λ (w : ℕ). has es w ≡ true) x (rest-has (stops_call s t) es v k)), rest-stops (stops_call s t) es v e);
+      left_goes = λ u e. let k = last-has _ u e in (λ x. both_ways _ no_entry (subst (λ (w : ℕ). has es w ≡ true) x (front-has (stops_call s t) es u k)), front-goes (stops_call s t) es u k);
+      right_stops = λ v e. let k = first-has _ v e in (λ x. both_ways _ no_entry (subst (λ (w : ℕ). has es w ≡ true) x (rest-has (stops_call s t) es v k)), rest-stops (stops_call s t) es v e);
       across = λ u v e f. Ascends-across (Comes s old) (front (stops s t) es) (rest (stops s t) es) u v joined (last-has _ u e) (first-has _ v f);
     }
 

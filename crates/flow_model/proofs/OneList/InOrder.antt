@@ -4,11 +4,14 @@ use Rattle.std.specs.Prelude.{filter, if◌then◌else◌}
 use Rattle.std.specs.List.{cons_option}
 use Rattle.std.specs.Option.{option_or}
 use Rattle.std.proofs.lemmas.Bool.Decides.{eqb_tells}
+use Rattle.std.proofs.lemmas.Bool.{or_cases, or_left, or_right, eqb-true, eq-eqb, cases_Bool}
 use Rattle.node_versions.specs.declared.entry.State.{State}
 use Rattle.node_versions.specs.declared.entry.Entry.{Entry}
 use Rattle.node_versions.specs.Entries.{has, behind, front, rest, placed, with_state, is_done, last_done, only_done, collected}
+use Rattle.node_versions.proofs.Lists.{has-append}
+use Rattle.node_versions.proofs.KeptLemmas.{has-with_state}
+pub use Rattle.node_versions.proofs.KeptLemmas.{has-with_state as with_state-has}
 use Rattle.flow_model.specs.Machine.Changes.{first_version, last_version}
-use Rattle.flow_model.proofs.General.Truths.{or_cases, or_left, or_right, same_number, equal_test, true_or_false}
 
 -- a test of calls as a test of entries
 abbrev pub on_calls : (ℕ → Bool) → Entry → Bool
@@ -22,10 +25,6 @@ Each P es = (u : ℕ) → has es u ≡ true → P u
 abbrev pub Ascends : (ℕ → ℕ → Type 0) → List Entry → Type 0
 Ascends R [] = Unit {0}
 Ascends R (e ∷ es) = Each (R e.version) es × Ascends R es
-
-pub has-append : (xs ys : List Entry) (u : ℕ) → has (xs ++ ys) u ≡ (has xs u || has ys u)
-has-append [] ys u = refl
-has-append (e ∷ es) ys u = let r = has-append es ys u in grind (arith, r)
 
 pub front-rest : (stops : ℕ → Bool) (es : List Entry) → front (on_calls stops) es ++ rest (on_calls stops) es ≡ es
 front-rest stops [] = refl
@@ -58,7 +57,7 @@ Ascends-across R [] ys u v h k l = absurd (true≢false (sym k))
 Ascends-across R (e ∷ es) ys u v h k l = go (or_cases _ _ k) (λ x. Ascends-across R es ys u v h.1 x l)
   where
     go : ((e.version == u) ≡ true) ⊎ (has es u ≡ true) → (has es u ≡ true → R u v) → R u v
-    go (inl x) further = subst (λ (w : ℕ). R w v) (same_number _ _ x) (h.0 v (has-append es ys v ∙ or_right _ _ l))
+    go (inl x) further = subst (λ (w : ℕ). R w v) (eqb-true _ _ x) (h.0 v (has-append es ys v ∙ or_right _ _ l))
     go (inr x) further = further x
 
 -- An entry between two parts.
@@ -71,7 +70,7 @@ Ascends-put R e (x ∷ xs) ys h f b = (λ v k. go v (or_cases _ _ (sym (has-appe
     go v (inr k) = last v (or_cases _ _ k)
       where
         last : (v : ℕ) → ((e.version == v) ≡ true) ⊎ (has ys v ≡ true) → R x.version v
-        last v (inl l) = subst (R x.version) (same_number _ _ l) (f x.version (or_left _ _ (equal_test x.version x.version refl)))
+        last v (inl l) = subst (R x.version) (eqb-true _ _ l) (f x.version (or_left _ _ (eq-eqb x.version x.version refl)))
         last v (inr l) = h.0 v (has-append xs ys v ∙ or_right _ _ l)
 
 -- What stands in the relation to the neighbour stands in it to all beyond it.
@@ -83,19 +82,19 @@ Each-rest R trans t [] h n u k = absurd (true≢false (sym k))
 Each-rest R trans t (e ∷ es) h n u k = go (or_cases _ _ k)
   where
     go : ((e.version == u) ≡ true) ⊎ (has es u ≡ true) → R t u
-    go (inl x) = subst (R t) (same_number _ _ x) (n e.version refl)
+    go (inl x) = subst (R t) (eqb-true _ _ x) (n e.version refl)
     go (inr x) = trans t e.version u (n e.version refl) (h.0 u x)
 
 Each-from : (R : ℕ → ℕ → Type 0) → IsTransitive R → (t : ℕ) (e : Entry) (xs : List Entry) → Ascends R (e ∷ xs) → ((v : ℕ) → last_version (Some e.version) xs ≡ Some v → R v t) → R e.version t
 Each-from R trans t e [] h n = n e.version refl
-Each-from R trans t e (x ∷ xs) h n = trans e.version x.version t (h.0 x.version (or_left _ _ (equal_test x.version x.version refl))) (Each-from R trans t x xs h.1 n)
+Each-from R trans t e (x ∷ xs) h n = trans e.version x.version t (h.0 x.version (or_left _ _ (eq-eqb x.version x.version refl))) (Each-from R trans t x xs h.1 n)
 
 Each-front : (R : ℕ → ℕ → Type 0) → IsTransitive R → (t : ℕ) (xs : List Entry) (seen : Option ℕ) → Ascends R xs → ((v : ℕ) → last_version seen xs ≡ Some v → R v t) → Each (λ u. R u t) xs
 Each-front R trans t [] seen h n u k = absurd (true≢false (sym k))
 Each-front R trans t (e ∷ es) seen h n u k = go (or_cases _ _ k) (Each-front R trans t es (Some e.version) h.1 n u)
   where
     go : ((e.version == u) ≡ true) ⊎ (has es u ≡ true) → (has es u ≡ true → R u t) → R u t
-    go (inl x) further = subst (λ (w : ℕ). R w t) (same_number _ _ x) (Each-from R trans t e es h n)
+    go (inl x) further = subst (λ (w : ℕ). R w t) (eqb-true _ _ x) (Each-from R trans t e es h n)
     go (inr x) further = further x
 
 -- The list with an entry put in at its place.
@@ -111,10 +110,10 @@ placed-Ascends R trans stops e es h l r =
 -- Where u stands before v, by `behind`.
 pub Ascends-behind : (R : ℕ → ℕ → Type 0) (es : List Entry) (u v : ℕ) → Ascends R es → behind es u v ≡ true → R u v
 Ascends-behind R [] u v h k = absurd (true≢false (sym k))
-Ascends-behind R (e ∷ es) u v h k = go (true_or_false (e.version == u)) (Ascends-behind R es u v h.1)
+Ascends-behind R (e ∷ es) u v h k = go (cases_Bool (e.version == u)) (Ascends-behind R es u v h.1)
   where
     go : ((e.version == u) ≡ true) ⊎ ((e.version == u) ≡ false) → (behind es u v ≡ true → R u v) → R u v
-    go (inl x) further = subst (λ (w : ℕ). R w v) (same_number _ _ x) (h.0 v (rw (x, behind) at k))
+    go (inl x) further = subst (λ (w : ℕ). R w v) (eqb-true _ _ x) (h.0 v (rw (x, behind) at k))
     go (inr x) further = further (rw (x, behind) at k)
 
 pub first-has : (ys : List Entry) (u : ℕ) → first_version ys ≡ Some u → has ys u ≡ true
@@ -137,21 +136,17 @@ rest-has stops es u h = subst (λ (xs : List Entry). has xs u ≡ true) (front-r
 
 -- ---- Lists with the same calls
 
-pub with_state-has : (t : ℕ) (state : State) (es : List Entry) (u : ℕ) → has (with_state t state es) u ≡ has es u
-with_state-has t state [] u = refl
-with_state-has t state (e ∷ es) u = let r = with_state-has t state es u in grind (arith, eqb_tells, r)
-
 pub with_state-Ascends : (R : ℕ → ℕ → Type 0) (t : ℕ) (state : State) (es : List Entry) → Ascends R es → Ascends R (with_state t state es)
 with_state-Ascends R t state [] h = h
 with_state-Ascends R t state (e ∷ es) h = go (e.version == t) (with_state-Ascends R t state es h.1)
   where
     go : (b : Bool) → Ascends R (with_state t state es) → Ascends R (elim b [ true ↦ record e { state = state } ∷ es | false ↦ e ∷ with_state t state es ])
     go true k = h
-    go false k = (λ v x. h.0 v (sym (with_state-has t state es v) ∙ x), k)
+    go false k = (λ v x. h.0 v (sym (has-with_state t state es v) ∙ x), k)
 
 pub Ascends-map-in : (R S : ℕ → ℕ → Type 0) (es : List Entry) → ((u v : ℕ) → has es u ≡ true → has es v ≡ true → R u v → S u v) → Ascends R es → Ascends S es
 Ascends-map-in R S [] f h = tt
-Ascends-map-in R S (e ∷ es) f h = (λ v k. f e.version v (or_left _ _ (equal_test e.version e.version refl)) (or_right _ _ k) (h.0 v k), Ascends-map-in R S es (λ u v j k. f u v (or_right _ _ j) (or_right _ _ k)) h.1)
+Ascends-map-in R S (e ∷ es) f h = (λ v k. f e.version v (or_left _ _ (eq-eqb e.version e.version refl)) (or_right _ _ k) (h.0 v k), Ascends-map-in R S es (λ u v j k. f u v (or_right _ _ j) (or_right _ _ k)) h.1)
 
 -- ---- What Collect leaves
 
@@ -179,7 +174,7 @@ last_done-has [] x h = cc
 last_done-has (e ∷ es) x h = go (last_done es) refl h (last_done-has es x)
   where
     go : (o : Option Entry) → last_done es ≡ o → option_or o (only_done e) ≡ Some x → (last_done es ≡ Some x → has es x.version ≡ true) → has (e ∷ es) x.version ≡ true
-    go None k j further = let s = only_done-has e x j in or_left _ _ (equal_test e.version x.version (ap (λ (y : Entry). y.version) (sym s)))
+    go None k j further = let s = only_done-has e x j in or_left _ _ (eq-eqb e.version x.version (ap (λ (y : Entry). y.version) (sym s)))
     go (Some y) k j further = or_right _ _ (further (k ∙ j))
 
 -- The ended entry that stays has ended, and the others are live and ascend.

@@ -4,17 +4,20 @@ use Rattle.std.specs.Prelude.{filter, if◌then◌else◌}
 use Rattle.std.specs.List.{cons_option}
 use Rattle.std.specs.Option.{option_or}
 use Rattle.std.proofs.lemmas.Bool.Decides.{eqb_tells}
+use Rattle.std.proofs.lemmas.Bool.{or_right, eqb-true, eq-eqb, false_from_ne_true, both_ways, cases_Bool}
 use Rattle.node_versions.specs.declared.entry.State.{State}
 use Rattle.node_versions.specs.declared.entry.Entry.{Entry}
-use Rattle.node_versions.specs.Entries.{IsUnique, behind, is_done, has, at, front, rest, placed, with_state, only_done, last_done, collected}
-use Rattle.flow_model.proofs.General.Truths.{or_right, same_number, equal_test, not_true, is_not_true, true_or_false}
-use Rattle.flow_model.proofs.OneList.InOrder.{on_calls, has-append, front-rest, filter-has, with_state-has, last_done-has}
-use Rattle.flow_model.proofs.OneList.StatesAndPlaces.{more-has, more-at, more-at_it}
+use Rattle.node_versions.specs.Entries.{IsUnique, behind, is_done, has, at, front, rest, placed, only_done, last_done, collected}
+use Rattle.node_versions.proofs.Lists.{has-append}
+use Rattle.node_versions.proofs.KeptLemmas.{has-put}
+use Rattle.node_versions.proofs.Collecting.{last_is_done}
+use Rattle.flow_model.proofs.OneList.InOrder.{on_calls, front-rest, filter-has, last_done-has}
+use Rattle.flow_model.proofs.OneList.StatesAndPlaces.{more-at, more-at_it}
 
 -- ---- one entry more
 
 pub placed-has : (stops : ℕ → Bool) (e : Entry) (es : List Entry) (u : ℕ) → has (placed (on_calls stops) e es) u ≡ ((e.version == u) || has es u)
-placed-has stops e es u = more-has (front (on_calls stops) es) (rest (on_calls stops) es) e u ∙ ap (λ (xs : List Entry). (e.version == u) || has xs u) (front-rest stops es)
+placed-has stops e es u = has-put (front (on_calls stops) es) (rest (on_calls stops) es) e u ∙ ap (λ (xs : List Entry). (e.version == u) || has xs u) (front-rest stops es)
 
 pub placed-at_other : (test : State → Bool) (stops : ℕ → Bool) (e : Entry) (es : List Entry) (u : ℕ) → u ≢ e.version → at test (placed (on_calls stops) e es) u ≡ at test es u
 placed-at_other test stops e es u ne = more-at test (front (on_calls stops) es) (rest (on_calls stops) es) e u ne ∙ ap (λ (xs : List Entry). at test xs u) (front-rest stops es)
@@ -29,12 +32,12 @@ placed-at test stops e es h =
 more-unique : (xs ys : List Entry) (e : Entry) → has (xs ++ ys) e.version ≡ false → IsUnique (xs ++ ys) → IsUnique (xs ++ e ∷ ys)
 more-unique [] ys e h q = (h, q)
 more-unique (x ∷ xs) ys e h q =
-    let r = more-has xs ys e x.version in
+    let r = has-put xs ys e x.version in
     let a = q.0 in
     ((grind (arith, eqb_tells, r, a, h)), more-unique xs ys e (tail h) q.1)
   where
     tail : ((x.version == e.version) || has (xs ++ ys) e.version) ≡ false → has (xs ++ ys) e.version ≡ false
-    tail k = not_true (has (xs ++ ys) e.version) (λ y. is_not_true ((x.version == e.version) || has (xs ++ ys) e.version) k (or_right (x.version == e.version) (has (xs ++ ys) e.version) y))
+    tail k = false_from_ne_true (has (xs ++ ys) e.version) (λ y. both_ways ((x.version == e.version) || has (xs ++ ys) e.version) k (or_right (x.version == e.version) (has (xs ++ ys) e.version) y))
 
 pub placed-unique : (stops : ℕ → Bool) (e : Entry) (es : List Entry) → has es e.version ≡ false → IsUnique es → IsUnique (placed (on_calls stops) e es)
 placed-unique stops e es h q =
@@ -50,18 +53,6 @@ placed-length stops e es = more-length (front (on_calls stops) es) (rest (on_cal
 
 -- ---- another state
 
-pub with_state-unique : (t : ℕ) (x : State) (es : List Entry) → IsUnique es → IsUnique (with_state t x es)
-with_state-unique t x [] q = tt
-with_state-unique t x (e ∷ es) q = go (e.version == t) (with_state-unique t x es q.1)
-  where
-    go : (b : Bool) → IsUnique (with_state t x es) → IsUnique (elim b [ true ↦ record e { state = x } ∷ es | false ↦ e ∷ with_state t x es ])
-    go true r = q
-    go false r = (with_state-has t x es e.version ∙ q.0, r)
-
-pub with_state-length : (t : ℕ) (x : State) (es : List Entry) → length (with_state t x es) ≡ length es
-with_state-length t x [] = refl
-with_state-length t x (e ∷ es) = let r = with_state-length t x es in grind (arith, r)
-
 -- ---- what Collect leaves
 
 pub filter-at : (test : State → Bool) (p : ℕ → Bool) (es : List Entry) (u : ℕ) → at test (filter (on_calls p) es) u ≡ (p u && at test es u)
@@ -73,7 +64,7 @@ filter-unique p [] q = tt
 filter-unique p (e ∷ es) q = go (p e.version) (filter-unique p es q.1)
   where
     absent : has (filter (on_calls p) es) e.version ≡ false
-    absent = not_true _ (λ y. is_not_true _ q.0 (filter-has p es e.version y).0)
+    absent = false_from_ne_true _ (λ y. both_ways _ q.0 (filter-has p es e.version y).0)
 
     go : (b : Bool) → IsUnique (filter (on_calls p) es) → IsUnique (if b then e ∷ filter (on_calls p) es else filter (on_calls p) es)
     go true r = (absent, r)
@@ -115,7 +106,7 @@ collected-unique ended es q = go (last_done (filter (on_calls ended) es)) refl
 
     go : (o : Option Entry) → last_done (filter (on_calls ended) es) ≡ o → IsUnique (cons_option o (filter (on_calls (λ v. not (ended v))) es))
     go None e = filter-unique (λ v. not (ended v)) es q
-    go (Some x) e = (not_true _ (λ y. live x.version (filter-has (λ v. not (ended v)) es x.version y).1 (filter-has ended es x.version (last_done-has (filter (on_calls ended) es) x e)).1), filter-unique (λ v. not (ended v)) es q)
+    go (Some x) e = (false_from_ne_true _ (λ y. live x.version (filter-has (λ v. not (ended v)) es x.version y).1 (filter-has ended es x.version (last_done-has (filter (on_calls ended) es) x e)).1), filter-unique (λ v. not (ended v)) es q)
 
 -- the last Done is an entry of the list, and a Done
 pub only_done-is : (e x : Entry) → only_done e ≡ Some x → (x ≡ e) × (is_done e.state ≡ true)
@@ -130,20 +121,12 @@ last_done-at test [] x q h = cc
 last_done-at test (e ∷ es) x q h = go (last_done es) refl h (last_done-at test es x q.1)
   where
     go : (o : Option Entry) → last_done es ≡ o → option_or o (only_done e) ≡ Some x → (last_done es ≡ Some x → at test es x.version ≡ test x.state) → at test (e ∷ es) x.version ≡ test x.state
-    go None k j further = let s = (only_done-is e x j).0 in subst (λ (y : Entry). at test (e ∷ es) y.version ≡ test y.state) (sym s) (let w = equal_test e.version e.version refl in rw (w, at) refl)
+    go None k j further = let s = (only_done-is e x j).0 in subst (λ (y : Entry). at test (e ∷ es) y.version ≡ test y.state) (sym s) (let w = eq-eqb e.version e.version refl in rw (w, at) refl)
     go (Some y) k j further =
         let f = further (k ∙ j) in
         let hx = last_done-has es x (k ∙ j) in
-        let ne : (e.version == x.version) ≡ false = not_true _ (λ w. is_not_true _ q.0 (subst (λ (v : ℕ). has es v ≡ true) (sym (same_number e.version x.version w)) hx)) in
+        let ne : (e.version == x.version) ≡ false = false_from_ne_true _ (λ w. both_ways _ q.0 (subst (λ (v : ℕ). has es v ≡ true) (sym (eqb-true e.version x.version w)) hx)) in
         rw (ne, at) f
-
-pub last_done-done : (es : List Entry) (x : Entry) → last_done es ≡ Some x → is_done x.state ≡ true
-last_done-done [] x h = cc
-last_done-done (e ∷ es) x h = go (last_done es) refl h (last_done-done es x)
-  where
-    go : (o : Option Entry) → last_done es ≡ o → option_or o (only_done e) ≡ Some x → (last_done es ≡ Some x → is_done x.state ≡ true) → is_done x.state ≡ true
-    go None k j further = let s = only_done-is e x j in subst (λ (y : Entry). is_done y.state ≡ true) (sym s.0) s.1
-    go (Some y) k j further = further (k ∙ j)
 
 -- What a collected list shows, the list showed before.
 pub collected-at : (test : State → Bool) (ended : ℕ → Bool) (es : List Entry) (u : ℕ) → IsUnique es → at test (collected (on_calls ended) es) u ≡ true → at test es u ≡ true
@@ -151,14 +134,14 @@ collected-at test ended es u q h = go (last_done (filter (on_calls ended) es)) r
   where
     go : (o : Option Entry) → last_done (filter (on_calls ended) es) ≡ o → at test (cons_option o (filter (on_calls (λ v. not (ended v))) es)) u ≡ true → at test es u ≡ true
     go None e k = let f = filter-at test (λ v. not (ended v)) es u in grind (arith, f, k)
-    go (Some x) e k = cases (true_or_false (x.version == u))
+    go (Some x) e k = cases (cases_Bool (x.version == u))
       where
         cases : ((x.version == u) ≡ true) ⊎ ((x.version == u) ≡ false) → at test es u ≡ true
         cases (inl w) =
             let l = last_done-at test (filter (on_calls ended) es) x (filter-unique ended es q) e in
             let f = filter-at test ended es x.version in
             let k2 : test x.state ≡ true = rw (w, at) at k in
-            subst (λ (v : ℕ). at test es v ≡ true) (same_number x.version u w) (grind (arith, l, f, k2))
+            subst (λ (v : ℕ). at test es v ≡ true) (eqb-true x.version u w) (grind (arith, l, f, k2))
         cases (inr w) = let f = filter-at test (λ v. not (ended v)) es u in let k2 : at test (filter (on_calls (λ v. not (ended v))) es) u ≡ true = rw (w, at) at k in grind (arith, f, k2)
 
 -- A Done among the ended ones stays in some entry of an ended call.
@@ -175,12 +158,12 @@ collected-done ended es u x d = go (last_done (filter (on_calls ended) es)) refl
           where
             last : (p : Bool) → is_done y.state ≡ p → (w : Bool) → (y.version == u) ≡ w → ⊥
             last true g w i = cc
-            last false g true i = is_not_true _ g (rw (i, at) at c)
+            last false g true i = both_ways _ g (rw (i, at) at c)
             last false g false i = f a (rw (i, at) at c)
 
     go : (o : Option Entry) → last_done (filter (on_calls ended) es) ≡ o → (v : ℕ) × (ended v ≡ true) × (at is_done (cons_option o (filter (on_calls (λ v. not (ended v))) es)) v ≡ true)
     go None e = let f = filter-at is_done ended es u in absurd (there (filter (on_calls ended) es) e (grind (arith, f, x, d)))
-    go (Some y) e = (y.version, (filter-has ended es y.version (last_done-has (filter (on_calls ended) es) y e)).1, (let w = equal_test y.version y.version refl in rw (w, at) (last_done-done (filter (on_calls ended) es) y e)))
+    go (Some y) e = (y.version, (filter-has ended es y.version (last_done-has (filter (on_calls ended) es) y e)).1, (let w = eq-eqb y.version y.version refl in rw (w, at) (last_is_done (filter (on_calls ended) es) y e)))
 
 -- ---- in which order a collected list stands
 
@@ -203,7 +186,7 @@ collected-at_live test ended es u h = go (last_done (filter (on_calls ended) es)
     go None e = shown
     go (Some x) e =
         let hx = (filter-has ended es x.version (last_done-has (filter (on_calls ended) es) x e)).1 in
-        let ne : (x.version == u) ≡ false = not_true _ (λ w. is_not_true _ h (subst (λ (v : ℕ). ended v ≡ true) (same_number x.version u w) hx)) in
+        let ne : (x.version == u) ≡ false = false_from_ne_true _ (λ w. both_ways _ h (subst (λ (v : ℕ). ended v ≡ true) (eqb-true x.version u w) hx)) in
         rw (ne, at) shown
 
 pub collected-behind_live : (ended : ℕ → Bool) (es : List Entry) (u v : ℕ) → ended u ≡ false → behind (collected (on_calls ended) es) u v ≡ true → behind es u v ≡ true
@@ -216,5 +199,5 @@ collected-behind_live ended es u v h k = go (last_done (filter (on_calls ended) 
     go None e j = shown j
     go (Some x) e j =
         let hx = (filter-has ended es x.version (last_done-has (filter (on_calls ended) es) x e)).1 in
-        let ne : (x.version == u) ≡ false = not_true _ (λ w. is_not_true _ h (subst (λ (v : ℕ). ended v ≡ true) (same_number x.version u w) hx)) in
+        let ne : (x.version == u) ≡ false = false_from_ne_true _ (λ w. both_ways _ h (subst (λ (v : ℕ). ended v ≡ true) (eqb-true x.version u w) hx)) in
         shown (rw (ne, behind) at j)

@@ -4,18 +4,19 @@ use Rattle.std.specs.Prelude.{filter}
 use Rattle.std.specs.List.{cons_option}
 use Rattle.std.specs.Option.{option_or}
 use Rattle.std.proofs.lemmas.Bool.Decides.{eqb_tells}
+use Rattle.std.proofs.lemmas.Bool.{eqb-true, eq-eqb, false_from_ne_true, both_ways, cases_Bool}
 use Rattle.script_tree.specs.declared.value.Value.{Value}
 use Rattle.node_versions.specs.declared.entry.State.{State}
 use Rattle.node_versions.specs.declared.entry.State.TheVariants.{Mark, Frame, Done}
 use Rattle.node_versions.specs.declared.entry.Entry.{Entry}
 use Rattle.node_versions.specs.Entries.{IsUnique, is_done, is_mark, is_frame, has, at, behind, front, rest, placed, with_state, up_to, only_done, last_done, state_of, done_at, collected}
-use Rattle.flow_model.proofs.General.Truths.{same_number, equal_test, not_true, is_not_true, true_or_false}
+use Rattle.node_versions.proofs.Collecting.{last_is_done}
+use Rattle.node_versions.proofs.Lists.{last_done-append}
 use Rattle.flow_model.proofs.OneList.InOrder.{on_calls, front-rest, filter-has, last_done-has}
 use Rattle.flow_model.proofs.OneList.StatesAndPlaces.{behind-has}
-use Rattle.flow_model.proofs.OneList.OneEntryACall.{filter-unique, only_done-is, last_done-at, last_done-done}
+use Rattle.flow_model.proofs.OneList.OneEntryACall.{filter-unique, only_done-is, last_done-at}
 use Rattle.flow_model.proofs.FramesSpread.AfterCollect.{split}
 use Rattle.flow_model.proofs.Values.NothingComesBefore.{not_done-only}
-use Rattle.flow_model.proofs.OneList.PicksBefore.{last_done-append}
 
 -- ---- the state of the call's entry
 
@@ -31,7 +32,7 @@ own-test test (e ∷ es) u h = let r = own-test test es u in grind (arith, h, r)
 -- What a call's Done gives is its own.
 pub own-done_at : (es : List Entry) (u : ℕ) → at is_done es u ≡ true → done_at es u ≡ own es u
 own-done_at [] u h = absurd (true≢false (sym h))
-own-done_at (e ∷ es) u h = go (true_or_false (e.version == u)) (own-done_at es u)
+own-done_at (e ∷ es) u h = go (cases_Bool (e.version == u)) (own-done_at es u)
   where
     here : (b : Bool) → is_done e.state ≡ b → b ≡ true → state_of (elim b as (λ _. Option Entry) [ true ↦ Some e | false ↦ None ]) ≡ e.state
     here true k j = refl
@@ -71,11 +72,11 @@ last_done-own [] x q h = cc
 last_done-own (e ∷ es) x q h = go (last_done es) refl h (last_done-own es x q.1)
   where
     go : (o : Option Entry) → last_done es ≡ o → option_or o (only_done e) ≡ Some x → (last_done es ≡ Some x → own es x.version ≡ x.state) → own (e ∷ es) x.version ≡ x.state
-    go None k j further = let s = (only_done-is e x j).0 in subst (λ (y : Entry). own (e ∷ es) y.version ≡ y.state) (sym s) (let w = equal_test e.version e.version refl in rw (w, own) refl)
+    go None k j further = let s = (only_done-is e x j).0 in subst (λ (y : Entry). own (e ∷ es) y.version ≡ y.state) (sym s) (let w = eq-eqb e.version e.version refl in rw (w, own) refl)
     go (Some y) k j further =
         let f = further (k ∙ j) in
         let hx = last_done-has es x (k ∙ j) in
-        let ne : (e.version == x.version) ≡ false = not_true _ (λ w. is_not_true _ q.0 (subst (λ (v : ℕ). has es v ≡ true) (sym (same_number e.version x.version w)) hx)) in
+        let ne : (e.version == x.version) ≡ false = false_from_ne_true _ (λ w. both_ways _ q.0 (subst (λ (v : ℕ). has es v ≡ true) (sym (eqb-true e.version x.version w)) hx)) in
         rw (ne, own) f
 
 filter-own : (p : ℕ → Bool) (es : List Entry) (u : ℕ) → p u ≡ true → own (filter (on_calls p) es) u ≡ own es u
@@ -90,13 +91,13 @@ collected-own p es u q h = go (last_done (filter (on_calls p) es)) refl h
 
     go : (o : Option Entry) → last_done (filter (on_calls p) es) ≡ o → has (cons_option o (filter (on_calls (λ v. not (p v))) es)) u ≡ true → own (cons_option o (filter (on_calls (λ v. not (p v))) es)) u ≡ own es u
     go None e k = rest_part k
-    go (Some x) e k = cases (true_or_false (x.version == u))
+    go (Some x) e k = cases (cases_Bool (x.version == u))
       where
         px : p x.version ≡ true
         px = (filter-has p es x.version (last_done-has (filter (on_calls p) es) x e)).1
 
         cases : ((x.version == u) ≡ true) ⊎ ((x.version == u) ≡ false) → own (x ∷ filter (on_calls (λ v. not (p v))) es) u ≡ own es u
-        cases (inl w) = rw (w, own) (sym (last_done-own (filter (on_calls p) es) x (filter-unique p es q) e) ∙ filter-own p es x.version px ∙ ap (own es) (same_number x.version u w))
+        cases (inl w) = rw (w, own) (sym (last_done-own (filter (on_calls p) es) x (filter-unique p es q) e) ∙ filter-own p es x.version px ∙ ap (own es) (eqb-true x.version u w))
         cases (inr w) = rw (w, own) (rest_part (rw (w, has) at k))
 
 -- ---- the last Done
@@ -115,7 +116,7 @@ placed-last_done stops e es h =
 
 pub raised-last_done : (t : ℕ) (es : List Entry) → at is_mark es t ≡ true → last_done (with_state t Frame es) ≡ last_done es
 raised-last_done t [] h = refl
-raised-last_done t (e ∷ es) h = go (true_or_false (e.version == t)) (raised-last_done t es)
+raised-last_done t (e ∷ es) h = go (cases_Bool (e.version == t)) (raised-last_done t es)
   where
     mark : (x : State) → is_mark x ≡ true → is_done x ≡ false
     mark Mark k = refl
@@ -141,12 +142,12 @@ collected-last_done p es u h = go (last_done xs) refl ∙ sym (last_done-append 
 
     go : (o : Option Entry) → last_done xs ≡ o → last_done (cons_option o ys) ≡ option_or (last_done ys) o
     go None e = none (last_done ys)
-    go (Some x) e = let d = last_done-done xs x e in ap (option_or (last_done ys)) (rw (d, only_done) refl)
+    go (Some x) e = let d = last_is_done xs x e in ap (option_or (last_done ys)) (rw (d, only_done) refl)
 
 -- Where no Done stands behind the call's Frame, its Done is the last one.
 pub finished-last_done : (t : ℕ) (v : Value) (c : Bool) (ps : List (Option ℕ)) (es : List Entry) → IsUnique es → at is_frame es t ≡ true → ((x : ℕ) → behind es t x ≡ true → at is_done es x ≡ false) → state_of (last_done (with_state t (Done v c ps) es)) ≡ Done v c ps
 finished-last_done t v c ps [] q f none = absurd (true≢false (sym f))
-finished-last_done t v c ps (e ∷ es) q f none = go (true_or_false (e.version == t)) (finished-last_done t v c ps es q.1)
+finished-last_done t v c ps (e ∷ es) q f none = go (cases_Bool (e.version == t)) (finished-last_done t v c ps es q.1)
   where
     none_behind : (es : List Entry) → IsUnique es → ((x : ℕ) → has es x ≡ true → at is_done es x ≡ false) → last_done es ≡ None
     none_behind es q k = cases (last_done es) refl
@@ -156,10 +157,10 @@ finished-last_done t v c ps (e ∷ es) q f none = go (true_or_false (e.version =
         cases (Some x) e = absurd (true≢false (sym (sym (k x.version (last_done-has es x e)) ∙ shown x e)))
           where
             shown : (x : Entry) → last_done es ≡ Some x → at is_done es x.version ≡ true
-            shown x e = last_done-at is_done es x q e ∙ last_done-done es x e
+            shown x e = last_done-at is_done es x q e ∙ last_is_done es x e
 
     later : (x : ℕ) → has es x ≡ true → (e.version == x) ≡ false
-    later x k = not_true _ (λ y. is_not_true _ q.0 (subst (λ (w : ℕ). has es w ≡ true) (sym (same_number e.version x y)) k))
+    later x k = false_from_ne_true _ (λ y. both_ways _ q.0 (subst (λ (w : ℕ). has es w ≡ true) (sym (eqb-true e.version x y)) k))
 
     still : (o : Option Entry) → state_of o ≡ Done v c ps → state_of (option_or o (only_done e)) ≡ Done v c ps
     still None k = absurd (true≢false (sym (ap is_done k)))

@@ -4,16 +4,20 @@ use Rattle.std.specs.Prelude.{filter}
 use Rattle.std.specs.List.{cons_option}
 use Rattle.std.specs.Option.{option_or}
 use Rattle.std.proofs.lemmas.Bool.Decides.{eqb_tells}
+use Rattle.std.proofs.lemmas.Bool.{eqb-true, eq-eqb, false_from_ne_true, both_ways, cases_Bool}
 use Rattle.script_tree.specs.declared.value.Value.{Value}
 use Rattle.node_versions.specs.declared.entry.State.{State}
 use Rattle.node_versions.specs.declared.entry.State.TheVariants.{Done}
 use Rattle.node_versions.specs.declared.entry.Entry.{Entry}
 use Rattle.node_versions.specs.Entries.{IsUnique, has, at, is_frame, is_done, behind, before, up_to, first_open, front, rest, placed, with_state, last_done, only_done, state_of, picks_of, picks_at, picks_before, collected}
-use Rattle.flow_model.proofs.General.Truths.{same_number, equal_test, not_true, is_not_true, true_or_false}
+use Rattle.node_versions.proofs.KeptLemmas.{IsUnique-with_state}
+use Rattle.node_versions.proofs.Collecting.{last_is_done}
+use Rattle.node_versions.proofs.Lists.{last_done-append}
+use Rattle.node_versions.proofs.Places.{at-has}
 use Rattle.flow_model.proofs.OneList.InOrder.{on_calls, front-rest, last_done-has}
-use Rattle.flow_model.proofs.OneList.OneEntryACall.{placed-at_other, placed-at, last_done-done, filter-has_both, collected-at, with_state-unique}
-use Rattle.flow_model.proofs.OneList.StatesAndPlaces.{at-has, behind-has, with_state-at, with_state-behind, first_open-frame, first_open-none}
-use Rattle.flow_model.proofs.Reactions.WhereRunsBegin.{or-or, or-none, before-last, no_done-none}
+use Rattle.flow_model.proofs.OneList.OneEntryACall.{placed-at_other, placed-at, filter-has_both, collected-at}
+use Rattle.flow_model.proofs.OneList.StatesAndPlaces.{behind-has, with_state-at, with_state-behind, first_open-frame, first_open-none}
+use Rattle.flow_model.proofs.Reactions.WhereRunsBegin.{or-none, before-last, no_done-none}
 use Rattle.flow_model.proofs.Reactions.WhoReacts.{more-first_open}
 use Rattle.flow_model.proofs.FramesSpread.AfterCollect.{split, collected-first_open}
 use Rattle.flow_model.proofs.Values.NothingComesBefore.{with_state-before}
@@ -40,10 +44,6 @@ abbrev shown : Option Entry → List (Option ℕ)
 shown o = picks_of (state_of o)
 
 -- ---- joined lists
-
-pub last_done-append : (xs ys : List Entry) → last_done (xs ++ ys) ≡ option_or (last_done ys) (last_done xs)
-last_done-append [] ys = sym (or-none (last_done ys))
-last_done-append (e ∷ es) ys = ap (λ (o : Option Entry). option_or o (only_done e)) (last_done-append es ys) ∙ or-or (last_done ys) (last_done es) (only_done e)
 
 pub before-append : (xs ys : List Entry) (u : ℕ) → has xs u ≡ false → before (xs ++ ys) u ≡ xs ++ before ys u
 before-append [] ys u h = refl
@@ -86,12 +86,12 @@ placed-now stops e es u ne o = ap shown (more-up_to (front (on_calls stops) es) 
 
 -- The Done of a call stays as it was, where an entry joins that is none.
 pub placed-done : (stops : ℕ → Bool) (e : Entry) (es : List Entry) (u : ℕ) → has es e.version ≡ false → is_done e.state ≡ false → only_done e ≡ None → at is_done (placed (on_calls stops) e es) u ≡ true → KeepsDone es (placed (on_calls stops) e es) u
-placed-done stops e es u fresh f o d = go (true_or_false (e.version == u))
+placed-done stops e es u fresh f o d = go (cases_Bool (e.version == u))
   where
     go : ((e.version == u) ≡ true) ⊎ ((e.version == u) ≡ false) → KeepsDone es (placed (on_calls stops) e es) u
-    go (inl x) = absurd (is_not_true _ f (sym (placed-at is_done stops e es fresh) ∙ subst (λ (w : ℕ). at is_done (placed (on_calls stops) e es) w ≡ true) (sym (same_number e.version u x)) d))
+    go (inl x) = absurd (both_ways _ f (sym (placed-at is_done stops e es fresh) ∙ subst (λ (w : ℕ). at is_done (placed (on_calls stops) e es) w ≡ true) (sym (eqb-true e.version u x)) d))
     go (inr x) = record {
-      done = sym (placed-at_other is_done stops e es u (λ y. is_not_true _ x (equal_test e.version u (sym y)))) ∙ d;
+      done = sym (placed-at_other is_done stops e es u (λ y. both_ways _ x (eq-eqb e.version u (sym y)))) ∙ d;
       now = placed-now stops e es u x o;
       prior = placed-before stops e es u x o;
     }
@@ -107,13 +107,13 @@ marked-picks stops e es u q fresh f g o = record {
     same = more-first_open (front (on_calls stops) es) (rest (on_calls stops) es) e g ∙ ap first_open (front-rest stops es)
 
     other : first_open es ≡ Some u → (e.version == u) ≡ false
-    other k = not_true _ (λ x. is_not_true _ fresh (subst (λ (w : ℕ). has es w ≡ true) (sym (same_number e.version u x)) (at-has is_frame es u (first_open-frame es u q k))))
+    other k = false_from_ne_true _ (λ x. both_ways _ fresh (subst (λ (w : ℕ). has es w ≡ true) (sym (eqb-true e.version u x)) (at-has is_frame es u (first_open-frame es u q k))))
 
 -- ---- a Mark becomes a Frame
 
 raised-before : (t : ℕ) (x : State) (es : List Entry) (u : ℕ) → at is_done es t ≡ false → is_done x ≡ false → last_done (before (with_state t x es) u) ≡ last_done (before es u)
 raised-before t x [] u d f = refl
-raised-before t x (e ∷ es) u d f = go (true_or_false (e.version == t)) (raised-before t x es u)
+raised-before t x (e ∷ es) u d f = go (cases_Bool (e.version == t)) (raised-before t x es u)
   where
     go : ((e.version == t) ≡ true) ⊎ ((e.version == t) ≡ false) → (at is_done es t ≡ false → is_done x ≡ false → last_done (before (with_state t x es) u) ≡ last_done (before es u)) → last_done (before (with_state t x (e ∷ es)) u) ≡ last_done (before (e ∷ es) u)
     go (inl w) further =
@@ -131,7 +131,7 @@ raised-before t x (e ∷ es) u d f = go (true_or_false (e.version == t)) (raised
 
 raised-up_to : (t : ℕ) (x : State) (es : List Entry) (u : ℕ) → at is_done es t ≡ false → is_done x ≡ false → last_done (up_to (with_state t x es) u) ≡ last_done (up_to es u)
 raised-up_to t x [] u d f = refl
-raised-up_to t x (e ∷ es) u d f = go (true_or_false (e.version == t)) (raised-up_to t x es u)
+raised-up_to t x (e ∷ es) u d f = go (cases_Bool (e.version == t)) (raised-up_to t x es u)
   where
     go : ((e.version == t) ≡ true) ⊎ ((e.version == t) ≡ false) → (at is_done es t ≡ false → is_done x ≡ false → last_done (up_to (with_state t x es) u) ≡ last_done (up_to es u)) → last_done (up_to (with_state t x (e ∷ es)) u) ≡ last_done (up_to (e ∷ es) u)
     go (inl w) further =
@@ -149,7 +149,7 @@ raised-up_to t x (e ∷ es) u d f = go (true_or_false (e.version == t)) (raised-
 
 pub raised-last_done : (t : ℕ) (x : State) (es : List Entry) → at is_done es t ≡ false → is_done x ≡ false → last_done (with_state t x es) ≡ last_done es
 raised-last_done t x [] d f = refl
-raised-last_done t x (e ∷ es) d f = go (true_or_false (e.version == t)) (raised-last_done t x es)
+raised-last_done t x (e ∷ es) d f = go (cases_Bool (e.version == t)) (raised-last_done t x es)
   where
     go : ((e.version == t) ≡ true) ⊎ ((e.version == t) ≡ false) → (at is_done es t ≡ false → is_done x ≡ false → last_done (with_state t x es) ≡ last_done es) → last_done (with_state t x (e ∷ es)) ≡ last_done (e ∷ es)
     go (inl w) further = let de : is_done e.state ≡ false = rw (w, at) at d in rw (w, with_state) (grind (arith, de, f))
@@ -160,13 +160,13 @@ raised-picks_before t x es u d f = ap shown (raised-before t x es u d f)
 
 pub raised-done : (t : ℕ) (x : State) (es : List Entry) (u : ℕ) → at is_done es t ≡ false → is_done x ≡ false → at is_done (with_state t x es) u ≡ true → KeepsDone es (with_state t x es) u
 raised-done t x es u d f k = record {
-  done = go (true_or_false (u == t)) (with_state-at is_done t x es u);
+  done = go (cases_Bool (u == t)) (with_state-at is_done t x es u);
   now = ap shown (raised-up_to t x es u d f);
   prior = raised-picks_before t x es u d f;
 }
   where
     go : ((u == t) ≡ true) ⊎ ((u == t) ≡ false) → at is_done (with_state t x es) u ≡ elim (u == t) as (λ _. Bool) [ true ↦ has es t && is_done x | false ↦ at is_done es u ] → at is_done es u ≡ true
-    go (inl w) e = let z : at is_done (with_state t x es) u ≡ (has es t && is_done x) = rw w at e in absurd (is_not_true _ f (both _ _ (sym z ∙ k)))
+    go (inl w) e = let z : at is_done (with_state t x es) u ≡ (has es t && is_done x) = rw w at e in absurd (both_ways _ f (both _ _ (sym z ∙ k)))
       where
         both : (a b : Bool) → (a && b) ≡ true → b ≡ true
         both true b j = j
@@ -201,7 +201,7 @@ last-shown o v c ps k = ap shown k.here ∙ ap picks_of k.state
 
 own-last : (t : ℕ) (v : Value) (c : Bool) (ps : List (Option ℕ)) (es : List Entry) → has es t ≡ true → LastIs (last_done (up_to (with_state t (Done v c ps) es) t)) (Done v c ps)
 own-last t v c ps [] h = absurd (true≢false (sym h))
-own-last t v c ps (e ∷ es) h = go (true_or_false (e.version == t)) (own-last t v c ps es)
+own-last t v c ps (e ∷ es) h = go (cases_Bool (e.version == t)) (own-last t v c ps es)
   where
     go : ((e.version == t) ≡ true) ⊎ ((e.version == t) ≡ false) → (has es t ≡ true → LastIs (last_done (up_to (with_state t (Done v c ps) es) t)) (Done v c ps)) → LastIs (last_done (up_to (with_state t (Done v c ps) (e ∷ es)) t)) (Done v c ps)
     go (inl w) further = rw (w, with_state) (rw (w, up_to) (record { entry = record e { state = Done v c ps }; here = refl; state = refl }))
@@ -213,10 +213,10 @@ own-now t v c ps es h = last-shown _ v c ps (own-last t v c ps es h)
 
 finished-last : (t : ℕ) (v : Value) (c : Bool) (ps : List (Option ℕ)) (es : List Entry) → IsUnique es → has es t ≡ true → ((x : ℕ) → behind es t x ≡ true → at is_done es x ≡ false) → LastIs (last_done (with_state t (Done v c ps) es)) (Done v c ps)
 finished-last t v c ps [] q h l = absurd (true≢false (sym h))
-finished-last t v c ps (e ∷ es) q h l = go (true_or_false (e.version == t)) (finished-last t v c ps es q.1)
+finished-last t v c ps (e ∷ es) q h l = go (cases_Bool (e.version == t)) (finished-last t v c ps es q.1)
   where
     other : (x : ℕ) → has es x ≡ true → (e.version == x) ≡ false
-    other x k = not_true _ (λ y. is_not_true _ q.0 (subst (λ (w : ℕ). has es w ≡ true) (sym (same_number e.version x y)) k))
+    other x k = false_from_ne_true _ (λ y. both_ways _ q.0 (subst (λ (w : ℕ). has es w ≡ true) (sym (eqb-true e.version x y)) k))
 
     go : ((e.version == t) ≡ true) ⊎ ((e.version == t) ≡ false) → (has es t ≡ true → ((x : ℕ) → behind es t x ≡ true → at is_done es x ≡ false) → LastIs (last_done (with_state t (Done v c ps) es)) (Done v c ps)) → LastIs (last_done (with_state t (Done v c ps) (e ∷ es))) (Done v c ps)
     go (inl w) further =
@@ -239,18 +239,18 @@ finished-done t v c ps es u ne l k = record {
     hu = at-has is_done es u d
 
     before_it : behind es t u ≡ false
-    before_it = not_true _ (λ b. is_not_true _ (l u b) d)
+    before_it = false_from_ne_true _ (λ b. both_ways _ (l u b) d)
 
 -- The next open call finds the new Done's picks.
 pub finished-next : (t : ℕ) (v : Value) (c : Bool) (ps : List (Option ℕ)) (es : List Entry) (u : ℕ) → IsUnique es → has es t ≡ true → ((x : ℕ) → behind es t x ≡ true → at is_done es x ≡ false) → first_open es ≡ Some t
     → ((x y : ℕ) → behind es x y ≡ true → at is_frame es x ≡ true → at is_done es y ≡ false) → first_open (with_state t (Done v c ps) es) ≡ Some u → picks_before (with_state t (Done v c ps) es) u ≡ ps
-finished-next t v c ps es u q h l first frames k = ap shown (before-last after u (with_state-unique t (Done v c ps) es q) frame last) ∙ last-shown (last_done after) v c ps (finished-last t v c ps es q h l)
+finished-next t v c ps es u q h l first frames k = ap shown (before-last after u (IsUnique-with_state t (Done v c ps) es q) frame last) ∙ last-shown (last_done after) v c ps (finished-last t v c ps es q h l)
   where
     after : List Entry
     after = with_state t (Done v c ps) es
 
     frame : at is_frame after u ≡ true
-    frame = first_open-frame after u (with_state-unique t (Done v c ps) es q) k
+    frame = first_open-frame after u (IsUnique-with_state t (Done v c ps) es q) k
 
     last : (x : ℕ) → behind after u x ≡ true → at is_done after x ≡ false
     last x b =
@@ -284,13 +284,13 @@ collected-picks p es u q h f pu = record {
     -- the last Done of the ended entries is in none of the call's
     one : (o : Option Entry) → last_done xs ≡ o → (part : List Entry → List Entry) → ((e : Entry) → (e.version == u) ≡ false → part (e ∷ ys) ≡ e ∷ part ys) → last_done (xs ++ part ys) ≡ last_done (part (cons_option o ys))
     one None e part over = last_done-append xs (part ys) ∙ ap (option_or (last_done (part ys))) e ∙ or-none (last_done (part ys))
-    one (Some x) e part over = last_done-append xs (part ys) ∙ ap (option_or (last_done (part ys))) (e ∙ sym (only x (last_done-done xs x e))) ∙ ap last_done (sym (over x other))
+    one (Some x) e part over = last_done-append xs (part ys) ∙ ap (option_or (last_done (part ys))) (e ∙ sym (only x (last_is_done xs x e))) ∙ ap last_done (sym (over x other))
       where
         only : (x : Entry) → is_done x.state ≡ true → only_done x ≡ Some x
         only x d = rw (d, only_done) refl
 
         other : (x.version == u) ≡ false
-        other = not_true _ (λ z. is_not_true _ absent (subst (λ (w : ℕ). has xs w ≡ true) (same_number x.version u z) (last_done-has xs x e)))
+        other = false_from_ne_true _ (λ z. both_ways _ absent (subst (λ (w : ℕ). has xs w ≡ true) (eqb-true x.version u z) (last_done-has xs x e)))
 
     prior : picks_before (collected (on_calls p) es) u ≡ picks_before es u
     prior = ap shown (sym (one (last_done xs) refl (λ zs. before zs u) (λ e ne. rw (ne, before) refl)) ∙ ap last_done (sym (before-append xs ys u absent))) ∙ ap (λ (zs : List Entry). picks_before zs u) joined
@@ -309,9 +309,9 @@ collected-first p es u pu d = go (last_done (filter (on_calls p) es)) refl d
     absent = filter-has_both (λ v. not (p v)) es u ∙ ap (λ (b : Bool). not b && has es u) pu
 
     go : (o : Option Entry) → last_done (filter (on_calls p) es) ≡ o → at is_done (cons_option o ys) u ≡ true → picks_before (cons_option o ys) u ≡ []
-    go None e k = absurd (is_not_true _ absent (at-has is_done ys u k))
-    go (Some x) e k = cases (true_or_false (x.version == u))
+    go None e k = absurd (both_ways _ absent (at-has is_done ys u k))
+    go (Some x) e k = cases (cases_Bool (x.version == u))
       where
         cases : ((x.version == u) ≡ true) ⊎ ((x.version == u) ≡ false) → picks_before (x ∷ ys) u ≡ []
         cases (inl w) = rw (w, before) refl
-        cases (inr w) = absurd (is_not_true _ absent (at-has is_done ys u (rw (w, at) at k)))
+        cases (inr w) = absurd (both_ways _ absent (at-has is_done ys u (rw (w, at) at k)))

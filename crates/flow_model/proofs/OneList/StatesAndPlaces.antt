@@ -6,7 +6,9 @@ use Rattle.node_versions.specs.declared.entry.State.{State}
 use Rattle.node_versions.specs.declared.entry.State.TheVariants as state
 use Rattle.node_versions.specs.declared.entry.Entry.{Entry}
 use Rattle.node_versions.specs.Entries.{IsUnique, has, at, behind, with_state, is_frame, is_done, first_open}
-use Rattle.flow_model.proofs.OneList.InOrder.{has-append, with_state-has}
+use Rattle.node_versions.proofs.Lists.{has-append}
+use Rattle.node_versions.proofs.KeptLemmas.{has-with_state, has-put}
+pub use Rattle.node_versions.proofs.Places.{at-has}
 
 -- ---- Another mode
 
@@ -16,7 +18,7 @@ with_state-at test t s (e ∷ es) u = let r = with_state-at test t s es u in gri
 
 pub with_state-behind : (t : ℕ) (s : State) (es : List Entry) (u v : ℕ) → behind (with_state t s es) u v ≡ behind es u v
 with_state-behind t s [] u v = refl
-with_state-behind t s (e ∷ es) u v = let r = with_state-behind t s es u v in let h = with_state-has t s es v in grind (arith, eqb_tells, r, h)
+with_state-behind t s (e ∷ es) u v = let r = with_state-behind t s es u v in let h = has-with_state t s es v in grind (arith, eqb_tells, r, h)
 
 -- ---- Joined lists
 
@@ -27,10 +29,6 @@ at-append test (e ∷ es) ys u = let r = at-append test es ys u in grind (arith,
 behind-append : (xs ys : List Entry) (u v : ℕ) → behind (xs ++ ys) u v ≡ elim (has xs u) as (λ _. Bool) [ true ↦ behind xs u v || has ys v | false ↦ behind ys u v ]
 behind-append [] ys u v = refl
 behind-append (e ∷ es) ys u v = let r = behind-append es ys u v in let h = has-append es ys v in grind (arith, eqb_tells, r, h)
-
-pub at-has : (test : State → Bool) (es : List Entry) (u : ℕ) → at test es u ≡ true → has es u ≡ true
-at-has test [] u h = h
-at-has test (e ∷ es) u h = let r = at-has test es u in grind (arith, eqb_tells, r)
 
 pub behind-has : (es : List Entry) (u v : ℕ) → behind es u v ≡ true → (has es u ≡ true) × (has es v ≡ true)
 behind-has [] u v h = absurd (true≢false (sym h))
@@ -75,10 +73,6 @@ finish-FramesLast t x c ps es h none = record {
 
 -- ---- An entry more
 
-pub more-has : (xs ys : List Entry) (e : Entry) (u : ℕ) → has (xs ++ e ∷ ys) u ≡ ((e.version == u) || has (xs ++ ys) u)
-more-has [] ys e u = refl
-more-has (x ∷ xs) ys e u = let r = more-has xs ys e u in grind (arith, r)
-
 pub more-at : (test : State → Bool) (xs ys : List Entry) (e : Entry) (u : ℕ) → u ≢ e.version → at test (xs ++ e ∷ ys) u ≡ at test (xs ++ ys) u
 more-at test [] ys e u ne = grind (arith, eqb_tells)
 more-at test (x ∷ xs) ys e u ne = let r = more-at test xs ys e u ne in grind (arith, r)
@@ -89,7 +83,7 @@ more-at_it test (x ∷ xs) ys e h = let r = more-at_it test xs ys e in grind (ar
 
 pub more-behind : (xs ys : List Entry) (e : Entry) (u v : ℕ) → u ≢ e.version → v ≢ e.version → behind (xs ++ e ∷ ys) u v ≡ behind (xs ++ ys) u v
 more-behind [] ys e u v a b = grind (arith, eqb_tells)
-more-behind (x ∷ xs) ys e u v a b = let r = more-behind xs ys e u v a b in let h = more-has xs ys e v in grind (arith, eqb_tells, r, h)
+more-behind (x ∷ xs) ys e u v a b = let r = more-behind xs ys e u v a b in let h = has-put xs ys e v in grind (arith, eqb_tells, r, h)
 
 pub more-behind_it : (xs ys : List Entry) (e : Entry) (v : ℕ) → has xs e.version ≡ false → behind (xs ++ e ∷ ys) e.version v ≡ has ys v
 more-behind_it [] ys e v h = grind (arith, eqb_tells)

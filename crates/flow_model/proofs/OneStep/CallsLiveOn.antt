@@ -1,5 +1,6 @@
 -- After a step all calls live on but one that ends, and what a live call has changed it has changed.
 use Rattle.std.proofs.Common.{◌≡◌, ℕ, Bool, true, false, ◌==◌, ◌⊎◌, inl, inr, refl, sym, ap, List, ◌∙◌, subst, Option, Some, None}
+use Rattle.std.proofs.lemmas.Bool.{or_right, eqb-true, eq-eqb, both_ways, cases_Bool}
 use Rattle.std.specs.Prelude.{is_some}
 use Rattle.std.specs.Prelude.{map}
 use Rattle.signal_graph.specs.Graph.{Graph, is_in}
@@ -12,7 +13,6 @@ use Rattle.flow_model.specs.Machine.Words.{active_outs, found_now, value_now, fo
 use Rattle.flow_model.specs.Machine.Sets.{put}
 use Rattle.flow_model.specs.Machine.Changes.{enter, raise, ensure_mark, set_state, opened, closed, tell_call, add_edge}
 use Rattle.flow_model.specs.Machine.Steps.{apply, open_node, frame, started, counted, with_look, look_value, keep_found, is_change}
-use Rattle.flow_model.proofs.General.Truths.{or_right, same_number, equal_test, is_not_true, true_or_false}
 use Rattle.flow_model.proofs.General.Sets.{in-put}
 use Rattle.flow_model.proofs.OneList.CallsAndCells.{option_call, change_call-other, change_call-same, map_call-reads, with_call-live, map_call-live}
 use Rattle.flow_model.proofs.OneStep.SameCallers.{ensured}
@@ -38,13 +38,13 @@ with_call-continues : (s q : Core) (t : ℕ) (f : LiveCall → LiveCall) → Rem
 with_call-continues s q t f k c = record {
   lives = λ u. ap (λ (l : ℕ → Bool). l u) (with_call-live q t f k.version) ∙ c.lives u;
   log = c.log;
-  changed = λ u m h. go u m (c.changed u m h) (true_or_false (u == t));
+  changed = λ u m h. go u m (c.changed u m h) (cases_Bool (u == t));
 }
   where
     go : (u m : ℕ) → changes q u m ≡ true → ((u == t) ≡ true) ⊎ ((u == t) ≡ false) → changes (with_call q t f) u m ≡ true
-    go u m h (inl x) = subst (λ (w : ℕ). changes (with_call q t f) w m ≡ true) (sym (same_number u t x))
-        (ap (λ (o : Option LiveCall). is_in m (call_or o).changed) (change_call-same t f k.version q.calls) ∙ option-changed f k m (call_of q.calls t) (subst (λ (w : ℕ). changes q w m ≡ true) (same_number u t x) h))
-    go u m h (inr x) = ap (λ (o : Option LiveCall). is_in m (call_or o).changed) (change_call-other t u f k.version q.calls (λ y. is_not_true _ x (equal_test u t y))) ∙ h
+    go u m h (inl x) = subst (λ (w : ℕ). changes (with_call q t f) w m ≡ true) (sym (eqb-true u t x))
+        (ap (λ (o : Option LiveCall). is_in m (call_or o).changed) (change_call-same t f k.version q.calls) ∙ option-changed f k m (call_of q.calls t) (subst (λ (w : ℕ). changes q w m ≡ true) (eqb-true u t x) h))
+    go u m h (inr x) = ap (λ (o : Option LiveCall). is_in m (call_or o).changed) (change_call-other t u f k.version q.calls (λ y. both_ways _ x (eq-eqb u t y))) ∙ h
 
 map_call-continues : (s q : Core) (f : LiveCall → LiveCall) → Remembers f → Continues s q → Continues s (record q { calls = map f q.calls })
 map_call-continues s q f k c = record {

@@ -1,6 +1,7 @@
 -- A step leaves a node's list, places a Mark or a Frame there, raises a Mark, finishes at a first Frame, or collects.
 use Rattle.std.proofs.Common.{◌≡◌, ℕ, Bool, true, false, ◌||◌, ◌⊎◌, inl, inr, refl, sym, ap, arith, List, ◌∙◌, subst, Option}
 use Rattle.script_tree.specs.declared.value.Value.{Value}
+use Rattle.script_tree.proofs.Truths.{and_left, and_right}
 use Rattle.signal_graph.specs.Graph.{Graph}
 use Rattle.node_versions.specs.declared.entry.State.TheVariants.{Mark, Frame, Done}
 use Rattle.node_versions.specs.declared.entry.Entry.{Entry}
@@ -12,7 +13,7 @@ use Rattle.flow_model.specs.Machine.Words.{at_front, has_room, value_now, found_
 use Rattle.flow_model.specs.Machine.Changes.{stops, new_entry, place_entry, set_state, enter, raise, ensure_mark, finish, add_edge, drop_edge}
 use Rattle.flow_model.specs.Machine.Steps.{allowed, apply, open_node, frame, has_room_for, is_change, collect}
 use Rattle.flow_model.specs.Kept.Lawful.{IsLawful}
-use Rattle.flow_model.proofs.OneStep.WhoMayStep.{and_left, and_right, frame-wants, skip-can_work, resolve-can_work, can_work-at_front, at_front-executes, due-can_work, discover-due, drop-due, mark-executes, mark-no_entry}
+use Rattle.flow_model.proofs.OneStep.WhoMayStep.{frame-wants, skip-can_work, resolve-can_work, can_work-at_front, at_front-executes, due-can_work, discover-due, drop-due, mark-executes, mark-no_entry}
 use Rattle.flow_model.proofs.OneList.Entering.{with_cell-entries}
 use Rattle.flow_model.proofs.OrderStays.AfterEachStep.{wanted-fresh}
 

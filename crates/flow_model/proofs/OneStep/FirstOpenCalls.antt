@@ -1,19 +1,20 @@
 -- A step that finishes at no node leaves the last Done of a list, the entries of live calls, and an executing first open call.
 use Rattle.std.proofs.Common.{◌≡◌, ℕ, ◌<◌, Bool, true, false, ◌&&◌, not, ◌==◌, ◌⊎◌, inl, inr, refl, sym, ap, arith, List, [], ◌∷◌, length, true≢false, ◌∙◌, subst, Some}
+use Rattle.std.proofs.lemmas.Bool.{or_right, eqb-true, eq-eqb, both_ways, cases_Bool, true_from_ne_false}
 use Rattle.signal_graph.specs.Graph.{Graph}
 use Rattle.node_versions.specs.declared.entry.State.{State}
 use Rattle.node_versions.specs.declared.entry.State.TheVariants.{Mark, Frame, Done}
 use Rattle.node_versions.specs.declared.entry.Entry.{Entry}
 use Rattle.node_versions.specs.Entries.{is_done, is_frame, has, at, placed, with_state, last_done, first_open, behind}
+use Rattle.node_versions.proofs.KeptLemmas.{has-with_state}
+use Rattle.node_versions.proofs.Places.{at-has}
 use Rattle.flow_model.specs.declared.step.Step.{Step}
 use Rattle.flow_model.specs.Machine.State.{Core, Cell, live, executes, entries, opens, wants}
 use Rattle.flow_model.specs.Machine.Words.{heads}
 use Rattle.flow_model.specs.Machine.Changes.{stops, stops_call, new_entry, place_entry, set_state}
 use Rattle.flow_model.specs.Machine.Steps.{allowed, apply}
 use Rattle.flow_model.specs.Kept.Lawful.{IsLawful}
-use Rattle.flow_model.proofs.General.Truths.{or_right, equal_test, same_number, is_not_true, not_false, true_or_false}
-use Rattle.flow_model.proofs.OneList.InOrder.{with_state-has}
-use Rattle.flow_model.proofs.OneList.StatesAndPlaces.{at-has, with_state-at}
+use Rattle.flow_model.proofs.OneList.StatesAndPlaces.{with_state-at}
 use Rattle.flow_model.proofs.OneList.OneEntryACall.{placed-has, placed-at_other, placed-at, collected-at, collected-at_live}
 use Rattle.flow_model.proofs.OrderStays.NoFrameBeforeDones.{head-first}
 use Rattle.flow_model.proofs.OrderStays.OpenNodesHaveFrames.{cell-there, entry-there, step-FramesAreOpen}
@@ -43,7 +44,7 @@ ended-prefix graph s h n u v b e = ap not (h.ended_is_prefix.prefix n u v b (tur
     turned false k = refl
 
 pub no-ended_frame : (graph : Graph) (s : Core) → IsLawful graph s → (n u : ℕ) → at is_frame (entries s n) u ≡ true → not (live s u) ≡ false
-no-ended_frame graph s h n u f = ap not (not_false (live s u) (λ e. is_not_true _ (h.ended_is_prefix.no_frame n u e) f))
+no-ended_frame graph s h n u f = ap not (true_from_ne_false (live s u) (λ e. both_ways _ (h.ended_is_prefix.no_frame n u e) f))
 
 -- ---- a step that finishes at no node
 
@@ -69,22 +70,22 @@ quiet-head graph s h n es (collects e) u x hd = ap first_open e ∙ collected-fi
 -- A call with a Frame had it before, or wanted the node.
 list-frame_back : (graph : Graph) (s : Core) → IsLawful graph s → (n : ℕ) (es : List Entry) → ListStep graph s n es → (u : ℕ) → at is_frame es u ≡ true → (at is_frame (entries s n) u ≡ true) ⊎ (wants s u n ≡ true)
 list-frame_back graph s h n es (lists.stays e) u f = inl (subst (λ (xs : List Entry). at is_frame xs u ≡ true) e f)
-list-frame_back graph s h n es (lists.marks t x fresh r e) u f = go (true_or_false (u == t)) (subst (λ (xs : List Entry). at is_frame xs u ≡ true) e f)
+list-frame_back graph s h n es (lists.marks t x fresh r e) u f = go (cases_Bool (u == t)) (subst (λ (xs : List Entry). at is_frame xs u ≡ true) e f)
   where
     go : ((u == t) ≡ true) ⊎ ((u == t) ≡ false) → at is_frame (placed (stops s t) (new_entry s t Mark) (entries s n)) u ≡ true → (at is_frame (entries s n) u ≡ true) ⊎ (wants s u n ≡ true)
-    go (inl k) g = absurd (true≢false (sym (subst (λ (v : ℕ). at is_frame (placed (stops s t) (new_entry s t Mark) (entries s n)) v ≡ true) (same_number u t k) g) ∙ placed-at is_frame (stops_call s t) (new_entry s t Mark) (entries s n) fresh))
-    go (inr k) g = inl (sym (placed-at_other is_frame (stops_call s t) (new_entry s t Mark) (entries s n) u (λ y. is_not_true _ k (equal_test u t y))) ∙ g)
-list-frame_back graph s h n es (lists.frames t w fresh r e) u f = go (true_or_false (u == t)) (subst (λ (xs : List Entry). at is_frame xs u ≡ true) e f)
+    go (inl k) g = absurd (true≢false (sym (subst (λ (v : ℕ). at is_frame (placed (stops s t) (new_entry s t Mark) (entries s n)) v ≡ true) (eqb-true u t k) g) ∙ placed-at is_frame (stops_call s t) (new_entry s t Mark) (entries s n) fresh))
+    go (inr k) g = inl (sym (placed-at_other is_frame (stops_call s t) (new_entry s t Mark) (entries s n) u (λ y. both_ways _ k (eq-eqb u t y))) ∙ g)
+list-frame_back graph s h n es (lists.frames t w fresh r e) u f = go (cases_Bool (u == t)) (subst (λ (xs : List Entry). at is_frame xs u ≡ true) e f)
   where
     go : ((u == t) ≡ true) ⊎ ((u == t) ≡ false) → at is_frame (placed (stops s t) (new_entry s t Frame) (entries s n)) u ≡ true → (at is_frame (entries s n) u ≡ true) ⊎ (wants s u n ≡ true)
-    go (inl k) g = inr (subst (λ (v : ℕ). wants s v n ≡ true) (sym (same_number u t k)) w)
-    go (inr k) g = inl (sym (placed-at_other is_frame (stops_call s t) (new_entry s t Frame) (entries s n) u (λ y. is_not_true _ k (equal_test u t y))) ∙ g)
-list-frame_back graph s h n es (lists.raises t w m e) u f = go (true_or_false (u == t)) (with_state-at is_frame t Frame (entries s n) u) (subst (λ (xs : List Entry). at is_frame xs u ≡ true) e f)
+    go (inl k) g = inr (subst (λ (v : ℕ). wants s v n ≡ true) (sym (eqb-true u t k)) w)
+    go (inr k) g = inl (sym (placed-at_other is_frame (stops_call s t) (new_entry s t Frame) (entries s n) u (λ y. both_ways _ k (eq-eqb u t y))) ∙ g)
+list-frame_back graph s h n es (lists.raises t w m e) u f = go (cases_Bool (u == t)) (with_state-at is_frame t Frame (entries s n) u) (subst (λ (xs : List Entry). at is_frame xs u ≡ true) e f)
   where
     go : ((u == t) ≡ true) ⊎ ((u == t) ≡ false) → at is_frame (with_state t Frame (entries s n)) u ≡ elim (u == t) as (λ _. Bool) [ true ↦ has (entries s n) t && true | false ↦ at is_frame (entries s n) u ] → at is_frame (with_state t Frame (entries s n)) u ≡ true → (at is_frame (entries s n) u ≡ true) ⊎ (wants s u n ≡ true)
-    go (inl k) a g = inr (subst (λ (v : ℕ). wants s v n ≡ true) (sym (same_number u t k)) w)
+    go (inl k) a g = inr (subst (λ (v : ℕ). wants s v n ≡ true) (sym (eqb-true u t k)) w)
     go (inr k) a g = inl (sym (rw k at a) ∙ g)
-list-frame_back graph s h n es (lists.finishes t v c ps fr e) u f = go (true_or_false (u == t)) (with_state-at is_frame t (Done v c ps) (entries s n) u) (subst (λ (xs : List Entry). at is_frame xs u ≡ true) e f)
+list-frame_back graph s h n es (lists.finishes t v c ps fr e) u f = go (cases_Bool (u == t)) (with_state-at is_frame t (Done v c ps) (entries s n) u) (subst (λ (xs : List Entry). at is_frame xs u ≡ true) e f)
   where
     none : (x a b c : Bool) → x ≡ true → c ≡ elim x as (λ _. Bool) [ true ↦ a && false | false ↦ b ] → c ≡ true → ⊥
     none x a b c h k j = grind (arith, h, k, j)
@@ -121,8 +122,8 @@ list-entry : (graph : Graph) (s : Core) (n : ℕ) (es : List Entry) → ListStep
 list-entry graph s n es (lists.stays e) u l k = subst (λ (xs : List Entry). has xs u ≡ true) (sym e) k
 list-entry graph s n es (lists.marks t x f r e) u l k = ap (λ (xs : List Entry). has xs u) e ∙ placed-has (stops_call s t) (new_entry s t Mark) (entries s n) u ∙ or_right (t == u) (has (entries s n) u) k
 list-entry graph s n es (lists.frames t w f r e) u l k = ap (λ (xs : List Entry). has xs u) e ∙ placed-has (stops_call s t) (new_entry s t Frame) (entries s n) u ∙ or_right (t == u) (has (entries s n) u) k
-list-entry graph s n es (lists.raises t w m e) u l k = ap (λ (xs : List Entry). has xs u) e ∙ with_state-has t Frame (entries s n) u ∙ k
-list-entry graph s n es (lists.finishes t v c ps fr e) u l k = ap (λ (xs : List Entry). has xs u) e ∙ with_state-has t (Done v c ps) (entries s n) u ∙ k
+list-entry graph s n es (lists.raises t w m e) u l k = ap (λ (xs : List Entry). has xs u) e ∙ has-with_state t Frame (entries s n) u ∙ k
+list-entry graph s n es (lists.finishes t v c ps fr e) u l k = ap (λ (xs : List Entry). has xs u) e ∙ has-with_state t (Done v c ps) (entries s n) u ∙ k
 list-entry graph s n es (lists.collects e) u l k = ap (λ (xs : List Entry). has xs u) e ∙ sym (has-at _ u) ∙ collected-at_live (λ x. true) (λ v. not (live s v)) (entries s n) u (ap not l) ∙ has-at (entries s n) u ∙ k
 
 pub step-entry : (graph : Graph) (s : Core) (step : Step) → IsLawful graph s → allowed graph s step ≡ true → (n u : ℕ) → live s u ≡ true → has (entries s n) u ≡ true → has (entries (apply graph s step) n) u ≡ true

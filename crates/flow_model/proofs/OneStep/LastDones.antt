@@ -1,5 +1,6 @@
 -- The last Done of a list stays through each step but one that finishes there.
 use Rattle.std.proofs.Common.{◌≡◌, ℕ, ◌+◌, ◌≤◌, true, not, refl, sym, ap, arith, List, length, ◌∙◌, subst}
+use Rattle.std.proofs.lemmas.Bool.{not-true}
 use Rattle.signal_graph.specs.Graph.{Graph}
 use Rattle.node_versions.specs.declared.entry.State.TheVariants.{Mark, Frame}
 use Rattle.node_versions.specs.declared.entry.Entry.{Entry}
@@ -7,7 +8,7 @@ use Rattle.node_versions.specs.Entries.{behind, collected, last_done}
 use Rattle.flow_model.specs.Machine.State.{Core, live, ended, entries}
 use Rattle.flow_model.specs.Machine.Changes.{stops_call, new_entry}
 use Rattle.flow_model.specs.Kept.Lawful.{IsLawful}
-use Rattle.flow_model.proofs.OneStep.WhoMayStep.{not_is, executes-live, wants-live}
+use Rattle.flow_model.proofs.OneStep.WhoMayStep.{executes-live, wants-live}
 use Rattle.flow_model.proofs.OneList.OneEntryACall.{collected-length}
 use Rattle.flow_model.proofs.OneStep.ChangesOfOneList.{ListStep, stays, marks, frames, raises, finishes, collects}
 use Rattle.flow_model.proofs.Lengths.ListWorth.{list_worth, live_versions, placed-lowers, raised-lowers, finished-lowers, collected-lowers}
@@ -38,7 +39,7 @@ pub collected-keeps : (graph : Graph) (k b : ℕ) (s : Core) → IsLawful graph 
 collected-keeps graph k b s h n es e l = keeps (moved k b (live_versions s) es _ _ e (collected-lowers k s n b l)) (ap last_done e ∙ collected-last_done (λ v. not (live s v)) (entries s n) (h.one_entry n) prefix)
   where
     prefix : (u v : ℕ) → behind (entries s n) u v ≡ true → not (live s v) ≡ true → not (live s u) ≡ true
-    prefix u v b d = ap not (h.ended_is_prefix.prefix n u v b (not_is _ d))
+    prefix u v b d = ap not (h.ended_is_prefix.prefix n u v b (not-true _ d))
 
 pub list-lowers : (graph : Graph) (k : ℕ) (s : Core) → IsLawful graph s → (n : ℕ) (es : List Entry) → (x : ListStep graph s n es) → Lowers k s n es (lowered graph s n es x)
 list-lowers graph k s h n es (stays e) = keeps (moved k 0 (live_versions s) es _ _ e (omega arith)) (ap last_done e)

@@ -1,10 +1,12 @@
 -- No step changes a live call's caller and slot, nor what it sets and looks at.
 use Rattle.std.proofs.Common.{◌≡◌, ℕ, ◌<◌, ◌≤◌, Bool, true, false, not, ◌==◌, ◌⊎◌, inl, inr, refl, sym, ap, arith, List, length, ◌∙◌, subst, Option}
+use Rattle.std.proofs.lemmas.Bool.{and_from, eqb-true, eq-eqb, both_ways, cases_Bool, true_from_ne_false}
 use Rattle.std.specs.Prelude.{is_some}
 use Rattle.script_tree.specs.declared.value.Value.{Value}
 use Rattle.signal_graph.specs.Graph.{Graph}
 use Rattle.signal_graph.specs.Machine.{misnamed}
 use Rattle.script_tree.specs.declared.limits.TheConstants.{SETS, LOOKS}
+use Rattle.script_tree.proofs.Truths.{and_right}
 use Rattle.node_versions.specs.declared.entry.Entry.{Entry}
 use Rattle.node_versions.specs.declared.entry.State.TheVariants.{Mark, Frame, Done}
 use Rattle.node_versions.specs.Entries.{has, at, is_mark, value_before, picks_before}
@@ -15,8 +17,6 @@ use Rattle.flow_model.specs.Machine.Words.{active_outs, found_now, value_now, fo
 use Rattle.flow_model.specs.Machine.Changes.{enter, raise, ensure_mark, set_state, opened, closed, tell_call, add_edge}
 use Rattle.flow_model.specs.Machine.Steps.{allowed, apply, open_node, frame, started, counted, with_look, is_change, keep_found, look_value, sets_in, looks_in}
 use Rattle.flow_model.specs.Kept.Lawful.{IsLawful, RoomIsKept, IsCallRight}
-use Rattle.flow_model.proofs.General.Truths.{and_make, same_number, equal_test, is_not_true, not_false, true_or_false}
-use Rattle.flow_model.proofs.OneStep.WhoMayStep.{and_right}
 use Rattle.flow_model.proofs.OneList.CallsAndCells.{with_call-keeps, map_call-keeps, without_call-other, without_call-same}
 use Rattle.flow_model.proofs.OneStep.WhoLivesAndFrames.{PhaseStep, stays, starts, ends, step-phases, phase-is_framing}
 use Rattle.flow_model.proofs.OneStep.SameLengths.{step-parts}
@@ -65,20 +65,20 @@ step-stable read k graph s (steps.Discover t n c) u l =
 step-stable read k graph s (steps.Drop t n o) u l = ensured read s t o u
 step-stable read k graph s (steps.Mark t m) u l = refl
 step-stable read k graph s (steps.Look t) u l = with_call-keeps read s t (with_look (look_value s t (next_look s t))) (λ c. refl) (k.looks (look_value s t (next_look s t))) u
-step-stable {A} read k graph s (steps.End t) u l = go (true_or_false (u == t))
+step-stable {A} read k graph s (steps.End t) u l = go (cases_Bool (u == t))
   where
     go : ((u == t) ≡ true) ⊎ ((u == t) ≡ false) → read (call (apply graph s (steps.End t)) u) ≡ read (call s u)
-    go (inl e) = absurd (is_not_true _ (subst (λ (v : ℕ). live (apply graph s (steps.End t)) v ≡ false) (sym (same_number u t e)) (ap is_some (without_call-same t s.calls))) l)
-    go (inr e) = ap (λ (o : Option LiveCall). read (call_or o)) (without_call-other t u s.calls (λ x. is_not_true _ e (equal_test u t x)))
+    go (inl e) = absurd (both_ways _ (subst (λ (v : ℕ). live (apply graph s (steps.End t)) v ≡ false) (sym (eqb-true u t e)) (ap is_some (without_call-same t s.calls))) l)
+    go (inr e) = ap (λ (o : Option LiveCall). read (call_or o)) (without_call-other t u s.calls (λ x. both_ways _ e (eq-eqb u t x)))
 step-stable read k graph s (steps.Collect n) u l = refl
 
-caller-stable : Stable (λ (c : LiveCall). c.caller)
+pub caller-stable : Stable (λ (c : LiveCall). c.caller)
 caller-stable = record { opens = λ n outs c. refl; starts = λ c. refl; closes = λ n b c. refl; counts = λ c. refl; looks = λ v c. refl; tells = λ es t n c. refl }
 
 pub slot-stable : Stable (λ (c : LiveCall). c.slot)
 slot-stable = record { opens = λ n outs c. refl; starts = λ c. refl; closes = λ n b c. refl; counts = λ c. refl; looks = λ v c. refl; tells = λ es t n c. refl }
 
-call-stable : Stable (λ (c : LiveCall). c.call)
+pub call-stable : Stable (λ (c : LiveCall). c.call)
 call-stable = record { opens = λ n outs c. refl; starts = λ c. refl; closes = λ n b c. refl; counts = λ c. refl; looks = λ v c. refl; tells = λ es t n c. refl }
 
 pub sets-stable : Stable (λ (c : LiveCall). c.sets)
@@ -116,9 +116,9 @@ moved graph c d e f g x h = record {
 
 -- Whoever executes before a step and lives after it executes after it.
 phase-executes : (s q : Core) → PhaseStep s q → (u : ℕ) → live q u ≡ true → executes s u ≡ true → executes q u ≡ true
-phase-executes s q p u l x = not_false (executes q u) (λ e.
-    let f = phase-is_framing s q p u (and_make _ _ l (ap not e)) in
-    is_not_true (not (executes s u)) (ap not x) (and_right (live s u) (not (executes s u)) f))
+phase-executes s q p u l x = true_from_ne_false (executes q u) (λ e.
+    let f = phase-is_framing s q p u (and_from _ _ l (ap not e)) in
+    both_ways (not (executes s u)) (ap not x) (and_right (live s u) (not (executes s u)) f))
 
 pub step-calls_right : (graph : Graph) (s : Core) (step : Step) → IsLawful graph s → allowed graph s step ≡ true → (u : ℕ)
     → live (apply graph s step) u ≡ true

@@ -3,7 +3,8 @@ use Rattle.std.proofs.Common.{◌≡◌, ℕ, zero, suc, ◌+◌, ◌≤◌, Boo
 use Rattle.std.specs.Prelude.{is_some}
 use Rattle.std.specs.Prelude.{filter}
 use Rattle.std.proofs.lemmas.Bool.Decides.{eqb_tells}
-use Rattle.std.proofs.lemmas.List.{map-append, length-append}
+use Rattle.std.proofs.lemmas.Bool.{or_cases, or_left, or_right, eqb-true, eq-eqb, false_from_ne_true, both_ways, cases_Bool}
+use Rattle.std.proofs.lemmas.List.{map-append, length-append, length-map}
 use Rattle.std.proofs.lemmas.List.Elements.{filter-append}
 use Rattle.std.proofs.lemmas.List.Folds.{list_any-append}
 use Rattle.signal_graph.specs.declared.call.Call.{Call}
@@ -13,23 +14,21 @@ use Rattle.call_log.specs.Made.{versions_in}
 use Rattle.flow_model.specs.Machine.State.{Core, LiveCall, call, call_of, call_or, live, change_call}
 use Rattle.flow_model.specs.Machine.Steps.{begin, new_call, without_call, logged}
 use Rattle.flow_model.specs.Kept.Lawful.{times, versions, AreDistinct, VersionsAreFresh, log_has, ended_first, ended_before}
-use Rattle.flow_model.proofs.General.Truths.{or_cases, or_left, or_right, same_number, equal_test, not_true, is_not_true, true_or_false}
 use Rattle.flow_model.proofs.OneList.InOrder.{IsTransitive}
-use Rattle.flow_model.proofs.General.AnyAndAll.{length-map}
 
 pub times-append : (x : ℕ) (xs ys : List ℕ) → times x (xs ++ ys) ≡ times x xs + times x ys
 times-append x xs ys = ap length (filter-append (λ y. y == x) xs ys) ∙ length-append (filter (λ y. y == x) xs) (filter (λ y. y == x) ys)
 
 pub times-in : (x : ℕ) (xs : List ℕ) → is_in x xs ≡ true → 1 ≤ times x xs
 times-in x [] h = absurd (true≢false (sym h))
-times-in x (y ∷ ys) h = go (true_or_false (y == x)) (times-in x ys)
+times-in x (y ∷ ys) h = go (cases_Bool (y == x)) (times-in x ys)
   where
     go : ((y == x) ≡ true) ⊎ ((y == x) ≡ false) → (is_in x ys ≡ true → 1 ≤ times x ys) → 1 ≤ times x (y ∷ ys)
     go (inl e) further = rw e (omega arith)
     go (inr e) further = rw e (further (subst (λ (b : Bool). (b || is_in x ys) ≡ true) e h))
 
 times-none : (x : ℕ) (xs : List ℕ) → times x xs ≡ 0 → is_in x xs ≡ false
-times-none x xs h = not_true _ (λ k. let r = times-in x xs k in omega (arith, r, h))
+times-none x xs h = false_from_ne_true _ (λ k. let r = times-in x xs k in omega (arith, r, h))
 
 -- the calls and the log name the same versions, and as many have begun
 pub record SameCalls (s q : Core) : Type 0 where
@@ -43,7 +42,7 @@ same-VersionsAreFresh s q e h =
     record {
       distinct = λ x. subst (λ (ns : List ℕ). times x ns ≤ 1) (sym vs) (h.distinct x);
       fit = λ u k. subst (λ (b : ℕ). (1 ≤ u) × (u ≤ b)) (sym e.begun) (h.fit u (subst (λ (ns : List ℕ). is_in u ns ≡ true) vs k));
-      count = e.begun ∙ h.count ∙ ap₂ (λ (a b : ℕ). a + b) (ap length (sym e.log)) (sym (length-map (λ (c : LiveCall). c.version) s.calls) ∙ ap length (sym e.calls) ∙ length-map (λ (c : LiveCall). c.version) q.calls);
+      count = e.begun ∙ h.count ∙ ap₂ (λ (a b : ℕ). a + b) (ap length (sym e.log)) (sym (length-map s.calls (λ (c : LiveCall). c.version)) ∙ ap length (sym e.calls) ∙ length-map q.calls (λ (c : LiveCall). c.version));
     }
 
 pub change_call-versions : (t : ℕ) (f : LiveCall → LiveCall) → ((c : LiveCall) → (f c).version ≡ c.version) → (cs : List LiveCall) → map (λ (c : LiveCall). c.version) (change_call t f cs) ≡ map (λ (c : LiveCall). c.version) cs
@@ -72,10 +71,10 @@ logged-version : (s : Core) (u : ℕ) → log_has s.log u ≡ true → is_in u (
 logged-version s u h = list_any-append (λ m. m == u) (map (λ (c : LiveCall). c.version) s.calls) (versions_in s.log) ∙ or_right _ _ h
 
 pub not_begun-live : (s : Core) → VersionsAreFresh s → live s (suc s.begun) ≡ false
-not_begun-live s h = not_true _ (λ l. let r = (h.fit (suc s.begun) (live-version s (suc s.begun) l)).1 in omega (arith, r))
+not_begun-live s h = false_from_ne_true _ (λ l. let r = (h.fit (suc s.begun) (live-version s (suc s.begun) l)).1 in omega (arith, r))
 
 pub not_begun-logged : (s : Core) → VersionsAreFresh s → log_has s.log (suc s.begun) ≡ false
-not_begun-logged s h = not_true _ (λ l. let r = (h.fit (suc s.begun) (logged-version s (suc s.begun) l)).1 in omega (arith, r))
+not_begun-logged s h = false_from_ne_true _ (λ l. let r = (h.fit (suc s.begun) (logged-version s (suc s.begun) l)).1 in omega (arith, r))
 
 -- ---- a call begins
 
@@ -84,14 +83,14 @@ begin-times x b vs ls fit h =
     let e1 = times-append x (vs ++ suc b ∷ []) ls in
     let e2 = times-append x vs (suc b ∷ []) in
     let e3 = times-append x vs ls in
-    go (true_or_false (suc b == x)) e1 e2 e3
+    go (cases_Bool (suc b == x)) e1 e2 e3
   where
     absent : suc b ≡ x → times x (vs ++ ls) ≡ 0
     absent e = zero_or (times x (vs ++ ls)) h (λ k. let r = fit x (found (vs ++ ls) k) in omega (arith, r, e))
       where
         found : (ns : List ℕ) → 1 ≤ times x ns → is_in x ns ≡ true
         found [] k = absurd (omega arith)
-        found (y ∷ ys) k = more (true_or_false (y == x)) k (found ys)
+        found (y ∷ ys) k = more (cases_Bool (y == x)) k (found ys)
           where
             more : ((y == x) ≡ true) ⊎ ((y == x) ≡ false) → 1 ≤ times x (y ∷ ys) → (1 ≤ times x ys → is_in x ys ≡ true) → is_in x (y ∷ ys) ≡ true
             more (inl e) k further = or_left _ _ e
@@ -102,7 +101,7 @@ begin-times x b vs ls fit h =
         zero_or (suc n) h k = absurd (k (omega arith))
 
     go : ((suc b == x) ≡ true) ⊎ ((suc b == x) ≡ false) → times x ((vs ++ suc b ∷ []) ++ ls) ≡ times x (vs ++ suc b ∷ []) + times x ls → times x (vs ++ suc b ∷ []) ≡ times x vs + times x (suc b ∷ []) → times x (vs ++ ls) ≡ times x vs + times x ls → times x ((vs ++ suc b ∷ []) ++ ls) ≤ 1
-    go (inl e) e1 e2 e3 = let z = absent (same_number (suc b) x e) in let o : times x (suc b ∷ []) ≡ 1 = rw e refl in omega (arith, e1, e2, e3, z, o)
+    go (inl e) e1 e2 e3 = let z = absent (eqb-true (suc b) x e) in let o : times x (suc b ∷ []) ≡ 1 = rw e refl in omega (arith, e1, e2, e3, z, o)
     go (inr e) e1 e2 e3 = let o : times x (suc b ∷ []) ≡ 0 = rw e refl in omega (arith, e1, e2, e3, h, o)
 
 pub begin-VersionsAreFresh : (graph : Graph) (s : Core) (caller : ℕ) (c : Call) → VersionsAreFresh s → VersionsAreFresh (begin graph s caller c)
@@ -142,7 +141,7 @@ without-times t x (c ∷ cs) = let r = without-times t x cs in grind (arith, eqb
 
 without-length : (t : ℕ) (cs : List LiveCall) → length (without_call t cs) + times t (map (λ (c : LiveCall). c.version) cs) ≡ length cs
 without-length t [] = refl
-without-length t (c ∷ cs) = let r = without-length t cs in go (true_or_false (c.version == t)) r
+without-length t (c ∷ cs) = let r = without-length t cs in go (cases_Bool (c.version == t)) r
   where
     go : ((c.version == t) ≡ true) ⊎ ((c.version == t) ≡ false) → length (without_call t cs) + times t (map (λ (c : LiveCall). c.version) cs) ≡ length cs → length (without_call t (c ∷ cs)) + times t (map (λ (c : LiveCall). c.version) (c ∷ cs)) ≡ length (c ∷ cs)
     go (inl e) r = rw (e, without_call) (omega (arith, r))
@@ -159,7 +158,7 @@ end-versions s t x h lt =
     let one = times-in t vs (live-in s.calls t lt) in
     let most = h.distinct t in
     let e5 = times-append t vs (versions_in s.log) in
-    go (true_or_false (x == t)) e1 e2 e3 e4 one most e5
+    go (cases_Bool (x == t)) e1 e2 e3 e4 one most e5
   where
     go : ((x == t) ≡ true) ⊎ ((x == t) ≡ false)
         → times x (map (λ (c : LiveCall). c.version) (without_call t s.calls) ++ versions_in (s.log ++ logged (call s t) ∷ [])) ≡ times x (map (λ (c : LiveCall). c.version) (without_call t s.calls)) + times x (versions_in (s.log ++ logged (call s t) ∷ []))
@@ -169,8 +168,8 @@ end-versions s t x h lt =
         → 1 ≤ times t (map (λ (c : LiveCall). c.version) s.calls) → times t (versions s) ≤ 1 → times t (versions s) ≡ times t (map (λ (c : LiveCall). c.version) s.calls) + times t (versions_in s.log)
         → times x (map (λ (c : LiveCall). c.version) (without_call t s.calls) ++ versions_in (s.log ++ logged (call s t) ∷ [])) ≡ times x (versions s)
     go (inl e) e1 e2 e3 e4 one most e5 =
-        let xt = same_number x t e in
-        let o : times x (t ∷ []) ≡ 1 = let w = equal_test t x (sym xt) in rw w refl in
+        let xt = eqb-true x t e in
+        let o : times x (t ∷ []) ≡ 1 = let w = eq-eqb t x (sym xt) in rw w refl in
         let z : times x (map (λ (c : LiveCall). c.version) (without_call t s.calls)) ≡ 0 = rw e at e3 in
         let m = subst (λ (k : ℕ). 1 ≤ times k (map (λ (c : LiveCall). c.version) s.calls)) (sym xt) one in
         let n = subst (λ (k : ℕ). times k (versions s) ≤ 1) (sym xt) most in
@@ -181,14 +180,14 @@ end-versions s t x h lt =
         omega (arith, e1, e2, e4, o, z)
 
 pub in-times : (x : ℕ) (xs : List ℕ) → 1 ≤ times x xs → is_in x xs ≡ true
-in-times x xs h = go (true_or_false (is_in x xs))
+in-times x xs h = go (cases_Bool (is_in x xs))
   where
     absent : (ys : List ℕ) → is_in x ys ≡ false → times x ys ≡ 0
     absent [] k = refl
-    absent (y ∷ ys) k = more (true_or_false (y == x)) k (absent ys)
+    absent (y ∷ ys) k = more (cases_Bool (y == x)) k (absent ys)
       where
         more : ((y == x) ≡ true) ⊎ ((y == x) ≡ false) → is_in x (y ∷ ys) ≡ false → (is_in x ys ≡ false → times x ys ≡ 0) → times x (y ∷ ys) ≡ 0
-        more (inl e) k further = absurd (is_not_true _ k (or_left _ _ e))
+        more (inl e) k further = absurd (both_ways _ k (or_left _ _ e))
         more (inr e) k further = rw e (further (subst (λ (b : Bool). (b || is_in x ys) ≡ false) e k))
 
     go : (is_in x xs ≡ true) ⊎ (is_in x xs ≡ false) → is_in x xs ≡ true
@@ -227,7 +226,7 @@ ended_before-logged : (log : List Logged) (u v : ℕ) → ended_before log u v �
 ended_before-logged log u v h = let r = ended_first-logged log u v in grind (arith, r)
 
 pub tail-distinct : (x : ℕ) (xs : List ℕ) → AreDistinct (x ∷ xs) → AreDistinct xs
-tail-distinct x xs h y = let r = h y in go (true_or_false (x == y)) r
+tail-distinct x xs h y = let r = h y in go (cases_Bool (x == y)) r
   where
     go : ((x == y) ≡ true) ⊎ ((x == y) ≡ false) → times y (x ∷ xs) ≤ 1 → times y xs ≤ 1
     go (inl e) r = let q : suc (times y xs) ≤ 1 = rw e at r in omega (arith, q)
@@ -235,7 +234,7 @@ tail-distinct x xs h y = let r = h y in go (true_or_false (x == y)) r
 
 pub head-distinct : (x : ℕ) (xs : List ℕ) → AreDistinct (x ∷ xs) → is_in x xs ≡ false
 head-distinct x xs h =
-    let e = equal_test x x refl in
+    let e = eq-eqb x x refl in
     let q : suc (times x xs) ≤ 1 = (let r = h x in rw e at r) in
     times-none x xs (omega (arith, q))
 
@@ -258,7 +257,7 @@ ended_before-trans s h u v w j k =
     let a = ended_first-logged s.log u v in
     let b = ended_before-logged s.log v w k in
     let z = λ (l : log_has s.log 0 ≡ true). (h.fit 0 (logged-version s 0 l)).0 in
-    let zero : (v == 0) ≡ true → log_has s.log v ≡ true → ⊥ = λ e l. let y = z (subst (λ (m : ℕ). log_has s.log m ≡ true) (same_number v 0 e) l) in omega (arith, y) in
+    let zero : (v == 0) ≡ true → log_has s.log v ≡ true → ⊥ = λ e l. let y = z (subst (λ (m : ℕ). log_has s.log m ≡ true) (eqb-true v 0 e) l) in omega (arith, y) in
     grind (arith, t, a, b, zero)
 
 -- a call more at the end of the log
@@ -277,5 +276,5 @@ pub ended_before-last : (log : List Logged) (x : Logged) (u : ℕ) → (u ≡ 0)
 ended_before-last log x u h =
     let f = ended_first-more log x u x.version in
     let l = logged-more log x x.version in
-    let e = equal_test x.version x.version refl in
+    let e = eq-eqb x.version x.version refl in
     grind (arith, eqb_tells, f, l, e, h)

@@ -1,5 +1,6 @@
 -- Only a Look changes what a call has looked at, only Evaluate what it has counted, and only Resolve what it has changed.
 use Rattle.std.proofs.Common.{◌≡◌, ℕ, Bool, true, false, ◌==◌, ◌⊎◌, inl, inr, refl, sym, ap, List, ◌∙◌, subst, Option}
+use Rattle.std.proofs.lemmas.Bool.{eqb-true, eq-eqb, both_ways, cases_Bool}
 use Rattle.std.specs.Prelude.{is_some}
 use Rattle.script_tree.specs.declared.value.Value.{Value}
 use Rattle.signal_graph.specs.Graph.{Graph}
@@ -12,7 +13,6 @@ use Rattle.flow_model.specs.Machine.State.{Core, LiveCall, call, call_or, live, 
 use Rattle.flow_model.specs.Machine.Words.{active_outs, found_now, value_now, found_picks, next_look}
 use Rattle.flow_model.specs.Machine.Changes.{enter, raise, ensure_mark, opened, closed, set_state, tell_call, add_edge}
 use Rattle.flow_model.specs.Machine.Steps.{apply, frame, open_node, started, counted, with_look, look_value, keep_found, is_change}
-use Rattle.flow_model.proofs.General.Truths.{same_number, equal_test, is_not_true, true_or_false}
 use Rattle.flow_model.proofs.OneList.CallsAndCells.{with_call-keeps, map_call-keeps, without_call-other, without_call-same}
 use Rattle.flow_model.proofs.OneStep.QuietSteps.{SameWork, works, step-work as quiet-work}
 use Rattle.flow_model.proofs.OneStep.SameCallers.{ensured}
@@ -51,11 +51,11 @@ step-field read graph s (steps.Discover t n c) k u l =
 step-field read graph s (steps.Drop t n o) k u l = ensured read s t o u
 step-field read graph s (steps.Mark t m) k u l = refl
 step-field read graph s (steps.Look t) k u l = with_call-keeps read s t (with_look (look_value s t (next_look s t))) (λ c. refl) (k (look_value s t (next_look s t))) u
-step-field {A} read graph s (steps.End t) k u l = go (true_or_false (u == t))
+step-field {A} read graph s (steps.End t) k u l = go (cases_Bool (u == t))
   where
     go : ((u == t) ≡ true) ⊎ ((u == t) ≡ false) → read (call (apply graph s (steps.End t)) u) ≡ read (call s u)
-    go (inl e) = absurd (is_not_true _ (subst (λ (v : ℕ). live (apply graph s (steps.End t)) v ≡ false) (sym (same_number u t e)) (ap is_some (without_call-same t s.calls))) l)
-    go (inr e) = ap (λ (o : Option LiveCall). read (call_or o)) (without_call-other t u s.calls (λ x. is_not_true _ e (equal_test u t x)))
+    go (inl e) = absurd (both_ways _ (subst (λ (v : ℕ). live (apply graph s (steps.End t)) v ≡ false) (sym (eqb-true u t e)) (ap is_some (without_call-same t s.calls))) l)
+    go (inr e) = ap (λ (o : Option LiveCall). read (call_or o)) (without_call-other t u s.calls (λ x. both_ways _ e (eq-eqb u t x)))
 step-field read graph s (steps.Collect n) k u l = refl
 
 -- The step looks.

@@ -1,6 +1,9 @@
 -- The call of an allowed step lives, and wants the node, frames, executes or can work there, as the step asks.
-use Rattle.std.proofs.Common.{◌≡◌, ℕ, Bool, true, false, ◌&&◌, ◌||◌, not, refl, sym, ap, arith, List, [], ◌∷◌, true≢false, ◌∙◌, Option, Some, None}
+use Rattle.std.proofs.Common.{◌≡◌, ℕ, Bool, true, false, ◌||◌, refl, sym, ap, arith, List, [], ◌∷◌, true≢false, ◌∙◌, Option, Some, None}
+use Rattle.std.proofs.lemmas.Bool.{false_from_ne_true, not-true}
 use Rattle.std.specs.Prelude.{is_some}
+pub use Rattle.script_tree.proofs.Truths.{and_left, and_right}
+pub use Rattle.std.proofs.lemmas.Bool.{not-true as not_is}
 use Rattle.signal_graph.specs.Graph.{Graph, is_in}
 use Rattle.node_versions.specs.declared.entry.Entry.{Entry}
 use Rattle.node_versions.specs.declared.entry.State.{State}
@@ -10,17 +13,6 @@ use Rattle.flow_model.specs.declared.step.Step.TheVariants as steps
 use Rattle.flow_model.specs.Machine.State.{Core, LiveCall, call, call_of, call_or, live, executes, is_framing, entries, wants, opens}
 use Rattle.flow_model.specs.Machine.Words.{heads, at_front, can_work, due, is_idle}
 use Rattle.flow_model.specs.Machine.Steps.{allowed}
-use Rattle.flow_model.proofs.General.Truths.{and_both, not_true}
-
-pub and_left : (x y : Bool) → (x && y) ≡ true → x ≡ true
-and_left x y h = (and_both x y h).0
-
-pub and_right : (x y : Bool) → (x && y) ≡ true → y ≡ true
-and_right x y h = (and_both x y h).1
-
-pub not_is : (x : Bool) → not x ≡ true → x ≡ false
-not_is true h = absurd (true≢false (sym h))
-not_is false h = refl
 
 -- Only a live call executes, wants and has open nodes.
 reads-live : (reads : LiveCall → Bool) → (s : Core) (t : ℕ) → reads (call_or None) ≡ false → reads (call s t) ≡ true → live s t ≡ true
@@ -90,7 +82,7 @@ pub mark-executes : (graph : Graph) (s : Core) (t m : ℕ) → allowed graph s (
 mark-executes graph s t m h = and_left _ _ (and_left _ _ (and_left _ _ h))
 
 pub mark-no_entry : (graph : Graph) (s : Core) (t m : ℕ) → allowed graph s (steps.Mark t m) ≡ true → has (entries s m) t ≡ false
-mark-no_entry graph s t m h = not_is _ (and_right _ _ (and_left _ _ (and_left _ _ h)))
+mark-no_entry graph s t m h = not-true _ (and_right _ _ (and_left _ _ (and_left _ _ h)))
 
 pub look-idle : (graph : Graph) (s : Core) (t : ℕ) → allowed graph s (steps.Look t) ≡ true → is_idle s t ≡ true
 look-idle graph s t h = and_left _ _ h
@@ -109,4 +101,4 @@ has-states [] t h = h
 has-states (e ∷ es) t h = let r = has-states es t in let o = one_state e.state in grind (arith, r, o)
 
 pub no_states-none : (es : List Entry) (t : ℕ) → at is_mark es t ≡ false → at is_frame es t ≡ false → at is_done es t ≡ false → has es t ≡ false
-no_states-none es t a b c = not_true _ (λ h. let r = has-states es t h in grind (arith, a, b, c, r))
+no_states-none es t a b c = false_from_ne_true _ (λ h. let r = has-states es t h in grind (arith, a, b, c, r))

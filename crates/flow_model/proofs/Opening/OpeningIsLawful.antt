@@ -1,5 +1,6 @@
 -- The opening state is lawful.
 use Rattle.std.proofs.Common.{◌≡◌, ℕ, zero, suc, ◌<◌, ◌≤◌, Bool, true, false, inl, inr, refl, sym, ap, arith, List, [], ◌∷◌, true≢false, ◌∙◌, subst, Option, Some, None, length}
+use Rattle.std.proofs.lemmas.Bool.{both_ways}
 use Rattle.std.specs.List.{AllZip}
 use Rattle.signal_graph.specs.Graph.{Graph, node_at, is_in, selectors_of, IsGraph}
 use Rattle.signal_graph.specs.Values.{picks, picks_of as picks_of_node, values, start, val, nodes_in}
@@ -16,7 +17,6 @@ use Rattle.flow_model.specs.Kept.Runs.{read_all, nothing_read, begin_at}
 use Rattle.flow_model.specs.Machine.Words.{gathered_of, heads, is_some_of, is_found, is_gathered}
 use Rattle.flow_model.specs.Kept.Lawful
 use Rattle.flow_model.proofs.Opening.OpeningLists.{IsOpened, opening-cell, opening-IsStart, length-numbers, picks_at_start, picks-fit, start_picks-listed, start_outs-once, start_outs-different, start_outs-passes, start_outs-stand, candidate-earlier}
-use Rattle.flow_model.proofs.General.Truths.{is_not_true}
 use Rattle.flow_model.proofs.Known.AfterEachStep.{all-slots, first-slots, none-apart}
 
 no_head : (es : Option ℕ) (u : ℕ) → es ≡ None → is_some_of es u ≡ false
@@ -25,7 +25,7 @@ no_head es u h = rw h refl
 lists-order : (graph : Graph) (callers limit : ℕ) → Lawful.OrderIsKept (opening graph callers limit)
 lists-order graph callers limit = record {
   no_cycle = λ u. refl;
-  lists = λ n u v h l. absurd (is_not_true _ ((opening-IsStart graph callers limit n).none_behind u v) h);
+  lists = λ n u v h l. absurd (both_ways _ ((opening-IsStart graph callers limit n).none_behind u v) h);
 }
 
 framing : (graph : Graph) (callers limit : ℕ) → Lawful.FramingComesLast (opening graph callers limit)
@@ -37,7 +37,7 @@ framing graph callers limit = record {
 
 open_frames : (graph : Graph) (callers limit : ℕ) → Lawful.FramesAreOpen (opening graph callers limit)
 open_frames graph callers limit = record {
-  behind_dones = λ n u v h k. absurd (is_not_true _ ((opening-IsStart graph callers limit n).none_behind u v) h);
+  behind_dones = λ n u v h k. absurd (both_ways _ ((opening-IsStart graph callers limit n).none_behind u v) h);
   opens_frames = λ u n. sym ((opening-IsStart graph callers limit n).no_frame u);
 }
 
@@ -73,9 +73,9 @@ none_gathered graph callers limit n m = go (opening-cell graph callers limit n)
 
 reads-nothing : (graph : Graph) (callers limit : ℕ) → Lawful.ValuesAreRead graph (opening graph callers limit)
 reads-nothing graph callers limit = record {
-  gathered = λ u n m v h. absurd (is_not_true _ (head-none graph callers limit u n) h);
+  gathered = λ u n m v h. absurd (both_ways _ (head-none graph callers limit u n) h);
   looked = λ u k m v h. absurd (true≢false (sym h));
-  found = λ u n f h. absurd (is_not_true _ (head-none graph callers limit u n) h);
+  found = λ u n f h. absurd (both_ways _ (head-none graph callers limit u n) h);
   body = λ n v h. let e = no_body graph callers limit n in grind (arith, e, h);
 }
 
@@ -98,10 +98,10 @@ at_node graph callers limit n P p h = go (opening-cell graph callers limit n)
 
 prefixes : (graph : Graph) (callers limit : ℕ) → Lawful.EndedIsPrefix (opening graph callers limit)
 prefixes graph callers limit = record {
-  prefix = λ n u v h. absurd (is_not_true _ ((opening-IsStart graph callers limit n).none_behind u v) h);
+  prefix = λ n u v h. absurd (both_ways _ ((opening-IsStart graph callers limit n).none_behind u v) h);
   no_frame = λ n u h. (opening-IsStart graph callers limit n).no_frame u;
   done = λ n h. (0, refl, at_node graph callers limit n (λ c. at is_done c.entries 0 ≡ true) refl h);
-  log_order = λ n u v h. absurd (is_not_true _ ((opening-IsStart graph callers limit n).none_behind u v) h);
+  log_order = λ n u v h. absurd (both_ways _ ((opening-IsStart graph callers limit n).none_behind u v) h);
 }
 
 rooms : (graph : Graph) (callers limit : ℕ) → Lawful.RoomIsKept (opening graph callers limit)
@@ -160,7 +160,7 @@ picks-picked graph callers limit n m t = go (opening-cell graph callers limit n)
   where
     go : IsOpened graph (opening graph callers limit) n → Lawful.picks_last (opening graph callers limit) n m ≡ true
     go (inl k) = ap (λ (c : Cell). is_in m (nodes_in (picks_of (state_of (last_done c.entries))))) k.1 ∙ t
-    go (inr k) = absurd (is_not_true _ (no_picks-past graph n m k.0) t)
+    go (inr k) = absurd (both_ways _ (no_picks-past graph n m k.0) t)
 
 key-at_start : (graph : Graph) (callers limit n m : ℕ) → picks_at_start graph m n ≡ true → Lawful.IsKeyOf (opening graph callers limit) 0 (Lawful.last_run_of (opening graph callers limit) n m)
 key-at_start graph callers limit n m t = go (opening-cell graph callers limit n)
@@ -168,7 +168,7 @@ key-at_start graph callers limit n m t = go (opening-cell graph callers limit n)
     go : IsOpened graph (opening graph callers limit) n → Lawful.IsKeyOf (opening graph callers limit) 0 (Lawful.last_run_of (opening graph callers limit) n m)
     go (inl k) = subst (λ (c : Cell). Lawful.IsKeyOf (opening graph callers limit) 0 (read_all m c.entries nothing_read).current) (sym k.1)
         (subst (λ (b : Bool). Lawful.IsKeyOf (opening graph callers limit) 0 (elim b [ true ↦ Some (begin_at true 0) | false ↦ None ])) (sym t) refl)
-    go (inr k) = absurd (is_not_true _ (no_picks-past graph n m k.0) t)
+    go (inr k) = absurd (both_ways _ (no_picks-past graph n m k.0) t)
 
 run_edge : (graph : Graph) (callers limit n m since : ℕ) → has_out (outs (opening graph callers limit) m) n since ≡ true → Lawful.IsRunEdge (opening graph callers limit) n m since
 run_edge graph callers limit n m since h =
@@ -179,7 +179,7 @@ run_edge graph callers limit n m since h =
     }
 
 not_missing : (graph : Graph) (callers limit n m : ℕ) → IsGraph graph → Lawful.picks_last (opening graph callers limit) n m ≡ true → has_node (outs (opening graph callers limit) m) n ≡ false → ⊥
-not_missing graph callers limit n m g p h = let q = picked-at_start graph callers limit n m p in is_not_true _ h (edge-there graph callers limit n m g q.0 q.1)
+not_missing graph callers limit n m g p h = let q = picked-at_start graph callers limit n m p in both_ways _ h (edge-there graph callers limit n m g q.0 q.1)
 
 edges : (graph : Graph) (callers limit : ℕ) → IsGraph graph → Lawful.EdgesAreKept (opening graph callers limit)
 edges graph callers limit g = record {
@@ -199,13 +199,13 @@ not_found graph callers limit n = ap (λ (o : Option Found). is_some o) (nothing
 
 work : (graph : Graph) (callers limit : ℕ) → IsGraph graph → Lawful.WorkIsKept graph (opening graph callers limit)
 work graph callers limit g = record {
-  gathers = λ n m h. absurd (is_not_true _ (none_gathered graph callers limit n m) h);
-  gathers_right = λ n m h. absurd (is_not_true _ (none_gathered graph callers limit n m) h);
-  finds = λ n h. absurd (is_not_true _ (not_found graph callers limit n) h);
-  finds_last = λ n h. absurd (is_not_true _ (not_found graph callers limit n) h);
+  gathers = λ n m h. absurd (both_ways _ (none_gathered graph callers limit n m) h);
+  gathers_right = λ n m h. absurd (both_ways _ (none_gathered graph callers limit n m) h);
+  finds = λ n h. absurd (both_ways _ (not_found graph callers limit n) h);
+  finds_last = λ n h. absurd (both_ways _ (not_found graph callers limit n) h);
   bodies = λ n h. absurd (true≢false (sym (ap (λ (o : Option Value). is_none o) (no_body graph callers limit n)) ∙ h));
   drops = λ n m p h. absurd (not_missing graph callers limit n m g p h);
-  discovers = λ n m u h. absurd (is_not_true _ (head-none graph callers limit u n) h);
+  discovers = λ n m u h. absurd (both_ways _ (head-none graph callers limit u n) h);
 }
 
 entered : (graph : Graph) (callers limit : ℕ) → Lawful.EntriesAreKept graph (opening graph callers limit)
@@ -213,7 +213,7 @@ entered graph callers limit = record {
   versions = λ n u h. inl ((opening-IsStart graph callers limit n).version u h);
   pairs = λ u v h. absurd (true≢false (sym h));
   sources = λ u n h. absurd (true≢false (sym h));
-  gathers = λ u n m h. absurd (is_not_true _ (head-none graph callers limit u n) h);
+  gathers = λ u n m h. absurd (both_ways _ (head-none graph callers limit u n) h);
   looks = λ u k m h. absurd (true≢false (sym h));
   dues = λ u n m h. absurd (true≢false (sym h));
   new_picks = λ u n h. absurd (true≢false (sym h));
@@ -252,7 +252,7 @@ opening-lawful graph g callers limit = record {
   order_is_kept = lists-order graph callers limit;
   framing_comes_last = framing graph callers limit;
   frames_are_open = open_frames graph callers limit;
-  frames_spread = λ u m n h. absurd (is_not_true _ ((opening-IsStart graph callers limit m).no_frame u) h);
+  frames_spread = λ u m n h. absurd (both_ways _ ((opening-IsStart graph callers limit m).no_frame u) h);
   wants_are_covered = λ u n h. absurd (true≢false (sym h));
   settled_is_kept = settled graph callers limit;
   changes_spread = record { reaction = λ u m n h. absurd (true≢false (sym h)); set = λ u n h. absurd (true≢false (sym h)) };

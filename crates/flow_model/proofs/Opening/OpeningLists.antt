@@ -3,6 +3,7 @@ use Rattle.std.proofs.Common.{◌≡◌, ℕ, zero, suc, ◌+◌, ◌<◌, ◌�
 use Rattle.std.specs.Prelude.{filter, slice_get, pos, negsuc}
 use Rattle.std.specs.List.{AllZip, AllByRecursion}
 use Rattle.std.proofs.lemmas.Bool.Decides.{eqb_tells}
+use Rattle.std.proofs.lemmas.Bool.{or_cases, or_left, or_right, and_parts, eqb-true, eqb-false, false_from_ne_true, both_ways, cases_Bool}
 use Rattle.script_tree.specs.declared.value.Value.{Value}
 use Rattle.script_tree.specs.declared.value.Value.TheVariants.{Int, Bool as Truth, Fault as Faulty}
 use Rattle.signal_graph.specs.declared.node.Node.{Node}
@@ -10,17 +11,13 @@ use Rattle.signal_graph.specs.declared.node.Node.TheVariants.{Source, Signal, Fo
 use Rattle.signal_graph.specs.declared.node.Selector.{Selector}
 use Rattle.signal_graph.specs.Graph.{Graph, node_at, numbers_from, is_in, selectors_of, IsGraph, AreNodes, IsNode, IsSelector}
 use Rattle.signal_graph.specs.Values.{Values, select, selected, taken, picks, picks_of, nodes_in, values, val, start}
+use Rattle.signal_graph.proofs.Members.{get-in, read-from}
+pub use Rattle.signal_graph.proofs.Members.{get-in as slice_get-is_in}
 use Rattle.node_versions.specs.declared.entry.Entry.{Entry}
 use Rattle.node_versions.specs.declared.entry.State.TheVariants.{Done}
 use Rattle.node_versions.specs.Entries.{OutEdge, AreDifferent, is_frame, is_mark, has, at, behind, first_open, has_out, has_node}
 use Rattle.flow_model.specs.Machine.State.{Core, Cell, cell, entries, no_cell, opening, start_cell, start_outs}
 use Rattle.flow_model.specs.Kept.Lawful.{IsPickOf, lists_candidate, count_edges}
-use Rattle.flow_model.proofs.General.Truths.{or_cases, or_left, or_right, and_both, same_number, other_number, not_true, is_not_true, true_or_false}
-
-read-from : {A : Type 0} (f : ℕ → A) (d : A) (k : ℕ) (nodes : List Node) (n : ℕ) → n < length nodes → slice_index_or (map f (numbers_from k nodes)) n d ≡ f (k + n)
-read-from f d k [] n h = absurd (omega arith)
-read-from f d k (x ∷ xs) zero h = ap f (omega arith)
-read-from f d k (x ∷ xs) (suc n) h = read-from f d (k + 1) xs n (omega arith) ∙ ap f (omega arith)
 
 read-past : {A : Type 0} (f : ℕ → A) (d : A) (k : ℕ) (nodes : List Node) (n : ℕ) → length nodes ≤ n → slice_index_or (map f (numbers_from k nodes)) n d ≡ d
 read-past f d k [] n h = refl
@@ -84,11 +81,6 @@ opening-IsStart graph callers limit n = go (opening-cell graph callers limit n)
 
 -- ---- picks
 
-pub slice_get-is_in : (cs : List ℕ) (i c : ℕ) → slice_get cs i ≡ Some c → is_in c cs ≡ true
-slice_get-is_in [] i c h = cc
-slice_get-is_in (x ∷ xs) zero c h = grind (arith, eqb_tells)
-slice_get-is_in (x ∷ xs) (suc i) c h = let r = slice_get-is_in xs i c h in grind (arith, r)
-
 candidate-fits : (selector : Selector) (o : Option ℕ) → ((c : ℕ) → o ≡ Some c → is_in c selector.candidates ≡ true) → IsPickOf selector o
 candidate-fits selector None h = tt
 candidate-fits selector (Some c) h = h c refl
@@ -98,7 +90,7 @@ taken_candidate None = refl
 taken_candidate (Some c) = refl
 
 pub select-fits : (selector : Selector) (v : Value) → IsPickOf selector (taken (select v selector.candidates))
-select-fits selector (Int (pos i)) = candidate-fits selector _ (λ c h. slice_get-is_in selector.candidates i c (sym (taken_candidate (slice_get selector.candidates i)) ∙ h))
+select-fits selector (Int (pos i)) = candidate-fits selector _ (λ c h. get-in selector.candidates i c (sym (taken_candidate (slice_get selector.candidates i)) ∙ h))
 select-fits selector (Int (negsuc i)) = tt
 select-fits selector (Truth b) = tt
 select-fits selector (Faulty f) = tt
@@ -125,7 +117,7 @@ picked-listed (x ∷ xs) (None ∷ ps) m f h = or_right _ _ (picked-listed xs ps
 picked-listed (x ∷ xs) (Some c ∷ ps) m f h = go (or_cases _ _ h) (picked-listed xs ps m f.1)
   where
     go : ((c == m) ≡ true) ⊎ (is_in m (nodes_in ps) ≡ true) → (is_in m (nodes_in ps) ≡ true → lists_candidate m xs ≡ true) → lists_candidate m (x ∷ xs) ≡ true
-    go (inl e) further = or_left _ _ (subst (λ (k : ℕ). is_in k x.candidates ≡ true) (same_number c m e) f.0)
+    go (inl e) further = or_left _ _ (subst (λ (k : ℕ). is_in k x.candidates ≡ true) (eqb-true c m e) f.0)
     go (inr e) further = or_right _ _ (further e)
 
 -- ---- out-edges
@@ -152,10 +144,10 @@ count-once test k [] n = omega arith
 count-once test k (x ∷ xs) n =
     let r = count-once test (k + 1) xs n in
     let z = λ (h : n < k + 1). count-below test (k + 1) xs n h in
-    edges_to-cons test k x xs (λ es. count_edges n es ≤ 1) (λ _. go (true_or_false (k == n)) r (λ e. z (omega (arith, e)))) (λ _. r)
+    edges_to-cons test k x xs (λ es. count_edges n es ≤ 1) (λ _. go (cases_Bool (k == n)) r (λ e. z (omega (arith, e)))) (λ _. r)
   where
     go : ((k == n) ≡ true) ⊎ ((k == n) ≡ false) → count_edges n (edges_to test (k + 1) xs) ≤ 1 → (k ≡ n → count_edges n (edges_to test (k + 1) xs) ≡ 0) → count_edges n ((k, 0) ∷ edges_to test (k + 1) xs) ≤ 1
-    go (inl e) h z = let c = z (same_number k n e) in rw e (omega (arith, c))
+    go (inl e) h z = let c = z (eqb-true k n e) in rw e (omega (arith, c))
     go (inr e) h z = rw e h
 
 out-below : (test : ℕ → Bool) (k : ℕ) (nodes : List Node) (n since : ℕ) → n < k → has_out (edges_to test k nodes) n since ≡ false
@@ -179,7 +171,7 @@ first_edge : (test : ℕ → Bool) (k n since : ℕ) (more : Bool) → test k �
 first_edge test k n since more t h further = go (or_cases _ _ h)
   where
     go : (((k == n) && (0 == since)) ≡ true) ⊎ (more ≡ true) → IsEdgeTo test n since
-    go (inl e) = let both = and_both (k == n) (0 == since) e in record { passes = subst (λ (m : ℕ). test m ≡ true) (same_number k n both.0) t; first = sym (same_number 0 since both.1) }
+    go (inl e) = let both = and_parts (k == n) (0 == since) e in record { passes = subst (λ (m : ℕ). test m ≡ true) (eqb-true k n both.0) t; first = sym (eqb-true 0 since both.1) }
     go (inr e) = further e
 
 out-passes : (test : ℕ → Bool) (k : ℕ) (nodes : List Node) (n since : ℕ) → has_out (edges_to test k nodes) n since ≡ true → IsEdgeTo test n since
@@ -191,13 +183,13 @@ out-passes test k (x ∷ xs) n since h =
 passes-has_node : (test : ℕ → Bool) (k : ℕ) (nodes : List Node) (n : ℕ) → k ≤ n → n < k + length nodes → test n ≡ true → has_node (edges_to test k nodes) n ≡ true
 passes-has_node test k [] n a b t = absurd (omega arith)
 passes-has_node test k (x ∷ xs) n a b t = let further = λ (e : (k == n) ≡ false). passes-has_node test (k + 1) xs n (beyond e) (omega arith) t in
-    edges_to-cons test k x xs (λ es. has_node es n ≡ true) (λ _. go (true_or_false (k == n)) further) (λ f. further (apart f))
+    edges_to-cons test k x xs (λ es. has_node es n ≡ true) (λ _. go (cases_Bool (k == n)) further) (λ f. further (apart f))
   where
     apart : test k ≡ false → (k == n) ≡ false
-    apart f = not_true _ (λ e. is_not_true _ f (subst (λ (m : ℕ). test m ≡ true) (sym (same_number k n e)) t))
+    apart f = false_from_ne_true _ (λ e. both_ways _ f (subst (λ (m : ℕ). test m ≡ true) (sym (eqb-true k n e)) t))
 
     beyond : (k == n) ≡ false → k + 1 ≤ n
-    beyond e = let ne = other_number k n e in omega (arith, ne)
+    beyond e = let ne = eqb-false k n e in omega (arith, ne)
 
     go : ((k == n) ≡ true) ⊎ ((k == n) ≡ false) → ((k == n) ≡ false → has_node (edges_to test (k + 1) xs) n ≡ true) → ((k == n) || has_node (edges_to test (k + 1) xs) n) ≡ true
     go (inl e) f = or_left _ _ e
@@ -210,7 +202,7 @@ in-below n m [] a h = absurd (true≢false (sym h))
 in-below n m (c ∷ cs) a h = go (or_cases _ _ h) (in-below n m cs a.1)
   where
     go : ((c == m) ≡ true) ⊎ (is_in m cs ≡ true) → (is_in m cs ≡ true → m < n) → m < n
-    go (inl e) further = subst (λ (k : ℕ). k < n) (same_number c m e) a.0
+    go (inl e) further = subst (λ (k : ℕ). k < n) (eqb-true c m e) a.0
     go (inr e) further = further e
 
 listed-below : (names : List (List ℕ)) (n m : ℕ) (selectors : List Selector) → AllByRecursion (IsSelector names n) selectors → lists_candidate m selectors ≡ true → m < n

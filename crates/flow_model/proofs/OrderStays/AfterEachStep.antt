@@ -1,5 +1,7 @@
 -- Each step keeps the order: no cycle, lists in order, framing calls last, and the ended ones first in the log's order.
 use Rattle.std.proofs.Common.{◌≡◌, ℕ, suc, Bool, true, false, ◌&&◌, ◌||◌, not, ◌==◌, ◌⊎◌, inl, inr, refl, sym, arith, List, [], ◌∷◌, ◌++◌, true≢false, ◌∙◌, subst}
+use Rattle.std.proofs.lemmas.Bool.{and_from, eqb-true, eq-eqb, false_from_ne_true, both_ways, not-true}
+use Rattle.script_tree.proofs.Truths.{and_right}
 use Rattle.signal_graph.specs.declared.call.Call.{Call}
 use Rattle.signal_graph.specs.declared.log.Logged.{Logged}
 use Rattle.signal_graph.specs.Graph.{Graph}
@@ -14,8 +16,7 @@ use Rattle.flow_model.specs.Machine.Changes.{enter, raise, ensure_mark, finish, 
 use Rattle.flow_model.specs.Machine.Steps.{allowed, apply, begin, logged, keep_found, counted, open_node, frame, is_change}
 use Rattle.flow_model.specs.Machine.Words.{found_now, found_picks, value_now, due}
 use Rattle.flow_model.specs.Kept.Lawful.{IsLawful, OrderIsKept, log_has, ended_before}
-use Rattle.flow_model.proofs.General.Truths.{and_make, same_number, equal_test, not_true, is_not_true}
-use Rattle.flow_model.proofs.OneStep.WhoMayStep.{and_right, not_is, executes-live, wants-live, is_framing-live, at_front-executes, can_work-at_front, due-can_work, idle-executes, frame-wants, start-is_framing, discover-due, drop-due, mark-executes, mark-no_entry, end-idle, no_states-none}
+use Rattle.flow_model.proofs.OneStep.WhoMayStep.{executes-live, wants-live, is_framing-live, at_front-executes, can_work-at_front, due-can_work, idle-executes, frame-wants, start-is_framing, discover-due, drop-due, mark-executes, mark-no_entry, end-idle, no_states-none}
 use Rattle.flow_model.proofs.OneList.InOrder.{Ascends, Ascends-behind}
 use Rattle.flow_model.proofs.OneList.StatesAndPlaces.{behind-has}
 use Rattle.flow_model.proofs.OneList.Chains.{first_pair, last_pair}
@@ -30,19 +31,19 @@ Ascends-from R [] q h = tt
 Ascends-from R (e ∷ es) q h = (λ v k. h e.version v (head-behind v k), Ascends-from R es q.1 (λ u v k. h u v (tail-behind u v k)))
   where
     head-behind : (v : ℕ) → has es v ≡ true → behind (e ∷ es) e.version v ≡ true
-    head-behind v k = let x = equal_test e.version e.version refl in rw (x, behind) k
+    head-behind v k = let x = eq-eqb e.version e.version refl in rw (x, behind) k
 
     tail-behind : (u v : ℕ) → behind es u v ≡ true → behind (e ∷ es) u v ≡ true
     tail-behind u v k =
         let a = (behind-has es u v k).0 in
-        let x : (e.version == u) ≡ false = not_true _ (λ y. is_not_true _ q.0 (subst (λ (w : ℕ). has es w ≡ true) (sym (same_number e.version u y)) a)) in
+        let x : (e.version == u) ≡ false = false_from_ne_true _ (λ y. both_ways _ q.0 (subst (λ (w : ℕ). has es w ≡ true) (sym (eqb-true e.version u y)) a)) in
         rw (x, behind) k
 
 pub recorded-live : (graph : Graph) (s : Core) → IsLawful graph s → (u v : ℕ) → reaches s.pairs u v ≡ true → (live s u && live s v) ≡ true
 recorded-live graph s h u v r =
     let a = first_pair s.pairs u v r in
     let b = last_pair s.pairs u v r in
-    and_make _ _ (h.entries_are_kept.pairs u a.0 a.1).0 (h.entries_are_kept.pairs b.0 v b.1).1
+    and_from _ _ (h.entries_are_kept.pairs u a.0 a.1).0 (h.entries_are_kept.pairs b.0 v b.1).1
 
 comes-from : (lu lv r e : Bool) → (lv ≡ true → (r || (not lu && lv)) ≡ true) → (lv ≡ false → (lu ≡ false) × (e ≡ true)) → comes_by lv (r || (not lu && lv)) (not lu) e ≡ true
 comes-from lu true r e f g = f refl
@@ -111,7 +112,7 @@ clear-Standing s old n h = PartsOfStepsKeepOrder.same_list-Standing s old n _ (�
 pub wanted-fresh : (graph : Graph) (s : Core) → IsLawful graph s → (t n : ℕ) → wants s t n ≡ true → at is_mark (entries s n) t ≡ false → has (entries s n) t ≡ false
 wanted-fresh graph s h t n w m = let f = h.wants_are_free t n w in no_states-none (entries s n) t m (sym (h.frames_are_open.opens_frames t n) ∙ f.not_open) f.not_done
 
-due-live : (graph : Graph) (s : Core) (t n : ℕ) → due graph s t n ≡ true → live s t ≡ true
+pub due-live : (graph : Graph) (s : Core) (t n : ℕ) → due graph s t n ≡ true → live s t ≡ true
 due-live graph s t n d = executes-live s t (at_front-executes graph s t n (can_work-at_front graph s t n (due-can_work graph s t n d)))
 
 -- An entry of an ended call is of version 0 or in the log.
@@ -120,21 +121,21 @@ ended-known graph s h n u k l = go (h.entries_are_kept.versions n u k)
   where
     go : (u ≡ 0) ⊎ ((live s u ≡ true) ⊎ (log_has s.log u ≡ true)) → (u ≡ 0) ⊎ (log_has s.log u ≡ true)
     go (inl e) = inl e
-    go (inr (inl e)) = absurd (is_not_true _ l e)
+    go (inr (inl e)) = absurd (both_ways _ l e)
     go (inr (inr e)) = inr e
 
 end-Standing : (graph : Graph) (s : Core) (t : ℕ) → IsLawful graph s → allowed graph s (steps.End t) ≡ true → Stood (apply graph s (steps.End t))
 end-Standing graph s t h a =
     let lt = executes-live s t (idle-executes s t (end-idle graph s t a)) in
     let fresh = end-VersionsAreFresh s (apply graph s (steps.End t)) t (refl, refl, refl) h.versions_are_fresh lt in
-    PartsOfStepsKeepOrder.end-Standing graph s (ended_before s.log) (ended_before (s.log ++ logged (call s t) ∷ [])) t (lawful-Standing graph s h) lt (not_is _ (and_right _ _ a))
+    PartsOfStepsKeepOrder.end-Standing graph s (ended_before s.log) (ended_before (s.log ++ logged (call s t) ∷ [])) t (lawful-Standing graph s h) lt (not-true _ (and_right _ _ a))
     (λ u v k. ended_before-more s.log (logged (call s t)) u v k)
     (ended_before-trans (apply graph s (steps.End t)) fresh)
     (λ n u k l. subst (λ (v : ℕ). ended_before (s.log ++ logged (call s t) ∷ []) u v ≡ true) (call-version s t lt) (ended_before-last s.log (logged (call s t)) u (ended-known graph s h n u k l)))
 
 pub step-Standing : (graph : Graph) (s : Core) (step : Step) → IsLawful graph s → allowed graph s step ≡ true → Stood (apply graph s step)
 step-Standing graph s (steps.Frame t n) h a = let w = frame-wants graph s t n a in subst (λ (l : List Logged). Standing (apply graph s (steps.Frame t n)) (ended_before l)) (sym (frame-log graph s t n)) (PartsOfStepsKeepOrder.frame-Standing graph s (ended_before s.log) t n (lawful-Standing graph s h) (wants-live s t n w) (wanted-fresh graph s h t n w))
-step-Standing graph s (steps.Start t) h a = PartsOfStepsKeepOrder.start-Standing s (ended_before s.log) t (lawful-Standing graph s h) (is_framing-live s t (start-is_framing graph s t a)) (not_is _ (and_right _ _ a))
+step-Standing graph s (steps.Start t) h a = PartsOfStepsKeepOrder.start-Standing s (ended_before s.log) t (lawful-Standing graph s h) (is_framing-live s t (start-is_framing graph s t a)) (not-true _ (and_right _ _ a))
 step-Standing graph s (steps.Skip t n) h a = PartsOfStepsKeepOrder.finish-Standing s (ended_before s.log) t n _ _ _ (lawful-Standing graph s h)
 step-Standing graph s (steps.Gather t n m) h a = PartsOfStepsKeepOrder.same_list-Standing s (ended_before s.log) n _ (λ c. refl) (lawful-Standing graph s h)
 step-Standing graph s (steps.Evaluate t n) h a = PartsOfStepsKeepOrder.with_call-Standing (with_cell s n (keep_found (found_now graph s t n))) (ended_before s.log) t counted (record { version = λ c. refl; executing = λ c. refl }) (PartsOfStepsKeepOrder.same_list-Standing s (ended_before s.log) n _ (λ c. refl) (lawful-Standing graph s h))
@@ -159,12 +160,12 @@ step-Standing graph s (steps.Collect n) h a = PartsOfStepsKeepOrder.collect-Stan
 
 -- The next version has no entry.
 pub not_begun-entry : (graph : Graph) (s : Core) → IsLawful graph s → (n : ℕ) → has (entries s n) (suc s.begun) ≡ false
-not_begun-entry graph s h n = not_true _ (λ k. go (h.entries_are_kept.versions n (suc s.begun) k))
+not_begun-entry graph s h n = false_from_ne_true _ (λ k. go (h.entries_are_kept.versions n (suc s.begun) k))
   where
     go : (suc s.begun ≡ 0) ⊎ ((live s (suc s.begun) ≡ true) ⊎ (log_has s.log (suc s.begun) ≡ true)) → ⊥
     go (inl e) = omega (arith, e)
-    go (inr (inl e)) = is_not_true _ (not_begun-live s h.versions_are_fresh) e
-    go (inr (inr e)) = is_not_true _ (not_begun-logged s h.versions_are_fresh) e
+    go (inr (inl e)) = both_ways _ (not_begun-live s h.versions_are_fresh) e
+    go (inr (inr e)) = both_ways _ (not_begun-logged s h.versions_are_fresh) e
 
 pub begin-Stood : (graph : Graph) (s : Core) (caller : ℕ) (c : Call) → IsLawful graph s → Stood (begin graph s caller c)
 begin-Stood graph s caller c h = PartsOfStepsKeepOrder.begin-Standing graph s (ended_before s.log) caller c (lawful-Standing graph s h) (not_begun-live s h.versions_are_fresh) (not_begun-entry graph s h)

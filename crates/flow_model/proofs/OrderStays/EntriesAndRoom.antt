@@ -2,12 +2,16 @@
 use Rattle.std.proofs.Common.{◌≡◌, ℕ, suc, ◌+◌, ◌<◌, ◌≤◌, Bool, true, false, ◌&&◌, not, ◌==◌, ◌⊎◌, ◌≢◌, inl, inr, refl, sym, ap, arith, List, [], ◌∷◌, length, true≢false, ◌∙◌, subst, Option, Some, None}
 use Rattle.std.specs.Prelude.{is_some}
 use Rattle.std.proofs.lemmas.Bool.Decides.{eqb_tells}
+use Rattle.std.proofs.lemmas.Bool.{eqb-true, eq-eqb, false_from_ne_true, both_ways, cases_Bool}
+use Rattle.script_tree.proofs.Truths.{and_right}
 use Rattle.signal_graph.specs.declared.call.Call.{Call}
 use Rattle.signal_graph.specs.Graph.{Graph, is_in}
 use Rattle.node_versions.specs.declared.entry.State.{State}
 use Rattle.node_versions.specs.declared.entry.State.TheVariants.{Mark, Frame, Done}
 use Rattle.node_versions.specs.declared.entry.Entry.{Entry}
 use Rattle.node_versions.specs.Entries.{IsUnique, is_mark, is_frame, is_done, has, at, placed, with_state}
+use Rattle.node_versions.proofs.KeptLemmas.{IsUnique-with_state, length-with_state}
+use Rattle.node_versions.proofs.Places.{at-has}
 use Rattle.flow_model.specs.declared.step.Step.{Step}
 use Rattle.flow_model.specs.Machine.Lists.{is_empty}
 use Rattle.flow_model.specs.Machine.State.{Core, LiveCall, call, call_of, call_or, live, executes, is_framing, entries, wants}
@@ -15,12 +19,11 @@ use Rattle.flow_model.specs.Machine.Words.{has_room, is_idle}
 use Rattle.flow_model.specs.Machine.Changes.{stops, stops_call, new_entry}
 use Rattle.flow_model.specs.Machine.Steps.{allowed, apply, begin, new_call}
 use Rattle.flow_model.specs.Kept.Lawful.{IsLawful, IsEnded, HasDone, FramingComesLast, EndedIsPrefix, ended_before}
-use Rattle.flow_model.proofs.General.Truths.{same_number, equal_test, not_true, is_not_true, true_or_false}
-use Rattle.flow_model.proofs.OneStep.WhoMayStep.{and_right, executes-live, wants-live, at_front-executes}
-use Rattle.flow_model.proofs.OneList.StatesAndPlaces.{with_state-at, at-has}
+use Rattle.flow_model.proofs.OneStep.WhoMayStep.{executes-live, wants-live, at_front-executes}
+use Rattle.flow_model.proofs.OneList.StatesAndPlaces.{with_state-at}
 use Rattle.flow_model.proofs.OneStep.SameLengths.{step-parts}
 use Rattle.flow_model.proofs.OneList.CallsAndCells.{call_of-append, last_call, last_call-other}
-use Rattle.flow_model.proofs.OneList.OneEntryACall.{placed-unique, placed-length, placed-at_other, placed-at, with_state-unique, with_state-length, collected-unique, collected-length, collected-at, collected-done}
+use Rattle.flow_model.proofs.OneList.OneEntryACall.{placed-unique, placed-length, placed-at_other, placed-at, collected-unique, collected-length, collected-at, collected-done}
 use Rattle.flow_model.proofs.OneStep.ChangesOfOneList.{ListStep, stays, marks, frames, raises, finishes, collects, step-list}
 use Rattle.flow_model.proofs.OneStep.WhoLivesAndFrames.{PhaseStep, stays as phases_stay, starts, ends, step-phases, phase-is_framing, phase-ended}
 use Rattle.flow_model.proofs.OrderStays.AfterEachStep.{step-Standing, begin-Stood, not_begun-entry, standing-framing_last, standing-ended}
@@ -31,8 +34,8 @@ list-unique : (graph : Graph) (s : Core) (n : ℕ) → IsUnique (entries s n) �
 list-unique graph s n q es (stays e) = subst IsUnique (sym e) q
 list-unique graph s n q es (marks t x h r e) = subst IsUnique (sym e) (placed-unique (stops_call s t) (new_entry s t Mark) (entries s n) h q)
 list-unique graph s n q es (frames t w h r e) = subst IsUnique (sym e) (placed-unique (stops_call s t) (new_entry s t Frame) (entries s n) h q)
-list-unique graph s n q es (raises t w m e) = subst IsUnique (sym e) (with_state-unique t Frame (entries s n) q)
-list-unique graph s n q es (finishes t v c ps f e) = subst IsUnique (sym e) (with_state-unique t (Done v c ps) (entries s n) q)
+list-unique graph s n q es (raises t w m e) = subst IsUnique (sym e) (IsUnique-with_state t Frame (entries s n) q)
+list-unique graph s n q es (finishes t v c ps f e) = subst IsUnique (sym e) (IsUnique-with_state t (Done v c ps) (entries s n) q)
 list-unique graph s n q es (collects e) = subst IsUnique (sym e) (collected-unique (λ v. not (live s v)) (entries s n) q)
 
 pub step-one_entry : (graph : Graph) (s : Core) (step : Step) → IsLawful graph s → allowed graph s step ≡ true → (n : ℕ) → IsUnique (entries (apply graph s step) n)
@@ -50,8 +53,8 @@ list-room graph s n q es (frames t w h r e) = let l = placed-length (stops_call 
   where
     below : has_room s n ≡ true → suc (length (entries s n)) ≤ s.callers + 9
     below r = grind (arith, r)
-list-room graph s n q es (raises t w m e) = let l = with_state-length t Frame (entries s n) in subst (λ (xs : List Entry). length xs ≤ s.callers + 9) (sym e) (omega (arith, l, q))
-list-room graph s n q es (finishes t v c ps f e) = let l = with_state-length t (Done v c ps) (entries s n) in subst (λ (xs : List Entry). length xs ≤ s.callers + 9) (sym e) (omega (arith, l, q))
+list-room graph s n q es (raises t w m e) = let l = length-with_state t Frame (entries s n) in subst (λ (xs : List Entry). length xs ≤ s.callers + 9) (sym e) (omega (arith, l, q))
+list-room graph s n q es (finishes t v c ps f e) = let l = length-with_state t (Done v c ps) (entries s n) in subst (λ (xs : List Entry). length xs ≤ s.callers + 9) (sym e) (omega (arith, l, q))
 list-room graph s n q es (collects e) = let l = collected-length (λ v. not (live s v)) (entries s n) in subst (λ (xs : List Entry). length xs ≤ s.callers + 9) (sym e) (omega (arith, l, q))
 
 -- ---- who has no entry in a state
@@ -61,26 +64,26 @@ other-list : (graph : Graph) (s : Core) (n u : ℕ) (test : State → Bool) → 
     → ((t : ℕ) → executes s t ≡ true → t ≢ u) → ((t : ℕ) → wants s t n ≡ true → (t ≢ u) ⊎ (test Frame ≡ false)) → (es : List Entry) → ListStep graph s n es → at test es u ≡ false
 other-list graph s n u test q none ex wa es (stays e) = subst (λ (xs : List Entry). at test xs u ≡ false) (sym e) none
 other-list graph s n u test q none ex wa es (marks t x h r e) = subst (λ (xs : List Entry). at test xs u ≡ false) (sym e) (placed-at_other test (stops_call s t) (new_entry s t Mark) (entries s n) u (λ k. ex t x (sym k)) ∙ none)
-other-list graph s n u test q none ex wa es (frames t w h r e) = subst (λ (xs : List Entry). at test xs u ≡ false) (sym e) (go (true_or_false (u == t)) (wa t w))
+other-list graph s n u test q none ex wa es (frames t w h r e) = subst (λ (xs : List Entry). at test xs u ≡ false) (sym e) (go (cases_Bool (u == t)) (wa t w))
   where
     go : ((u == t) ≡ true) ⊎ ((u == t) ≡ false) → (t ≢ u) ⊎ (test Frame ≡ false) → at test (placed (stops s t) (new_entry s t Frame) (entries s n)) u ≡ false
-    go (inl k) (inl ne) = absurd (ne (sym (same_number u t k)))
-    go (inl k) (inr f) = subst (λ (v : ℕ). at test (placed (stops s t) (new_entry s t Frame) (entries s n)) v ≡ false) (sym (same_number u t k)) (placed-at test (stops_call s t) (new_entry s t Frame) (entries s n) h ∙ f)
-    go (inr k) f = placed-at_other test (stops_call s t) (new_entry s t Frame) (entries s n) u (λ w. is_not_true _ k (equal_test u t w)) ∙ none
-other-list graph s n u test q none ex wa es (raises t w m e) = subst (λ (xs : List Entry). at test xs u ≡ false) (sym e) (go (true_or_false (u == t)) (wa t w) (with_state-at test t Frame (entries s n) u))
+    go (inl k) (inl ne) = absurd (ne (sym (eqb-true u t k)))
+    go (inl k) (inr f) = subst (λ (v : ℕ). at test (placed (stops s t) (new_entry s t Frame) (entries s n)) v ≡ false) (sym (eqb-true u t k)) (placed-at test (stops_call s t) (new_entry s t Frame) (entries s n) h ∙ f)
+    go (inr k) f = placed-at_other test (stops_call s t) (new_entry s t Frame) (entries s n) u (λ w. both_ways _ k (eq-eqb u t w)) ∙ none
+other-list graph s n u test q none ex wa es (raises t w m e) = subst (λ (xs : List Entry). at test xs u ≡ false) (sym e) (go (cases_Bool (u == t)) (wa t w) (with_state-at test t Frame (entries s n) u))
   where
     go : ((u == t) ≡ true) ⊎ ((u == t) ≡ false) → (t ≢ u) ⊎ (test Frame ≡ false) → at test (with_state t Frame (entries s n)) u ≡ elim (u == t) as (λ _. Bool) [ true ↦ has (entries s n) t && test Frame | false ↦ at test (entries s n) u ]
         → at test (with_state t Frame (entries s n)) u ≡ false
-    go (inl k) (inl ne) w = absurd (ne (sym (same_number u t k)))
+    go (inl k) (inl ne) w = absurd (ne (sym (eqb-true u t k)))
     go (inl k) (inr f) w = grind (arith, k, f, w)
     go (inr k) f w = grind (arith, k, w, none)
-other-list graph s n u test q none ex wa es (finishes t v c ps f e) = subst (λ (xs : List Entry). at test xs u ≡ false) (sym e) (go (true_or_false (u == t)) (ex t (at_front-executes graph s t n f)) (with_state-at test t (Done v c ps) (entries s n) u))
+other-list graph s n u test q none ex wa es (finishes t v c ps f e) = subst (λ (xs : List Entry). at test xs u ≡ false) (sym e) (go (cases_Bool (u == t)) (ex t (at_front-executes graph s t n f)) (with_state-at test t (Done v c ps) (entries s n) u))
   where
     go : ((u == t) ≡ true) ⊎ ((u == t) ≡ false) → t ≢ u → at test (with_state t (Done v c ps) (entries s n)) u ≡ elim (u == t) as (λ _. Bool) [ true ↦ has (entries s n) t && test (Done v c ps) | false ↦ at test (entries s n) u ]
         → at test (with_state t (Done v c ps) (entries s n)) u ≡ false
-    go (inl k) ne w = absurd (ne (sym (same_number u t k)))
+    go (inl k) ne w = absurd (ne (sym (eqb-true u t k)))
     go (inr k) ne w = rw k at w ∙ none
-other-list graph s n u test q none ex wa es (collects e) = subst (λ (xs : List Entry). at test xs u ≡ false) (sym e) (not_true _ (λ k. is_not_true _ none (collected-at test (λ v. not (live s v)) (entries s n) u q k)))
+other-list graph s n u test q none ex wa es (collects e) = subst (λ (xs : List Entry). at test xs u ≡ false) (sym e) (false_from_ne_true _ (λ k. both_ways _ none (collected-at test (λ v. not (live s v)) (entries s n) u q k)))
 
 -- ---- framing calls
 
@@ -103,7 +106,7 @@ step-FramingComesLast graph s step h a =
 -- ---- ended calls
 
 live-other : (s : Core) (u : ℕ) → live s u ≡ false → (t : ℕ) → live s t ≡ true → t ≢ u
-live-other s u e t l k = is_not_true _ e (subst (λ (v : ℕ). live s v ≡ true) k l)
+live-other s u e t l k = both_ways _ e (subst (λ (v : ℕ). live s v ≡ true) k l)
 
 -- An idle call has no open node, and so no Frame.
 pub idle-no_frame : (graph : Graph) (s : Core) → IsLawful graph s → (t n : ℕ) → is_idle s t ≡ true → at is_frame (entries s n) t ≡ false
@@ -117,17 +120,17 @@ ended-no_frame : (graph : Graph) (s : Core) (step : Step) → IsLawful graph s �
 ended-no_frame graph s step h a n u e = other-list graph s n u is_frame (h.one_entry n) (h.ended_is_prefix.no_frame n u e) (λ t x. live-other s u e t (executes-live s t x)) (λ t w. inl (live-other s u e t (wants-live s t n w))) _ (step-list graph s step h a n)
 
 step-no_frame : (graph : Graph) (s : Core) (step : Step) → IsLawful graph s → allowed graph s step ≡ true → (n u : ℕ) → live (apply graph s step) u ≡ false → at is_frame (entries (apply graph s step) n) u ≡ false
-step-no_frame graph s step h a n u e = go (true_or_false (live s u)) (step-phases graph s step a)
+step-no_frame graph s step h a n u e = go (cases_Bool (live s u)) (step-phases graph s step a)
   where
     go : (live s u ≡ true) ⊎ (live s u ≡ false) → PhaseStep s (apply graph s step) → at is_frame (entries (apply graph s step) n) u ≡ false
     go (inr k) p = ended-no_frame graph s step h a n u k
-    go (inl k) (phases_stay p) = absurd (is_not_true _ e (subst (λ (l : ℕ → Bool). l u ≡ true) (sym p.lives) k))
-    go (inl k) (starts t f l x) = absurd (is_not_true _ e (subst (λ (l : ℕ → Bool). l u ≡ true) (sym l) k))
+    go (inl k) (phases_stay p) = absurd (both_ways _ e (subst (λ (l : ℕ → Bool). l u ≡ true) (sym p.lives) k))
+    go (inl k) (starts t f l x) = absurd (both_ways _ e (subst (λ (l : ℕ → Bool). l u ≡ true) (sym l) k))
     go (inl k) (ends t i same l x) = subst (λ (es : List Entry). at is_frame es u ≡ false) (sym (same n)) (subst (λ (v : ℕ). at is_frame (entries s n) v ≡ false) (it (u == t) refl (l u)) (idle-no_frame graph s h t n i))
       where
         it : (b : Bool) → (u == t) ≡ b → live (apply graph s step) u ≡ (not (u == t) && live s u) → t ≡ u
-        it true w q = sym (same_number u t w)
-        it false w q = let r : live (apply graph s step) u ≡ true = q ∙ rw w k in absurd (is_not_true _ e r)
+        it true w q = sym (eqb-true u t w)
+        it false w q = let r : live (apply graph s step) u ≡ true = q ∙ rw w k in absurd (both_ways _ e r)
 
 -- a Done of an ended call stays, or another takes its place
 ended-done : (graph : Graph) (s : Core) (n u : ℕ) → live s u ≡ false → at is_done (entries s n) u ≡ true → (es : List Entry) → ListStep graph s n es → (v : ℕ) × (live s v ≡ false) × (at is_done es v ≡ true)
@@ -137,11 +140,11 @@ ended-done graph s n u e d es (frames t w h r q) = (u, e, subst (λ (xs : List E
 ended-done graph s n u e d es (raises t w m q) = (u, e, subst (λ (xs : List Entry). at is_done xs u ≡ true) (sym q) (let k = other_test u t (live-other s u e t (wants-live s t n w)) in let r = with_state-at is_done t Frame (entries s n) u in grind (arith, k, r, d)))
   where
     other_test : (u t : ℕ) → t ≢ u → (u == t) ≡ false
-    other_test u t ne = not_true _ (λ w. ne (sym (same_number u t w)))
+    other_test u t ne = false_from_ne_true _ (λ w. ne (sym (eqb-true u t w)))
 ended-done graph s n u e d es (finishes t v c ps f q) = (u, e, subst (λ (xs : List Entry). at is_done xs u ≡ true) (sym q) (let k = other_test u t (live-other s u e t (executes-live s t (at_front-executes graph s t n f))) in let r = with_state-at is_done t (Done v c ps) (entries s n) u in r ∙ rw k d))
   where
     other_test : (u t : ℕ) → t ≢ u → (u == t) ≡ false
-    other_test u t ne = not_true _ (λ w. ne (sym (same_number u t w)))
+    other_test u t ne = false_from_ne_true _ (λ w. ne (sym (eqb-true u t w)))
 ended-done graph s n u e d es (collects q) =
     let c = collected-done (λ v. not (live s v)) (entries s n) u (rw e refl) d in
     (c.0, is_ended (live s c.0) c.1, subst (λ (xs : List Entry). at is_done xs c.0 ≡ true) (sym q) c.2)
@@ -190,11 +193,11 @@ begin-FramingComesLast graph s caller c h = record {
 }
   where
     none : (test : State → Bool) (u n : ℕ) → ((u == suc s.begun) ≡ false → at test (entries s n) u ≡ false) → at test (entries s n) u ≡ false
-    none test u n f = go (true_or_false (u == suc s.begun))
+    none test u n f = go (cases_Bool (u == suc s.begun))
       where
         go : ((u == suc s.begun) ≡ true) ⊎ ((u == suc s.begun) ≡ false) → at test (entries s n) u ≡ false
         go (inr k) = f k
-        go (inl k) = subst (λ (v : ℕ). at test (entries s n) v ≡ false) (sym (same_number u (suc s.begun) k)) (not_true _ (λ y. is_not_true _ (not_begun-entry graph s h n) (at-has test (entries s n) (suc s.begun) y)))
+        go (inl k) = subst (λ (v : ℕ). at test (entries s n) v ≡ false) (sym (eqb-true u (suc s.begun) k)) (false_from_ne_true _ (λ y. both_ways _ (not_begun-entry graph s h n) (at-has test (entries s n) (suc s.begun) y)))
 
 pub begin-EndedIsPrefix : (graph : Graph) (s : Core) (caller : ℕ) (c : Call) → IsLawful graph s → EndedIsPrefix (begin graph s caller c)
 begin-EndedIsPrefix graph s caller c h =
@@ -207,10 +210,10 @@ begin-EndedIsPrefix graph s caller c h =
     }
   where
     dones : (n : ℕ) → ((u : ℕ) × IsEnded s u × HasDone s u n) → (u : ℕ) × IsEnded (begin graph s caller c) u × HasDone (begin graph s caller c) u n
-    dones n d = (d.0, still (true_or_false (d.0 == suc s.begun)), d.2)
+    dones n d = (d.0, still (cases_Bool (d.0 == suc s.begun)), d.2)
       where
         still : ((d.0 == suc s.begun) ≡ true) ⊎ ((d.0 == suc s.begun) ≡ false) → live (begin graph s caller c) d.0 ≡ false
-        still (inl k) = absurd (is_not_true _ (not_begun-entry graph s h n) (subst (λ (v : ℕ). has (entries s n) v ≡ true) (same_number d.0 (suc s.begun) k) (at-has is_done (entries s n) d.0 d.2)))
+        still (inl k) = absurd (both_ways _ (not_begun-entry graph s h n) (subst (λ (v : ℕ). has (entries s n) v ≡ true) (eqb-true d.0 (suc s.begun) k) (at-has is_done (entries s n) d.0 d.2)))
         still (inr k) =
             let j : (suc s.begun == d.0) ≡ false = grind (arith, eqb_tells, k) in
             ap (λ (o : Option LiveCall). is_some o) (call_of-append s.calls (new_call graph s caller c) d.0 ∙ last_call-other (call_of s.calls d.0) (new_call graph s caller c) d.0 j) ∙ d.1

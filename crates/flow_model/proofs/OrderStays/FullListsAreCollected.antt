@@ -1,5 +1,7 @@
 -- A full list has entries of ended calls to collect, and Collect leaves one entry more than there are callers at most.
 use Rattle.std.proofs.Common.{◌≡◌, ℕ, zero, suc, ◌+◌, ◌<◌, ◌≤◌, Bool, true, false, not, ◌||◌, ◌==◌, ◌⊎◌, inl, inr, refl, sym, ap, arith, List, [], ◌∷◌, length, map, ◌∙◌, subst, Option, Some, None}
+use Rattle.std.proofs.lemmas.Bool.{eqb-true, eqb-false, both_ways, cases_Bool}
+use Rattle.std.proofs.lemmas.List.{length-map}
 use Rattle.std.specs.Prelude.{filter, nat_lt, slice_index_or}
 use Rattle.std.specs.List.{cons_option}
 use Rattle.signal_graph.specs.Graph.{Graph, is_in}
@@ -11,13 +13,11 @@ use Rattle.flow_model.specs.Machine.State.{Core, Cell, LiveCall, live, ended, en
 use Rattle.flow_model.specs.Machine.Words.{has_room}
 use Rattle.flow_model.specs.Machine.Steps.{allowed, apply, collect, collected_at}
 use Rattle.flow_model.specs.Kept.Lawful.{IsLawful, AreDistinct, times}
-use Rattle.flow_model.proofs.General.Truths.{same_number, other_number, is_not_true, true_or_false}
 use Rattle.flow_model.proofs.OneList.InOrder.{on_calls, filter-has}
 use Rattle.flow_model.proofs.OneList.OneEntryACall.{filter-unique}
 use Rattle.flow_model.proofs.OneStep.VersionsStayFresh.{times-in, in-times, live-in, live-version}
 use Rattle.flow_model.proofs.General.Pigeons.{total, total-length, total-all, total-bound, times-it, times-other, field-distinct, holder, Holder}
 use Rattle.flow_model.proofs.OneStep.BegunCalls.{calls-distinct}
-use Rattle.flow_model.proofs.General.AnyAndAll.{length-map}
 
 versions-have : (es : List Entry) (u : ℕ) → is_in u (map (λ (e : Entry). e.version) es) ≡ has es u
 versions-have [] u = refl
@@ -25,7 +25,7 @@ versions-have (e ∷ es) u = ap (λ (b : Bool). (e.version == u) || b) (versions
 
 unique-distinct : (es : List Entry) → IsUnique es → AreDistinct (map (λ (e : Entry). e.version) es)
 unique-distinct [] q x = omega arith
-unique-distinct (e ∷ es) q x = go (true_or_false (e.version == x)) (unique-distinct es q.1 x)
+unique-distinct (e ∷ es) q x = go (cases_Bool (e.version == x)) (unique-distinct es q.1 x)
   where
     vs : List ℕ
     vs = map (λ (e : Entry). e.version) es
@@ -36,11 +36,11 @@ unique-distinct (e ∷ es) q x = go (true_or_false (e.version == x)) (unique-dis
 
     go : ((e.version == x) ≡ true) ⊎ ((e.version == x) ≡ false) → times x (map (λ (e : Entry). e.version) es) ≤ 1 → times x (e.version ∷ map (λ (e : Entry). e.version) es) ≤ 1
     go (inl w) r =
-        let p = same_number e.version x w in
-        let z = zero_times (times x (map (λ (e : Entry). e.version) es)) (λ k. is_not_true (has es e.version) q.0 (subst (λ (v : ℕ). has es v ≡ true) (sym p) (sym (versions-have es x) ∙ in-times x (map (λ (e : Entry). e.version) es) k))) in
+        let p = eqb-true e.version x w in
+        let z = zero_times (times x (map (λ (e : Entry). e.version) es)) (λ k. both_ways (has es e.version) q.0 (subst (λ (v : ℕ). has es v ≡ true) (sym p) (sym (versions-have es x) ∙ in-times x (map (λ (e : Entry). e.version) es) k))) in
         let t = times-it x e.version (map (λ (e : Entry). e.version) es) p in
         omega (arith, z, t)
-    go (inr w) r = let p = other_number e.version x w in let t = times-other x e.version (map (λ (e : Entry). e.version) es) p in omega (arith, r, t)
+    go (inr w) r = let p = eqb-false e.version x w in let t = times-other x e.version (map (λ (e : Entry). e.version) es) p in omega (arith, r, t)
 
 total-most_of : (xs ys : List ℕ) (from k : ℕ) → ((x : ℕ) → times x xs ≤ times x ys) → total xs from k ≤ total ys from k
 total-most_of xs ys from zero h = omega arith
@@ -67,7 +67,7 @@ calls-few graph s h =
     let d = field-distinct (λ c. c.caller) s.calls (calls-distinct s h.versions_are_fresh) (λ u v k l e. h.room_is_kept.callers_apart u v k l e) in
     let m = total-bound cs 1 s.callers d in
     let i = total-all cs 1 s.callers (λ x k. inside x (holder (λ c. c.caller) s.calls x (calls-distinct s h.versions_are_fresh) k)) in
-    let l = length-map (λ (c : LiveCall). c.caller) s.calls in
+    let l = length-map s.calls (λ (c : LiveCall). c.caller) in
     omega (arith, m, i, l)
   where
     inside : (x : ℕ) → Holder (λ c. c.caller) s.calls x → (1 ≤ x) × (x < 1 + s.callers)
@@ -80,8 +80,8 @@ live-entries graph s h n =
     let ys = map (λ (c : LiveCall). c.version) s.calls in
     let d = unique-distinct es (filter-unique (λ v. not (not (live s v))) (entries s n) (h.one_entry n)) in
     let a = no_longer vs ys (suc s.begun) d (λ x i. let l = lives x (filter-has (λ v. not (not (live s v))) (entries s n) x (sym (versions-have es x) ∙ i)).1 in (live-in s.calls x l, (let f = (h.versions_are_fresh.fit x (live-version s x l)).1 in omega (arith, f)))) in
-    let b = length-map (λ (e : Entry). e.version) es in
-    let c = length-map (λ (c : LiveCall). c.version) s.calls in
+    let b = length-map es (λ (e : Entry). e.version) in
+    let c = length-map s.calls (λ (c : LiveCall). c.version) in
     let e = calls-few graph s h in
     omega (arith, a, b, c, e)
   where

@@ -1,7 +1,10 @@
 -- Each step and each beginning leaves every call with no more looks taken than it asks for.
 use Rattle.std.proofs.Common.{◌≡◌, ℕ, suc, ◌<◌, ◌≤◌, true, false, ◌==◌, ◌⊎◌, inl, inr, refl, sym, ap, arith, [], ◌∷◌, ◌++◌, length, true≢false, ◌∙◌, subst, Option, Some, None, length-append}
+use Rattle.std.proofs.lemmas.Bool.{eqb-true, eqb-false, cases_Bool}
+use Rattle.std.proofs.lemmas.Option.{slice_get_within}
 use Rattle.std.specs.Prelude.{is_some}
 use Rattle.script_tree.specs.declared.value.Value.{Value}
+use Rattle.script_tree.proofs.Truths.{and_right}
 use Rattle.signal_graph.specs.declared.call.Call.{Call}
 use Rattle.signal_graph.specs.Graph.{Graph}
 use Rattle.flow_model.specs.declared.step.Step.{Step}
@@ -10,14 +13,11 @@ use Rattle.flow_model.specs.Machine.State.{Core, LiveCall, call, call_of, call_o
 use Rattle.flow_model.specs.Machine.Words.{next_look}
 use Rattle.flow_model.specs.Machine.Steps.{allowed, apply, begin, new_call, with_look, look_value, served_look}
 use Rattle.flow_model.specs.Kept.Lawful.{IsLawful, LooksAreFew}
-use Rattle.flow_model.proofs.General.Truths.{same_number, other_number, true_or_false}
-use Rattle.flow_model.proofs.OneStep.WhoMayStep.{and_right}
 use Rattle.flow_model.proofs.OneList.CallsAndCells.{with_call-field, change_call-other}
 use Rattle.flow_model.proofs.OneStep.BegunCalls.{begin-call}
 use Rattle.flow_model.proofs.OneStep.WhoLivesAndFrames.{step-phases}
 use Rattle.flow_model.proofs.OneStep.SameCallers.{phase-live}
 use Rattle.flow_model.proofs.OneStep.WhatStepsLeave.{IsLook, step-field, looks-stay, looked-stays}
-use Rattle.flow_model.proofs.General.AnyAndAll.{get-within}
 
 plain-fit : (graph : Graph) (s : Core) (step : Step) → IsLawful graph s → allowed graph s step ≡ true → (IsLook step → ⊥) → LooksAreFew (apply graph s step)
 plain-fit graph s step h a ne u l =
@@ -28,13 +28,13 @@ plain-fit graph s step h a ne u l =
 
 next-there : (s : Core) (t : ℕ) (o : Option ℕ) → next_look s t ≡ o → served_look s t o ≡ true → length (call s t).looked < length (call s t).looks
 next-there s t None e k = absurd (true≢false (sym k))
-next-there s t (Some m) e k = get-within (call s t).looks (length (call s t).looked) m e
+next-there s t (Some m) e k = slice_get_within (call s t).looks (length (call s t).looked) m e
 
 look-served : (graph : Graph) (s : Core) (t : ℕ) → allowed graph s (steps.Look t) ≡ true → served_look s t (next_look s t) ≡ true
 look-served graph s t a = and_right _ _ a
 
 look-fit : (graph : Graph) (s : Core) (t : ℕ) → IsLawful graph s → allowed graph s (steps.Look t) ≡ true → LooksAreFew (apply graph s (steps.Look t))
-look-fit graph s t h a u l = go (true_or_false (u == t))
+look-fit graph s t h a u l = go (cases_Bool (u == t))
   where
     x : Value
     x = look_value s t (next_look s t)
@@ -50,7 +50,7 @@ look-fit graph s t h a u l = go (true_or_false (u == t))
 
     go : ((u == t) ≡ true) ⊎ ((u == t) ≡ false) → length (call (apply graph s (steps.Look t)) u).looked ≤ length (call (apply graph s (steps.Look t)) u).looks
     go (inl e) =
-        let it = same_number u t e in
+        let it = eqb-true u t e in
         let field = with_call-field (λ c. c.looked) s t (with_look x) (λ c. refl) u (subst (λ (j : ℕ). live s j ≡ true) it ls) in
         let mine : (call (apply graph s (steps.Look t)) u).looked ≡ (call s t).looked ++ x ∷ [] = field ∙ rw e refl in
         let p = ap length mine ∙ length-append (call s t).looked (x ∷ []) in
@@ -58,7 +58,7 @@ look-fit graph s t h a u l = go (true_or_false (u == t))
         omega (arith, p, q, room)
     go (inr e) =
         let k = h.looks_are_few u ls in
-        let other : (call (apply graph s (steps.Look t)) u).looked ≡ (call s u).looked = ap (λ (o : Option LiveCall). (call_or o).looked) (change_call-other t u (with_look x) (λ c. refl) s.calls (other_number u t e)) in
+        let other : (call (apply graph s (steps.Look t)) u).looked ≡ (call s u).looked = ap (λ (o : Option LiveCall). (call_or o).looked) (change_call-other t u (with_look x) (λ c. refl) s.calls (eqb-false u t e)) in
         let p = ap length other in
         let q = ap length looks in
         omega (arith, p, q, k)

@@ -1,21 +1,23 @@
 -- After each step no Frame stands before a Done.
 use Rattle.std.proofs.Common.{◌≡◌, ℕ, Bool, true, false, ◌||◌, not, ◌==◌, ◌⊎◌, ◌≢◌, inl, inr, refl, sym, ap, arith, List, [], ◌∷◌, true≢false, ◌∙◌, subst, Option, Some, None}
+use Rattle.std.proofs.lemmas.Bool.{or_cases, eqb-true, eqb-false, false_from_ne_true, both_ways, cases_Bool, true_from_ne_false}
 use Rattle.signal_graph.specs.Graph.{Graph}
 use Rattle.order_graph.specs.Order.{reaches}
+use Rattle.order_graph.proofs.Reaching.{reaches-join}
 use Rattle.node_versions.specs.declared.entry.State.{State}
 use Rattle.node_versions.specs.declared.entry.State.TheVariants.{Mark, Frame}
 use Rattle.node_versions.specs.declared.entry.Entry.{Entry}
 use Rattle.node_versions.specs.Entries.{has, at, is_mark, is_frame, is_done, behind, front, rest, placed, collected, first_open}
+use Rattle.node_versions.proofs.Lists.{has-append}
+use Rattle.node_versions.proofs.Places.{at-has}
 use Rattle.flow_model.specs.Machine.State.{Core, live, ended, executes, is_framing, entries, precedes, opens, wants}
 use Rattle.flow_model.specs.Machine.Words.{is_some_of}
 use Rattle.flow_model.specs.Machine.Changes.{stops, stops_call, new_entry, first_version}
 use Rattle.flow_model.specs.Kept.Lawful.{IsLawful, FramingComesLast, FramesAreOpen, WantsAreCovered, ended_before}
-use Rattle.flow_model.proofs.General.Truths.{or_cases, same_number, other_number, not_true, not_false, is_not_true, true_or_false}
-use Rattle.flow_model.proofs.OneList.Chains.{reaches-trans}
-use Rattle.flow_model.proofs.OneList.InOrder.{Ascends, Ascends-right, front-rest, rest-stops, has-append}
+use Rattle.flow_model.proofs.OneList.InOrder.{Ascends, Ascends-right, front-rest, rest-stops}
 use Rattle.flow_model.proofs.OneList.Entering.{Standing, Comes, stop-live}
 use Rattle.flow_model.proofs.OneStep.WhoMayStep.{opens-live, wants-live, at_front-heads}
-use Rattle.flow_model.proofs.OneList.StatesAndPlaces.{FramesLast, more-FramesLast, raise-FramesLast, finish-FramesLast, across-behind, at-has, behind-total, behind-trans, first_open-none}
+use Rattle.flow_model.proofs.OneList.StatesAndPlaces.{FramesLast, more-FramesLast, raise-FramesLast, finish-FramesLast, across-behind, behind-total, behind-trans, first_open-none}
 use Rattle.flow_model.proofs.OneList.OneEntryACall.{collected-at, collected-behind_live}
 use Rattle.flow_model.proofs.OneStep.ChangesOfOneList.{ListStep, stays, marks, frames, raises, finishes, collects}
 use Rattle.flow_model.proofs.OrderStays.AfterEachStep.{lawful-Standing}
@@ -39,7 +41,7 @@ each_of_part R P [] h first next w k = absurd (true≢false (sym k))
 each_of_part R P (e ∷ es) h first next w k = go (or_cases _ _ k)
   where
     go : ((e.version == w) ≡ true) ⊎ (has es w ≡ true) → P w
-    go (inl x) = subst P (same_number _ _ x) (first e.version refl)
+    go (inl x) = subst P (eqb-true _ _ x) (first e.version refl)
     go (inr x) = next e.version w (first e.version refl) (h.0 w x)
 
 part : (s : Core) (old : ℕ → ℕ → Bool) (t n : ℕ) → Standing s old → Ascends (Comes s old) (rest (stops s t) (entries s n))
@@ -54,9 +56,9 @@ framing-part s old h t n lt ft = each_of_part (Comes s old) (λ w. is_framing s 
 head-not_before : (s : Core) (old : ℕ → ℕ → Bool) → Standing s old → (t v r : ℕ) → live s t ≡ true → live s v ≡ true → executes s t ≡ true → precedes s v t ≡ true → stops_call s t r ≡ true → (r ≢ v) × (reaches s.pairs r v ≡ false)
 head-not_before s old h t v r lt lv xt b k =
     let c = h.order.no_cycle t in
-    let t1 = reaches-trans s.pairs t v t in
-    let t2 = reaches-trans s.pairs t r v in
-    let t3 = reaches-trans s.pairs r v t in
+    let t1 = reaches-join s.pairs t v t in
+    let t2 = reaches-join s.pairs t r v in
+    let t3 = reaches-join s.pairs r v t in
     let a = λ (f : is_framing s r ≡ true). h.order.apart r t f xt in
     let p = h.pairs_live t r in
     grind (arith, c, t1, t2, t3, a, p)
@@ -70,7 +72,7 @@ next-not_before : (s : Core) (old : ℕ → ℕ → Bool) → Standing s old →
 next-not_before s old h v r w lv p k = record {
   live_it = grind (arith, p.live_it);
   other = λ e. let a = p.no_chain in let b = subst (λ (x : ℕ). Comes s old r x) e k in grind (arith, a, b, p.live_it);
-  no_chain = let tr = reaches-trans s.pairs r w v in let a = p.no_chain in grind (arith, tr, a, p.live_it);
+  no_chain = let tr = reaches-join s.pairs r w v in let a = p.no_chain in grind (arith, tr, a, p.live_it);
 }
 
 pub executing-part : (s : Core) (old : ℕ → ℕ → Bool) → Standing s old → (t n v : ℕ) → live s t ≡ true → live s v ≡ true → executes s t ≡ true → precedes s v t ≡ true
@@ -88,14 +90,14 @@ covered-part s old h t n v lt lv xt b fl fv w k =
     let g = rest (stops s t) (entries s n) in
     let joined = front-rest (stops_call s t) (entries s n) in
     let hv : (has f v || has g v) ≡ true = sym (has-append f g v) ∙ ap (λ (es : List Entry). has es v) joined ∙ at-has is_frame (entries s n) v fv in
-    let not_g : has g v ≡ false = not_true _ (λ x. (executing-part s old h t n v lt lv xt b v x).other refl) in
+    let not_g : has g v ≡ false = false_from_ne_true _ (λ x. (executing-part s old h t n v lt lv xt b v x).other refl) in
     let in_f : has f v ≡ true = grind (arith, hv, not_g) in
     fl.last v w (subst (λ (es : List Entry). behind es v w ≡ true) joined (across-behind f g v w in_f k)) fv
 
 -- Frame: what is known of framing calls, and of wanted nodes, says of the place of t.
 place-no_done : (s : Core) (old : ℕ → ℕ → Bool) → Standing s old → FramingComesLast s → FramesAreOpen s → WantsAreCovered s → (t n : ℕ) → live s t ≡ true → wants s t n ≡ true
     → (w : ℕ) → has (rest (stops s t) (entries s n)) w ≡ true → at is_done (entries s n) w ≡ false
-place-no_done s old h i2 i3 i5 t n lt wt w k = go (true_or_false (executes s t))
+place-no_done s old h i2 i3 i5 t n lt wt w k = go (cases_Bool (executes s t))
   where
     go : (executes s t ≡ true) ⊎ (executes s t ≡ false) → at is_done (entries s n) w ≡ false
     go (inl x) =
@@ -120,10 +122,10 @@ placed-last s t x es no_done no_entry fl none =
 
 -- A Mark that is raised is of an executing call, and another call before it has its Frame there.
 raised-no_done : (graph : Graph) (s : Core) → IsLawful graph s → (t n : ℕ) → wants s t n ≡ true → at is_mark (entries s n) t ≡ true → (w : ℕ) → behind (entries s n) t w ≡ true → at is_done (entries s n) w ≡ false
-raised-no_done graph s h t n wt m w k = go (true_or_false (executes s t))
+raised-no_done graph s h t n wt m w k = go (cases_Bool (executes s t))
   where
     go : (executes s t ≡ true) ⊎ (executes s t ≡ false) → at is_done (entries s n) w ≡ false
-    go (inr x) = absurd (is_not_true _ (h.framing_comes_last.no_mark t n (let l = wants-live s t n wt in let f : is_framing s t ≡ true = grind (arith, x, l) in f)) m)
+    go (inr x) = absurd (both_ways _ (h.framing_comes_last.no_mark t n (let l = wants-live s t n wt in let f : is_framing s t ≡ true = grind (arith, x, l) in f)) m)
     go (inl x) =
         let c = h.wants_are_covered t n x wt in
         let v = c.by.0 in
@@ -131,7 +133,7 @@ raised-no_done graph s h t n wt m w k = go (true_or_false (executes s t))
         h.frames_are_open.behind_dones n v w (behind-trans (entries s n) v t w (h.one_entry n) (earlier v c.by.1 c.by.2 fv) k) fv
       where
         earlier : (v : ℕ) → precedes s v t ≡ true → opens s v n ≡ true → at is_frame (entries s n) v ≡ true → behind (entries s n) v t ≡ true
-        earlier v b o fv = cases (true_or_false (v == t))
+        earlier v b o fv = cases (cases_Bool (v == t))
           where
             lv : live s v ≡ true
             lv = opens-live s v n o
@@ -143,20 +145,20 @@ raised-no_done graph s h t n wt m w k = go (true_or_false (executes s t))
             reach = grind (arith, b, lv)
 
             other : (behind (entries s n) v t || behind (entries s n) t v) ≡ true → behind (entries s n) v t ≡ true
-            other d = not_false _ (λ e. let p = h.order_is_kept.lists n t v (grind (arith, d, e)) lv in
+            other d = true_from_ne_false _ (λ e. let p = h.order_is_kept.lists n t v (grind (arith, d, e)) lv in
                 let r : reaches s.pairs t v ≡ true = grind (arith, p, lt) in
-                is_not_true _ (h.order_is_kept.no_cycle v) (reaches-trans s.pairs v t v reach r))
+                both_ways _ (h.order_is_kept.no_cycle v) (reaches-join s.pairs v t v reach r))
 
             cases : ((v == t) ≡ true) ⊎ ((v == t) ≡ false) → behind (entries s n) v t ≡ true
-            cases (inl e) = absurd (is_not_true _ (h.order_is_kept.no_cycle t) (subst (λ (x : ℕ). reaches s.pairs x t ≡ true) (same_number v t e) reach))
-            cases (inr e) = other (behind-total (entries s n) v t (at-has is_frame (entries s n) v fv) (at-has is_mark (entries s n) t m) (other_number v t e))
+            cases (inl e) = absurd (both_ways _ (h.order_is_kept.no_cycle t) (subst (λ (x : ℕ). reaches s.pairs x t ≡ true) (eqb-true v t e) reach))
+            cases (inr e) = other (behind-total (entries s n) v t (at-has is_frame (entries s n) v fv) (at-has is_mark (entries s n) t m) (eqb-false v t e))
 
 pub head-first : (es : List Entry) (t : ℕ) → is_some_of (first_open es) t ≡ true → first_open es ≡ Some t
 head-first es t h = go (first_open es) h
   where
     go : (o : Option ℕ) → is_some_of o t ≡ true → o ≡ Some t
     go None k = absurd (true≢false (sym k))
-    go (Some u) k = ap (λ (v : ℕ). Some v) (same_number u t k)
+    go (Some u) k = ap (λ (v : ℕ). Some v) (eqb-true u t k)
 
 pub list-last : (graph : Graph) (s : Core) → IsLawful graph s → (n : ℕ) (es : List Entry) → ListStep graph s n es → FramesLast es
 list-last graph s h n es (stays e) = subst FramesLast (sym e) (lawful-last graph s h n)
@@ -169,6 +171,6 @@ list-last graph s h n es (collects e) = subst FramesLast (sym e) (record { last 
     last : (u v : ℕ) → behind (collected (ended s) (entries s n)) u v ≡ true → at is_frame (collected (ended s) (entries s n)) u ≡ true → at is_done (collected (ended s) (entries s n)) v ≡ false
     last u v k f =
         let fu = collected-at is_frame (λ w. not (live s w)) (entries s n) u (h.one_entry n) f in
-        let lu : live s u ≡ true = not_false _ (λ e. is_not_true _ (h.ended_is_prefix.no_frame n u e) fu) in
+        let lu : live s u ≡ true = true_from_ne_false _ (λ e. both_ways _ (h.ended_is_prefix.no_frame n u e) fu) in
         let b = collected-behind_live (λ w. not (live s w)) (entries s n) u v (grind (arith, lu)) k in
-        not_true _ (λ d. is_not_true _ (h.frames_are_open.behind_dones n u v b fu) (collected-at is_done (λ w. not (live s w)) (entries s n) v (h.one_entry n) d))
+        false_from_ne_true _ (λ d. both_ways _ (h.frames_are_open.behind_dones n u v b fu) (collected-at is_done (λ w. not (live s w)) (entries s n) v (h.one_entry n) d))

@@ -1,5 +1,6 @@
 -- The open nodes of a call are those with its Frame, after each step.
 use Rattle.std.proofs.Common.{◌≡◌, ℕ, zero, suc, Bool, true, false, ◌&&◌, ◌||◌, not, ◌==◌, ◌⊎◌, inl, inr, refl, sym, ap, arith, List, [], ◌∷◌, true≢false, ◌∙◌, subst, Option, Some, None, length, ◌<◌, slice_index_or}
+use Rattle.std.proofs.lemmas.Bool.{eqb-true, eq-eqb, eqb-false, false_from_ne_true, both_ways, cases_Bool}
 use Rattle.std.specs.Prelude.{is_some}
 use Rattle.signal_graph.specs.declared.call.Call.{Call}
 use Rattle.signal_graph.specs.Graph.{Graph, is_in}
@@ -8,6 +9,7 @@ use Rattle.node_versions.specs.declared.entry.State.{State}
 use Rattle.node_versions.specs.declared.entry.State.TheVariants.{Mark, Frame, Done}
 use Rattle.node_versions.specs.declared.entry.Entry.{Entry}
 use Rattle.node_versions.specs.Entries.{has, at, is_mark, is_frame, collected}
+use Rattle.node_versions.proofs.Places.{at-has}
 use Rattle.flow_model.specs.declared.step.Step.{Step}
 use Rattle.flow_model.specs.declared.step.Step.TheVariants as steps
 use Rattle.flow_model.specs.Machine.Lists.{change_at}
@@ -16,10 +18,9 @@ use Rattle.flow_model.specs.Machine.Words.{is_idle, at_front, found_now, value_n
 use Rattle.flow_model.specs.Machine.Changes.{stops_call, new_entry, place_entry, set_state, enter, raise, ensure_mark, opened, closed, finish, tell_call, add_edge, drop_edge, cleared}
 use Rattle.flow_model.specs.Machine.Steps.{allowed, apply, begin, new_call, open_node, frame, started, counted, keep_found, is_change, collect}
 use Rattle.flow_model.specs.Kept.Lawful.{IsLawful, FramesAreOpen}
-use Rattle.flow_model.proofs.General.Truths.{same_number, equal_test, other_number, not_true, is_not_true, true_or_false}
 use Rattle.flow_model.proofs.OneStep.WhoMayStep.{executes-live, wants-live, frame-wants, skip-can_work, resolve-can_work, can_work-at_front, at_front-executes, at_front-heads, mark-no_entry, end-idle}
 use Rattle.flow_model.proofs.General.Sets.{in-put, in-take_out}
-use Rattle.flow_model.proofs.OneList.StatesAndPlaces.{with_state-at, at-has, first_open-frame}
+use Rattle.flow_model.proofs.OneList.StatesAndPlaces.{with_state-at, first_open-frame}
 use Rattle.flow_model.proofs.OneList.OneEntryACall.{placed-at_other, placed-at, collected-at, collected-at_live}
 use Rattle.flow_model.proofs.OneList.CallsAndCells.{with_call-field, with_call-keeps, map_call-keeps, call_of-append, last_call-other, last_call-it, without_call-other, without_call-same}
 use Rattle.flow_model.proofs.OneList.Entering.{with_cell-cell}
@@ -44,7 +45,7 @@ cell-other s n m f h = go (with_cell-cell s n f m)
   where
     go : (cell (with_cell s n f) m ≡ cell s m) ⊎ ((m ≡ n) × (cell (with_cell s n f) m ≡ f (cell s m))) → cell (with_cell s n f) m ≡ cell s m
     go (inl e) = e
-    go (inr e) = absurd (other_number m n h e.0)
+    go (inr e) = absurd (eqb-false m n h e.0)
 
 pub entry-there : (s : Core) (n u : ℕ) → has (entries s n) u ≡ true → n < length s.cells
 entry-there s n u h = go n s.cells h
@@ -64,46 +65,46 @@ abbrev pub goes_at : Bool → ℕ → ℕ → ℕ → ℕ → Bool
 goes_at old t n u m = old && not ((u == t) && (m == n))
 
 placed-frames : (s : Core) (t n u m : ℕ) → n < length s.cells → has (entries s n) t ≡ false → at is_frame (entries (enter s t n Frame) m) u ≡ comes_at (at is_frame (entries s m) u) t n u m
-placed-frames s t n u m l fresh = go (true_or_false (m == n)) (true_or_false (u == t))
+placed-frames s t n u m l fresh = go (cases_Bool (m == n)) (cases_Bool (u == t))
   where
     go : ((m == n) ≡ true) ⊎ ((m == n) ≡ false) → ((u == t) ≡ true) ⊎ ((u == t) ≡ false) → at is_frame (entries (enter s t n Frame) m) u ≡ comes_at (at is_frame (entries s m) u) t n u m
     go (inr e) w = let q = ap (λ (c : Cell). at is_frame c.entries u) (cell-other s n m (place_entry s t Frame) e) in grind (arith, q, e)
     go (inl e) (inr w) =
-        let q = ap (λ (c : Cell). at is_frame c.entries u) (cell-there s n (place_entry s t Frame) l) ∙ placed-at_other is_frame (stops_call s t) (new_entry s t Frame) (entries s n) u (λ k. is_not_true _ w (equal_test u t k)) in
-        let p = subst (λ (k : ℕ). at is_frame (entries (enter s t n Frame) k) u ≡ at is_frame (entries s k) u) (sym (same_number m n e)) q in
+        let q = ap (λ (c : Cell). at is_frame c.entries u) (cell-there s n (place_entry s t Frame) l) ∙ placed-at_other is_frame (stops_call s t) (new_entry s t Frame) (entries s n) u (λ k. both_ways _ w (eq-eqb u t k)) in
+        let p = subst (λ (k : ℕ). at is_frame (entries (enter s t n Frame) k) u ≡ at is_frame (entries s k) u) (sym (eqb-true m n e)) q in
         grind (arith, p, w)
     go (inl e) (inl w) =
         let q = ap (λ (c : Cell). at is_frame c.entries t) (cell-there s n (place_entry s t Frame) l) ∙ placed-at is_frame (stops_call s t) (new_entry s t Frame) (entries s n) fresh in
-        let p = subst (λ (k : ℕ). at is_frame (entries (enter s t n Frame) k) t ≡ true) (sym (same_number m n e)) q in
-        let r = subst (λ (k : ℕ). at is_frame (entries (enter s t n Frame) m) k ≡ true) (sym (same_number u t w)) p in
+        let p = subst (λ (k : ℕ). at is_frame (entries (enter s t n Frame) k) t ≡ true) (sym (eqb-true m n e)) q in
+        let r = subst (λ (k : ℕ). at is_frame (entries (enter s t n Frame) m) k ≡ true) (sym (eqb-true u t w)) p in
         grind (arith, r, e, w)
 
 marked-frames : (s : Core) (t n u m : ℕ) → has (entries s n) t ≡ false → at is_frame (entries (enter s t n Mark) m) u ≡ at is_frame (entries s m) u
-marked-frames s t n u m fresh = go (with_cell-cell s n (place_entry s t Mark) m) (true_or_false (u == t))
+marked-frames s t n u m fresh = go (with_cell-cell s n (place_entry s t Mark) m) (cases_Bool (u == t))
   where
     none : at is_frame (entries s n) t ≡ false
-    none = not_true _ (λ k. is_not_true _ fresh (at-has is_frame (entries s n) t k))
+    none = false_from_ne_true _ (λ k. both_ways _ fresh (at-has is_frame (entries s n) t k))
 
     go : (cell (enter s t n Mark) m ≡ cell s m) ⊎ ((m ≡ n) × (cell (enter s t n Mark) m ≡ place_entry s t Mark (cell s m))) → ((u == t) ≡ true) ⊎ ((u == t) ≡ false) → at is_frame (entries (enter s t n Mark) m) u ≡ at is_frame (entries s m) u
     go (inl e) w = ap (λ (c : Cell). at is_frame c.entries u) e
-    go (inr e) (inr w) = ap (λ (c : Cell). at is_frame c.entries u) e.1 ∙ placed-at_other is_frame (stops_call s t) (new_entry s t Mark) (entries s m) u (λ k. is_not_true _ w (equal_test u t k))
+    go (inr e) (inr w) = ap (λ (c : Cell). at is_frame c.entries u) e.1 ∙ placed-at_other is_frame (stops_call s t) (new_entry s t Mark) (entries s m) u (λ k. both_ways _ w (eq-eqb u t k))
     go (inr e) (inl w) =
         let f = subst (λ (k : ℕ). has (entries s k) t ≡ false) (sym e.0) fresh in
         let g = subst (λ (k : ℕ). at is_frame (entries s k) t ≡ false) (sym e.0) none in
-        subst (λ (k : ℕ). at is_frame (entries (enter s t n Mark) m) k ≡ at is_frame (entries s m) k) (sym (same_number u t w))
+        subst (λ (k : ℕ). at is_frame (entries (enter s t n Mark) m) k ≡ at is_frame (entries s m) k) (sym (eqb-true u t w))
         (ap (λ (c : Cell). at is_frame c.entries t) e.1 ∙ placed-at is_frame (stops_call s t) (new_entry s t Mark) (entries s m) f ∙ sym g)
 
 -- another state of an entry that is there
 stated-frames : (s : Core) (t n u m : ℕ) (x : State) → has (entries s n) t ≡ true → at is_frame (entries (with_cell s n (set_state t x)) m) u ≡ elim ((u == t) && (m == n)) as (λ _. Bool) [ true ↦ is_frame x | false ↦ at is_frame (entries s m) u ]
-stated-frames s t n u m x h = go (true_or_false (m == n))
+stated-frames s t n u m x h = go (cases_Bool (m == n))
   where
     go : ((m == n) ≡ true) ⊎ ((m == n) ≡ false) → at is_frame (entries (with_cell s n (set_state t x)) m) u ≡ elim ((u == t) && (m == n)) as (λ _. Bool) [ true ↦ is_frame x | false ↦ at is_frame (entries s m) u ]
     go (inr e) = let q = ap (λ (c : Cell). at is_frame c.entries u) (cell-other s n m (set_state t x) e) in grind (arith, q, e)
     go (inl e) =
         let l = entry-there s n t h in
         let q = ap (λ (c : Cell). at is_frame c.entries u) (cell-there s n (set_state t x) l) ∙ with_state-at is_frame t x (entries s n) u in
-        let q2 = subst (λ (k : ℕ). at is_frame (entries (with_cell s n (set_state t x)) k) u ≡ elim (u == t) as (λ _. Bool) [ true ↦ has (entries s k) t && is_frame x | false ↦ at is_frame (entries s k) u ]) (sym (same_number m n e)) q in
-        let hm = subst (λ (k : ℕ). has (entries s k) t ≡ true) (sym (same_number m n e)) h in
+        let q2 = subst (λ (k : ℕ). at is_frame (entries (with_cell s n (set_state t x)) k) u ≡ elim (u == t) as (λ _. Bool) [ true ↦ has (entries s k) t && is_frame x | false ↦ at is_frame (entries s k) u ]) (sym (eqb-true m n e)) q in
+        let hm = subst (λ (k : ℕ). has (entries s k) t ≡ true) (sym (eqb-true m n e)) h in
         grind (arith, q2, hm, e)
 
 -- ---- the open nodes after one call changes
@@ -112,14 +113,14 @@ pub opened-opens : (q : Core) (t n : ℕ) (outs : List ℕ) (u m : ℕ) → live
 opened-opens q t n outs u m lt =
     let r = with_call-field (λ c. is_in m c.open_nodes) q t (opened n outs) (λ c. refl) u lt in
     let p = in-put m n (call q t).open_nodes in
-    let e = λ (x : (u == t) ≡ true). ap (λ (w : ℕ). opens q w m) (same_number u t x) in
+    let e = λ (x : (u == t) ≡ true). ap (λ (w : ℕ). opens q w m) (eqb-true u t x) in
     grind (arith, r, p, e)
 
 pub closed-opens : (q : Core) (t n : ℕ) (b : Bool) (u m : ℕ) → live q t ≡ true → opens (with_call q t (closed n b)) u m ≡ goes_at (opens q u m) t n u m
 closed-opens q t n b u m lt =
     let r = with_call-field (λ c. is_in m c.open_nodes) q t (closed n b) (λ c. refl) u lt in
     let p = in-take_out m n (call q t).open_nodes in
-    let e = λ (x : (u == t) ≡ true). ap (λ (w : ℕ). opens q w m) (same_number u t x) in
+    let e = λ (x : (u == t) ≡ true). ap (λ (w : ℕ). opens q w m) (eqb-true u t x) in
     grind (arith, r, p, e)
 
 -- ---- the steps
@@ -193,23 +194,23 @@ collected-frames : (graph : Graph) (s : Core) → IsLawful graph s → (n u m : 
 collected-frames graph s h n u m = go (with_cell-cell s n (collect s) m)
   where
     shown : at is_frame (collected (ended s) (entries s m)) u ≡ at is_frame (entries s m) u
-    shown = cases (true_or_false (live s u))
+    shown = cases (cases_Bool (live s u))
       where
         cases : (live s u ≡ true) ⊎ (live s u ≡ false) → at is_frame (collected (ended s) (entries s m)) u ≡ at is_frame (entries s m) u
         cases (inl l) = collected-at_live is_frame (λ v. not (live s v)) (entries s m) u (rw l refl)
-        cases (inr l) = let z = h.ended_is_prefix.no_frame m u l in not_true _ (λ k. is_not_true _ z (collected-at is_frame (λ v. not (live s v)) (entries s m) u (h.one_entry m) k)) ∙ sym z
+        cases (inr l) = let z = h.ended_is_prefix.no_frame m u l in false_from_ne_true _ (λ k. both_ways _ z (collected-at is_frame (λ v. not (live s v)) (entries s m) u (h.one_entry m) k)) ∙ sym z
 
     go : (cell (with_cell s n (collect s)) m ≡ cell s m) ⊎ ((m ≡ n) × (cell (with_cell s n (collect s)) m ≡ collect s (cell s m))) → at is_frame (entries (with_cell s n (collect s)) m) u ≡ at is_frame (entries s m) u
     go (inl e) = ap (λ (c : Cell). at is_frame c.entries u) e
     go (inr e) = ap (λ (c : Cell). at is_frame c.entries u) e.1 ∙ shown
 
 ended-opens : (graph : Graph) (s : Core) → IsLawful graph s → (t : ℕ) → is_idle s t ≡ true → Opens (apply graph s (steps.End t))
-ended-opens graph s h t i u m = go (true_or_false (u == t))
+ended-opens graph s h t i u m = go (cases_Bool (u == t))
   where
     go : ((u == t) ≡ true) ⊎ ((u == t) ≡ false) → opens (apply graph s (steps.End t)) u m ≡ at is_frame (entries s m) u
-    go (inl e) = subst (λ (v : ℕ). opens (apply graph s (steps.End t)) v m ≡ at is_frame (entries s m) v) (sym (same_number u t e))
+    go (inl e) = subst (λ (v : ℕ). opens (apply graph s (steps.End t)) v m ≡ at is_frame (entries s m) v) (sym (eqb-true u t e))
         (ap (λ (o : Option LiveCall). is_in m (call_or o).open_nodes) (without_call-same t s.calls) ∙ sym (idle-no_frame graph s h t m i))
-    go (inr e) = ap (λ (o : Option LiveCall). is_in m (call_or o).open_nodes) (without_call-other t u s.calls (λ k. is_not_true _ e (equal_test u t k))) ∙ h.frames_are_open.opens_frames u m
+    go (inr e) = ap (λ (o : Option LiveCall). is_in m (call_or o).open_nodes) (without_call-other t u s.calls (λ k. both_ways _ e (eq-eqb u t k))) ∙ h.frames_are_open.opens_frames u m
 
 step-opens : (graph : Graph) (s : Core) (step : Step) → IsLawful graph s → allowed graph s step ≡ true → Opens (apply graph s step)
 step-opens graph s (steps.Frame t n) h a = framed-opens graph s h t n a
@@ -239,14 +240,14 @@ step-FramesAreOpen graph s step h a = record {
 }
 
 pub begin-FramesAreOpen : (graph : Graph) (s : Core) (caller : ℕ) (c : Call) → IsLawful graph s → FramesAreOpen (begin graph s caller c)
-begin-FramesAreOpen graph s caller c h = record { behind_dones = h.frames_are_open.behind_dones; opens_frames = λ u m. go u m (true_or_false (suc s.begun == u)) }
+begin-FramesAreOpen graph s caller c h = record { behind_dones = h.frames_are_open.behind_dones; opens_frames = λ u m. go u m (cases_Bool (suc s.begun == u)) }
   where
     go : (u m : ℕ) → ((suc s.begun == u) ≡ true) ⊎ ((suc s.begun == u) ≡ false) → opens (begin graph s caller c) u m ≡ at is_frame (entries s m) u
     go u m (inr k) = ap (λ (o : Option LiveCall). is_in m (call_or o).open_nodes) (call_of-append s.calls (new_call graph s caller c) u ∙ last_call-other (call_of s.calls u) (new_call graph s caller c) u k) ∙ h.frames_are_open.opens_frames u m
-    go u m (inl k) = subst (λ (v : ℕ). opens (begin graph s caller c) v m ≡ at is_frame (entries s m) v) (same_number (suc s.begun) u k)
+    go u m (inl k) = subst (λ (v : ℕ). opens (begin graph s caller c) v m ≡ at is_frame (entries s m) v) (eqb-true (suc s.begun) u k)
         (ap (λ (o : Option LiveCall). is_in m (call_or o).open_nodes) (call_of-append s.calls (new_call graph s caller c) (suc s.begun) ∙ last_call-it (call_of s.calls (suc s.begun)) (new_call graph s caller c) (gone (call_of s.calls (suc s.begun)) refl))
-        ∙ sym (not_true _ (λ y. is_not_true _ (not_begun-entry graph s h m) (at-has is_frame (entries s m) (suc s.begun) y))))
+        ∙ sym (false_from_ne_true _ (λ y. both_ways _ (not_begun-entry graph s h m) (at-has is_frame (entries s m) (suc s.begun) y))))
       where
         gone : (o : Option LiveCall) → call_of s.calls (suc s.begun) ≡ o → call_of s.calls (suc s.begun) ≡ None
         gone None e = e
-        gone (Some x) e = absurd (is_not_true _ (not_begun-live s h.versions_are_fresh) (ap is_some e))
+        gone (Some x) e = absurd (both_ways _ (not_begun-live s h.versions_are_fresh) (ap is_some e))

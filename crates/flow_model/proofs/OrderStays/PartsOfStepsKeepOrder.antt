@@ -2,11 +2,13 @@
 use Rattle.std.proofs.Common.{◌≡◌, ℕ, suc, Bool, true, false, ◌&&◌, ◌||◌, not, ◌==◌, ◌⊎◌, ◌≢◌, inl, inr, refl, sym, ap, arith, List, true≢false, ◌∙◌, subst, Option, Some, None, map}
 use Rattle.std.specs.Prelude.{is_some}
 use Rattle.std.proofs.lemmas.Bool.Decides.{eqb_tells}
+use Rattle.std.proofs.lemmas.Bool.{and_parts, eqb-true, eq-eqb, false_from_ne_true, both_ways, cases_Bool}
 use Rattle.script_tree.specs.declared.value.Value.{Value}
 use Rattle.signal_graph.specs.declared.call.Call.{Call}
 use Rattle.signal_graph.specs.Graph.{Graph}
 use Rattle.order_graph.specs.declared.pair.Pair.{Pair}
 use Rattle.order_graph.specs.Order.{is_recorded, reaches, retired}
+use Rattle.order_graph.proofs.Reaching.{recorded-reaches}
 use Rattle.node_versions.specs.declared.entry.State.{State}
 use Rattle.node_versions.specs.declared.entry.State.TheVariants.{Mark, Frame, Done}
 use Rattle.node_versions.specs.declared.entry.Entry.{Entry}
@@ -15,11 +17,10 @@ use Rattle.flow_model.specs.declared.step.Step.TheVariants.{End}
 use Rattle.flow_model.specs.Machine.State.{Core, LiveCall, Cell, call_of, call_or, live, ended, executes, is_framing, entries, with_cell, with_call}
 use Rattle.flow_model.specs.Machine.Changes.{enter, ensure_mark, set_state, raise, finish, tell}
 use Rattle.flow_model.specs.Machine.Steps.{apply, begin, new_call, is_framing_before, any_framing_before, any_before, open_node, frame, started, without_call, collect}
-use Rattle.flow_model.proofs.General.Truths.{and_both, same_number, equal_test, not_true, is_not_true, true_or_false}
 use Rattle.flow_model.proofs.OneList.InOrder.{Ascends, Ascends-map-in, with_state-Ascends, collected-Ascends, IsTransitive}
 use Rattle.flow_model.proofs.OneList.Entering.{Stands, Standing, Comes, Comes_in, Apart, enter-Standing, with_cell-entries}
 use Rattle.flow_model.proofs.OneList.CallsAndCells.{KeepsPhase, with_call-live, with_call-executes, map_call-live, map_call-executes, list_any-none, call_of-append, without_call-other, without_call-same, started-executes, last_call}
-use Rattle.flow_model.proofs.OneList.Chains.{LastPair, last_pair, reaches-retire, recorded-reaches, none-reaches}
+use Rattle.flow_model.proofs.OneList.Chains.{LastPair, last_pair, reaches-retire, none-reaches}
 
 -- ---- Where a step leaves the parts alone
 
@@ -88,14 +89,14 @@ collect-Standing s old n h = with_cell-Standing s old n _ (collected (ended s)) 
 -- ---- Start
 
 no_framing_reaches : (ps : List Pair) (f x : ℕ → Bool) (t : ℕ) → Apart ps f x → ((w : ℕ) → is_recorded ps w t ≡ true → (f w ≡ false) × (x w ≡ true)) → (u : ℕ) → f u ≡ true → reaches ps u t ≡ false
-no_framing_reaches ps f x t h none u fu = not_true _ (λ r. go (last_pair ps u t r))
+no_framing_reaches ps f x t h none u fu = false_from_ne_true _ (λ r. go (last_pair ps u t r))
   where
     go : LastPair ps u t → ⊥
     go l = both l.2
       where
         both : ((u ≡ l.0) ⊎ (reaches ps u l.0 ≡ true)) → ⊥
-        both (inl e) = is_not_true _ (none l.0 l.1).0 (subst (λ (w : ℕ). f w ≡ true) e fu)
-        both (inr r) = is_not_true _ (h.apart u l.0 fu (none l.0 l.1).1) r
+        both (inl e) = both_ways _ (none l.0 l.1).0 (subst (λ (w : ℕ). f w ≡ true) e fu)
+        both (inr r) = both_ways _ (h.apart u l.0 fu (none l.0 l.1).1) r
 
 -- t executes from now on.
 start-Apart : (ps : List Pair) (lives runs now : ℕ → Bool) (t : ℕ) → Apart ps (λ u. lives u && not (runs u)) runs → ((u : ℕ) → now u ≡ ((u == t) || runs u))
@@ -130,16 +131,16 @@ executing_before s t w h lw r = go (call_of s.calls w) refl
 pub start-Standing : (s : Core) (old : ℕ → ℕ → Bool) (t : ℕ) → Standing s old → live s t ≡ true → any_framing_before s t ≡ false → Standing (with_call s t started) old
 start-Standing s old t h lt none = subst (λ (l : ℕ → Bool). Stands s.pairs l (executes (with_call s t started)) (entries s) old) (sym (with_call-live s t started (λ c. refl)))
     (start-Stands s old t h lt (no_framing_reaches s.pairs (is_framing s) (executes s) t h.order
-    (λ w r. executing_before s t w none (and_both (live s w) _ (h.pairs_live w t (recorded-reaches s.pairs w t r))).0 r)))
+    (λ w r. executing_before s t w none (and_parts (live s w) _ (h.pairs_live w t (recorded-reaches s.pairs w t r))).0 r)))
 
 -- ---- End
 
 pub reads_without : (reads : Option LiveCall → Bool) → reads None ≡ false → (t : ℕ) (cs : List LiveCall) (u : ℕ) → reads (call_of (without_call t cs) u) ≡ (not (u == t) && reads (call_of cs u))
-reads_without reads none t cs u = go (true_or_false (u == t))
+reads_without reads none t cs u = go (cases_Bool (u == t))
   where
     go : ((u == t) ≡ true) ⊎ ((u == t) ≡ false) → reads (call_of (without_call t cs) u) ≡ (not (u == t) && reads (call_of cs u))
-    go (inl e) = rw e (subst (λ (w : ℕ). reads (call_of (without_call t cs) w) ≡ false) (sym (same_number u t e)) (ap reads (without_call-same t cs) ∙ none))
-    go (inr e) = rw e (ap reads (without_call-other t u cs (λ x. is_not_true _ e (equal_test u t x))))
+    go (inl e) = rw e (subst (λ (w : ℕ). reads (call_of (without_call t cs) w) ≡ false) (sym (eqb-true u t e)) (ap reads (without_call-same t cs) ∙ none))
+    go (inr e) = rw e (ap reads (without_call-other t u cs (λ x. both_ways _ e (eq-eqb u t x))))
 
 end-Apart : (ps : List Pair) (lives runs lives2 runs2 : ℕ → Bool) (t : ℕ) → ((w : ℕ) → is_recorded ps w t ≡ false) → Apart ps (λ u. lives u && not (runs u)) runs
     → ((u : ℕ) → lives2 u ≡ (not (u == t) && lives u)) → ((u : ℕ) → runs2 u ≡ (not (u == t) && runs u)) → Apart (retired ps t) (λ u. lives2 u && not (runs2 u)) runs2
@@ -175,11 +176,11 @@ end-pairs_live ps lives lives2 t none el pl u v k =
     grind (arith, eqb_tells, e1, e2, r, q, p)
 
 pub not_before : (s : Core) (old : ℕ → ℕ → Bool) (t : ℕ) → Standing s old → any_before s t ≡ false → (w : ℕ) → is_recorded s.pairs w t ≡ false
-not_before s old t h none w = not_true _ (λ r. go (call_of s.calls w) refl r (and_both (live s w) _ (h.pairs_live w t (recorded-reaches s.pairs w t r))).0)
+not_before s old t h none w = false_from_ne_true _ (λ r. go (call_of s.calls w) refl r (and_parts (live s w) _ (h.pairs_live w t (recorded-reaches s.pairs w t r))).0)
   where
     go : (o : Option LiveCall) → call_of s.calls w ≡ o → is_recorded s.pairs w t ≡ true → live s w ≡ true → ⊥
     go None e r l = true≢false (sym l ∙ ap is_some e)
-    go (Some c) e r l = let q = list_any-none (λ c. is_recorded s.pairs c.version t) s.calls w c none e in is_not_true _ q.0 (subst (λ (x : ℕ). is_recorded s.pairs x t ≡ true) (sym q.1) r)
+    go (Some c) e r l = let q = list_any-none (λ c. is_recorded s.pairs c.version t) s.calls w c none e in both_ways _ q.0 (subst (λ (x : ℕ). is_recorded s.pairs x t ≡ true) (sym q.1) r)
 
 pub end-Standing : (graph : Graph) (s : Core) (old now : ℕ → ℕ → Bool) (t : ℕ) → Standing s old → live s t ≡ true → any_before s t ≡ false
     → ((u v : ℕ) → old u v ≡ true → now u v ≡ true) → IsTransitive (λ u v. now u v ≡ true) → ((n u : ℕ) → has (entries s n) u ≡ true → live s u ≡ false → now u t ≡ true)
@@ -218,8 +219,8 @@ begin-Stands ps lives runs lives2 runs2 lists_of old t h new fresh el er = recor
   where
     still : (n u v : ℕ) → has (lists_of n) u ≡ true → has (lists_of n) v ≡ true → Comes_in ps lives old u v → Comes_in ps lives2 old u v
     still n u v j k c =
-        let a : u ≢ t = λ x. is_not_true _ (fresh n) (subst (λ (w : ℕ). has (lists_of n) w ≡ true) x j) in
-        let b : v ≢ t = λ x. is_not_true _ (fresh n) (subst (λ (w : ℕ). has (lists_of n) w ≡ true) x k) in
+        let a : u ≢ t = λ x. both_ways _ (fresh n) (subst (λ (w : ℕ). has (lists_of n) w ≡ true) x j) in
+        let b : v ≢ t = λ x. both_ways _ (fresh n) (subst (λ (w : ℕ). has (lists_of n) w ≡ true) x k) in
         let e1 = el u in let e2 = el v in grind (arith, eqb_tells, e1, e2)
 
 last_call-live : (o : Option LiveCall) (c : LiveCall) (u : ℕ) → is_some (last_call o c u) ≡ ((u == c.version) || is_some o)

@@ -1,5 +1,6 @@
 -- Each step and each beginning keep what a call wants, has open and has changed ascending lists with no node twice.
 use Rattle.std.proofs.Common.{◌≡◌, ℕ, suc, Bool, true, false, ◌==◌, ◌⊎◌, inl, inr, refl, sym, List, [], subst, Option, Some, None}
+use Rattle.std.proofs.lemmas.Bool.{eqb-true, eq-eqb, both_ways, cases_Bool}
 use Rattle.signal_graph.specs.declared.call.Call.{Call}
 use Rattle.signal_graph.specs.Graph.{Graph}
 use Rattle.node_versions.specs.declared.entry.Entry.{Entry}
@@ -13,7 +14,6 @@ use Rattle.flow_model.specs.Machine.Words.{active_outs, found_now, value_now, fo
 use Rattle.flow_model.specs.Machine.Changes.{enter, raise, ensure_mark, set_state, opened, closed, tell_call, is_told, add_edge}
 use Rattle.flow_model.specs.Machine.Steps.{apply, begin, new_call, open_node, frame, started, counted, with_look, is_change, keep_found, look_value, nodes_set, sets_in, without_call}
 use Rattle.flow_model.specs.Kept.Lawful.{IsLawful, SetsAreSets}
-use Rattle.flow_model.proofs.General.Truths.{same_number, equal_test, is_not_true, true_or_false}
 use Rattle.flow_model.proofs.General.Sets.{put-IsSet, take_out-IsSet, put_all-IsSet}
 use Rattle.flow_model.proofs.OneList.CallsAndCells.{change_call-same, change_call-other, map_call-reads, option_call, without_call-other, without_call-same}
 use Rattle.flow_model.proofs.OneStep.BegunCalls.{begin-call}
@@ -31,11 +31,11 @@ optional f k None h = no_call-HasSets
 optional f k (Some c) h = k c h
 
 with_call-sets : (s : Core) (t : ℕ) (f : LiveCall → LiveCall) → ((c : LiveCall) → (f c).version ≡ c.version) → ((c : LiveCall) → HasSets c → HasSets (f c)) → ((u : ℕ) → HasSets (call s u)) → (u : ℕ) → HasSets (call (with_call s t f) u)
-with_call-sets s t f v k h u = go (true_or_false (u == t))
+with_call-sets s t f v k h u = go (cases_Bool (u == t))
   where
     go : ((u == t) ≡ true) ⊎ ((u == t) ≡ false) → HasSets (call (with_call s t f) u)
-    go (inl e) = subst (λ (w : ℕ). HasSets (call (with_call s t f) w)) (sym (same_number u t e)) (subst (λ (o : Option LiveCall). HasSets (call_or o)) (sym (change_call-same t f v s.calls)) (optional f k (call_of s.calls t) (h t)))
-    go (inr e) = subst (λ (o : Option LiveCall). HasSets (call_or o)) (sym (change_call-other t u f v s.calls (λ x. is_not_true _ e (equal_test u t x)))) (h u)
+    go (inl e) = subst (λ (w : ℕ). HasSets (call (with_call s t f) w)) (sym (eqb-true u t e)) (subst (λ (o : Option LiveCall). HasSets (call_or o)) (sym (change_call-same t f v s.calls)) (optional f k (call_of s.calls t) (h t)))
+    go (inr e) = subst (λ (o : Option LiveCall). HasSets (call_or o)) (sym (change_call-other t u f v s.calls (λ x. both_ways _ e (eq-eqb u t x)))) (h u)
 
 opened-sets : (n : ℕ) (outs : List ℕ) (c : LiveCall) → HasSets c → HasSets (opened n outs c)
 opened-sets n outs c h = record { wanted = put_all-IsSet (without outs (put n c.open_nodes)) (take_out n c.wanted) (take_out-IsSet n c.wanted h.wanted); open_nodes = put-IsSet n c.open_nodes h.open_nodes; changed = h.changed }
@@ -82,11 +82,11 @@ step-sets graph s (steps.Discover t n c) h u =
 step-sets graph s (steps.Drop t n o) h u = ensured s t o h u
 step-sets graph s (steps.Mark t m) h u = h u
 step-sets graph s (steps.Look t) h u = with_call-sets s t (with_look (look_value s t (next_look s t))) (λ c. refl) (λ c. same-sets c (with_look (look_value s t (next_look s t)) c) refl refl refl) h u
-step-sets graph s (steps.End t) h u = go (true_or_false (u == t))
+step-sets graph s (steps.End t) h u = go (cases_Bool (u == t))
   where
     go : ((u == t) ≡ true) ⊎ ((u == t) ≡ false) → HasSets (call_or (call_of (without_call t s.calls) u))
-    go (inl e) = subst (λ (w : ℕ). HasSets (call_or (call_of (without_call t s.calls) w))) (sym (same_number u t e)) (subst (λ (o : Option LiveCall). HasSets (call_or o)) (sym (without_call-same t s.calls)) no_call-HasSets)
-    go (inr e) = subst (λ (o : Option LiveCall). HasSets (call_or o)) (sym (without_call-other t u s.calls (λ x. is_not_true _ e (equal_test u t x)))) (h u)
+    go (inl e) = subst (λ (w : ℕ). HasSets (call_or (call_of (without_call t s.calls) w))) (sym (eqb-true u t e)) (subst (λ (o : Option LiveCall). HasSets (call_or o)) (sym (without_call-same t s.calls)) no_call-HasSets)
+    go (inr e) = subst (λ (o : Option LiveCall). HasSets (call_or o)) (sym (without_call-other t u s.calls (λ x. both_ways _ e (eq-eqb u t x)))) (h u)
 step-sets graph s (steps.Collect n) h u = h u
 
 before-sets : (graph : Graph) (s : Core) → IsLawful graph s → (u : ℕ) → HasSets (call s u)

@@ -1,5 +1,6 @@
 -- A move of others leaves a live call all but what it wants and has open, and tells what it adds to these.
 use Rattle.std.proofs.Common.{◌≡◌, ℕ, Bool, true, false, ◌&&◌, ◌||◌, not, ◌==◌, refl, sym, ap, arith, List, true≢false, ◌∙◌, subst, Option, Some, None}
+use Rattle.std.proofs.lemmas.Bool.{eqb-true, eq-eqb, both_ways}
 use Rattle.std.specs.Prelude.{is_some}
 use Rattle.signal_graph.specs.Graph.{Graph, is_in}
 use Rattle.node_versions.specs.declared.entry.State.TheVariants.{Mark, Frame}
@@ -14,7 +15,6 @@ use Rattle.flow_model.specs.Machine.Changes.{enter, raise, ensure_mark, opened, 
 use Rattle.flow_model.specs.Machine.Steps.{apply, new_call, open_node, frame}
 use Rattle.flow_model.specs.Machine.Histories.{Move, Begin, Make, after_move}
 use Rattle.flow_model.specs.Follows.Others.{is_own_of, is_own_move, with_frame, after_others, after_others_move, IsKept, is_opened_by, is_given_by, IsGiven}
-use Rattle.flow_model.proofs.General.Truths.{same_number, equal_test, is_not_true}
 use Rattle.flow_model.proofs.OneList.CallsAndCells.{option_call, change_call-same, change_call-other, map_call-reads, without_call-other, call_of-append, last_call}
 use Rattle.flow_model.proofs.OneStep.ChangesOfOneList.{same_cell}
 use Rattle.flow_model.proofs.General.Sets.{in-put, in-put_all, in-take_out, in-without}
@@ -29,18 +29,18 @@ live-call s t l = go (call_of s.calls t) l
     go (Some c) k = refl
 
 other : (s : Core) (t u : ℕ) (f : LiveCall → LiveCall) → ((c : LiveCall) → (f c).version ≡ c.version) → live s t ≡ true → (u == t) ≡ false → call_of (with_call s u f).calls t ≡ Some (call s t)
-other s t u f v l ne = change_call-other u t f v s.calls (λ e. is_not_true _ ne (equal_test u t (sym e))) ∙ live-call s t l
+other s t u f v l ne = change_call-other u t f v s.calls (λ e. both_ways _ ne (eq-eqb u t (sym e))) ∙ live-call s t l
 
 -- ---- the steps that change other calls
 
-with_frame-calls : (s : Core) (u n : ℕ) → (with_frame s u n).calls ≡ s.calls
+pub with_frame-calls : (s : Core) (u n : ℕ) → (with_frame s u n).calls ≡ s.calls
 with_frame-calls s u n = go (at is_mark (entries s n) u)
   where
     go : (b : Bool) → (elim b as (λ _. Core) [ true ↦ raise s u n | false ↦ enter s u n Frame ]).calls ≡ s.calls
     go true = refl
     go false = refl
 
-frame-opens : (graph : Graph) (s : Core) (u n : ℕ) → frame graph s u n ≡ open_node graph (with_frame s u n) u n
+pub frame-opens : (graph : Graph) (s : Core) (u n : ℕ) → frame graph s u n ≡ open_node graph (with_frame s u n) u n
 frame-opens graph s u n = go (at is_mark (entries s n) u)
   where
     go : (b : Bool) → elim b as (λ _. Core) [ true ↦ open_node graph (raise s u n) u n | false ↦ open_node graph (enter s u n Frame) u n ] ≡ open_node graph (elim b as (λ _. Core) [ true ↦ raise s u n | false ↦ enter s u n Frame ]) u n
@@ -67,8 +67,8 @@ framed graph s t u n l = ap (λ (q : Core). call_of q.calls t) (frame-opens grap
     it = ap (λ (cs : List LiveCall). call_of cs t) (with_frame-calls s u n) ∙ live-call s t l
 
     go : (b : Bool) → (t == u) ≡ b → call_of (with_call q u f).calls t ≡ Some (elim b as (λ _. LiveCall) [ true ↦ f (call s t) | false ↦ call s t ])
-    go true e = subst (λ (w : ℕ). call_of (with_call q w f).calls t ≡ Some (f (call s t))) (same_number t u e) (change_call-same t f (λ c. refl) q.calls ∙ ap (option_call f) it)
-    go false e = change_call-other u t f (λ c. refl) q.calls (λ x. is_not_true _ e (equal_test t u x)) ∙ it
+    go true e = subst (λ (w : ℕ). call_of (with_call q w f).calls t ≡ Some (f (call s t))) (eqb-true t u e) (change_call-same t f (λ c. refl) q.calls ∙ ap (option_call f) it)
+    go false e = change_call-other u t f (λ c. refl) q.calls (λ x. both_ways _ e (eq-eqb t u x)) ∙ it
 
 told : (graph : Graph) (s : Core) (t u n i : ℕ) → live s t ≡ true → call_of (apply graph s (steps.Discover u n i)).calls t ≡ Some (after_others graph s (steps.Discover u n i) (call s t))
 told graph s t u n i l = map_call-reads (tell_call (entries q i) u n) (λ c. refl) q.calls t
@@ -91,7 +91,7 @@ others-call graph s (steps.Discover u n i) t l o = told graph s t u n i l
 others-call graph s (steps.Drop u n i) t l o = ap (λ (cs : List LiveCall). call_of cs t) (ensured-calls s u i) ∙ live-call s t l
 others-call graph s (steps.Mark u m) t l o = live-call s t l
 others-call graph s (steps.Look u) t l o = other s t u _ (λ c. refl) l o
-others-call graph s (steps.End u) t l o = without_call-other u t s.calls (λ e. is_not_true _ o (equal_test u t (sym e))) ∙ live-call s t l
+others-call graph s (steps.End u) t l o = without_call-other u t s.calls (λ e. both_ways _ o (eq-eqb u t (sym e))) ∙ live-call s t l
 others-call graph s (steps.Collect n) t l o = live-call s t l
 
 pub others-move : (graph : Graph) (s : Core) (move : Move) (t : ℕ) → live s t ≡ true → is_own_move t move ≡ false → call_of (after_move graph s move).calls t ≡ Some (after_others_move graph s move (call s t))

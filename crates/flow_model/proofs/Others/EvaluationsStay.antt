@@ -1,7 +1,9 @@
 -- What a call may evaluate it may after each move but the evaluation itself, also its own at other nodes, and finds the same.
 use Rattle.std.proofs.Common.{◌≡◌, ◌≢◌, ℕ, Bool, true, false, ◌&&◌, ◌||◌, not, ◌==◌, ◌⊎◌, inl, inr, refl, sym, ap, arith, List, true≢false, ◌∙◌, subst, Option, Some, None}
+use Rattle.std.proofs.lemmas.Bool.{or_cases, eqb-true, false_from_ne_true, both_ways, not-true}
 use Rattle.std.specs.Prelude.{is_some, is_none}
 use Rattle.script_tree.specs.declared.value.Value.{Value}
+use Rattle.script_tree.proofs.Truths.{and_left, and_right}
 use Rattle.signal_graph.specs.Graph.{Graph, is_in, is_source, node_at, inputs_of, body_of}
 use Rattle.signal_graph.specs.Values.{nodes_in}
 use Rattle.node_versions.specs.declared.entry.State.TheVariants.{Done}
@@ -16,8 +18,7 @@ use Rattle.flow_model.specs.Machine.Steps.{allowed, apply, all_gathered, gather,
 use Rattle.flow_model.specs.Machine.Histories.{Move, Begin, Make, may, after_move}
 use Rattle.flow_model.specs.Kept.Lawful.{IsLawful}
 use Rattle.flow_model.specs.Follows.Others.{is_own_of}
-use Rattle.flow_model.proofs.General.Truths.{or_cases, same_number, not_true, is_not_true}
-use Rattle.flow_model.proofs.OneStep.WhoMayStep.{and_left, and_right, not_is, executes-live, at_front-executes, at_front-heads, can_work-at_front, start-is_framing, skip-can_work, evaluate-at_front, body-at_front, resolve-can_work, look-idle, end-idle}
+use Rattle.flow_model.proofs.OneStep.WhoMayStep.{executes-live, at_front-executes, at_front-heads, can_work-at_front, start-is_framing, skip-can_work, evaluate-at_front, body-at_front, resolve-can_work, look-idle, end-idle}
 use Rattle.flow_model.proofs.OneList.CallsAndCells.{with_call-keeps, map_call-keeps}
 use Rattle.flow_model.proofs.OneStep.SameCallers.{ensured}
 use Rattle.flow_model.proofs.General.Sets.{in-put}
@@ -66,10 +67,10 @@ finish-untouched s t n0 v b ps ds l apart = record {
 
 -- A node that is open for the call is none that a node rests on at whose front the call is.
 open-apart : (graph : Graph) (s : Core) (t n n0 : ℕ) → at_front graph s t n ≡ true → opens s t n0 ≡ true → (m : ℕ) → is_in m (deps graph s t n) ≡ true → (m == n0) ≡ false
-open-apart graph s t n n0 f o m d = not_true _ (λ e. is_not_true _ (any-none (opens s t) (deps graph s t n) m (not_is _ (and_right _ _ f)) d) (subst (λ (v : ℕ). opens s t v ≡ true) (sym (same_number m n0 e)) o))
+open-apart graph s t n n0 f o m d = false_from_ne_true _ (λ e. both_ways _ (any-none (opens s t) (deps graph s t n) m (not-true _ (and_right _ _ f)) d) (subst (λ (v : ℕ). opens s t v ≡ true) (sym (eqb-true m n0 e)) o))
 
 idle-absurd : {A : Type 0} (graph : Graph) (s : Core) → IsLawful graph s → (t n : ℕ) → at_front graph s t n ≡ true → is_idle s t ≡ true → A
-idle-absurd graph s h t n f i = absurd (is_not_true _ (idle-no_frame graph s h t n i) (opens-frame graph s h t n (heads-opens graph s h t n (at_front-heads graph s t n f))))
+idle-absurd graph s h t n f i = absurd (both_ways _ (idle-no_frame graph s h t n i) (opens-frame graph s h t n (heads-opens graph s h t n (at_front-heads graph s t n f))))
 
 -- The call's own step, where it neither works nor finishes at the node.
 own-in_front : (graph : Graph) (s : Core) → IsLawful graph s → (t n : ℕ) → at_front graph s t n ≡ true → (step : Step) → allowed graph s step ≡ true → is_own_of t step ≡ true → works_at n step ≡ false → StaysInFront graph s (apply graph s step) t n
@@ -86,7 +87,7 @@ own-in_front graph s h t n f step a o w = go step o w a
 
     -- the call of the step is this one
     by : (make : ℕ → Step) (u : ℕ) → (u == t) ≡ true → (allowed graph s (make t) ≡ true → StaysInFront graph s (apply graph s (make t)) t n) → allowed graph s (make u) ≡ true → StaysInFront graph s (apply graph s (make u)) t n
-    by make u e k = subst (λ (v : ℕ). allowed graph s (make v) ≡ true → StaysInFront graph s (apply graph s (make v)) t n) (sym (same_number u t e)) k
+    by make u e k = subst (λ (v : ℕ). allowed graph s (make v) ≡ true → StaysInFront graph s (apply graph s (make v)) t n) (sym (eqb-true u t e)) k
 
     quiet : (y : Step) → finishes y ≡ false → works y ≡ false → IsUntouched s (apply graph s y) t (deps graph s t n) → allowed graph s y ≡ true → StaysInFront graph s (apply graph s y) t n
     quiet y e1 e2 un a = front-from graph s h (Make y) a t n f (quiet-keeps graph s y h a t n hd x e1 e2) un
@@ -111,7 +112,7 @@ own-in_front graph s h t n f step a o w = go step o w a
 
     go : (y : Step) → is_own_of t y ≡ true → works_at n y ≡ false → allowed graph s y ≡ true → StaysInFront graph s (apply graph s y) t n
     go (steps.Frame u n0) o w a = absurd (true≢false (sym o))
-    go (steps.Start u) o w a = absurd (starts (live s u) (executes s u) (start-is_framing graph s u a) (subst (λ (v : ℕ). executes s v ≡ true) (sym (same_number u t o)) x))
+    go (steps.Start u) o w a = absurd (starts (live s u) (executes s u) (start-is_framing graph s u a) (subst (λ (v : ℕ). executes s v ≡ true) (sym (eqb-true u t o)) x))
       where
         starts : (p e : Bool) → (p && not e) ≡ true → e ≡ true → ⊥
         starts p e i j = grind (arith, i, j)
@@ -129,8 +130,8 @@ own-in_front graph s h t n f step a o w = go step o w a
     go (steps.Discover u n0 c) o w a = by (λ v. steps.Discover v n0 c) u o (quiet (steps.Discover t n0 c) refl refl (discovered n0 c)) a
     go (steps.Drop u n0 c) o w a = by (λ v. steps.Drop v n0 c) u o (quiet (steps.Drop t n0 c) refl refl (same-call s (apply graph s (steps.Drop t n0 c)) t (deps graph s t n) (ensured (λ y. y.executing) s t c t) (ensured (λ y. y.open_nodes) s t c t) (ensured (λ y. y.changed) s t c t))) a
     go (steps.Mark u m) o w a = by (λ v. steps.Mark v m) u o (quiet (steps.Mark t m) refl refl (same-call s (apply graph s (steps.Mark t m)) t (deps graph s t n) refl refl refl)) a
-    go (steps.Look u) o w a = idle-absurd graph s h t n f (subst (λ (v : ℕ). is_idle s v ≡ true) (same_number u t o) (look-idle graph s u a))
-    go (steps.End u) o w a = idle-absurd graph s h t n f (subst (λ (v : ℕ). is_idle s v ≡ true) (same_number u t o) (end-idle graph s u a))
+    go (steps.Look u) o w a = idle-absurd graph s h t n f (subst (λ (v : ℕ). is_idle s v ≡ true) (eqb-true u t o) (look-idle graph s u a))
+    go (steps.End u) o w a = idle-absurd graph s h t n f (subst (λ (v : ℕ). is_idle s v ≡ true) (eqb-true u t o) (end-idle graph s u a))
     go (steps.Collect n0) o w a = absurd (true≢false (sym o))
 
 -- ---- evaluations
@@ -144,7 +145,7 @@ record IsEvaluable (graph : Graph) (s : Core) (t n : ℕ) : Type 0 where
   unfinished : is_worked_out graph s t n ≡ false
 
 touched-other : (graph : Graph) (s : Core) (t n : ℕ) → touched graph s t n ≡ true → is_source (node_at graph n) ≡ false
-touched-other graph s t n k = not_is _ (and_left _ _ k)
+touched-other graph s t n k = not-true _ (and_left _ _ k)
 
 -- Of the steps at such a node only Evaluate and Body are left.
 own-here : (graph : Graph) (s : Core) (t n : ℕ) → IsEvaluable graph s t n → (step : Step) → allowed graph s step ≡ true → is_own_of t step ≡ true → works_at n step ≡ true → (step ≡ steps.Evaluate t n) ⊎ (step ≡ steps.Body t n)
@@ -152,20 +153,20 @@ own-here graph s t n k step a o w = go step a o w
   where
     -- the call and the node of the step are these
     at_it : (make : ℕ → ℕ → Step) (u n0 : ℕ) → (u == t) ≡ true → (n == n0) ≡ true → allowed graph s (make u n0) ≡ true → allowed graph s (make t n) ≡ true
-    at_it make u n0 o w a = subst (λ (v : ℕ). allowed graph s (make v n) ≡ true) (same_number u t o) (subst (λ (j : ℕ). allowed graph s (make u j) ≡ true) (sym (same_number n n0 w)) a)
+    at_it make u n0 o w a = subst (λ (v : ℕ). allowed graph s (make v n) ≡ true) (eqb-true u t o) (subst (λ (j : ℕ). allowed graph s (make u j) ≡ true) (sym (eqb-true n n0 w)) a)
 
     both : (make : ℕ → ℕ → Step) (u n0 : ℕ) → (u == t) ≡ true → (n == n0) ≡ true → make u n0 ≡ make t n
-    both make u n0 o w = ap (λ (v : ℕ). make v n0) (same_number u t o) ∙ ap (λ (j : ℕ). make t j) (sym (same_number n n0 w))
+    both make u n0 o w = ap (λ (v : ℕ). make v n0) (eqb-true u t o) ∙ ap (λ (j : ℕ). make t j) (sym (eqb-true n n0 w))
 
     no_resolve : (is_source (node_at graph n) ≡ true) ⊎ ((touched graph s t n && is_worked_out graph s t n) ≡ true) → ⊥
-    no_resolve (inl e) = is_not_true (is_source (node_at graph n)) (touched-other graph s t n k.touches) e
-    no_resolve (inr e) = is_not_true (is_worked_out graph s t n) k.unfinished (and_right (touched graph s t n) (is_worked_out graph s t n) e)
+    no_resolve (inl e) = both_ways (is_source (node_at graph n)) (touched-other graph s t n k.touches) e
+    no_resolve (inr e) = both_ways (is_worked_out graph s t n) k.unfinished (and_right (touched graph s t n) (is_worked_out graph s t n) e)
 
     go : (y : Step) → allowed graph s y ≡ true → is_own_of t y ≡ true → works_at n y ≡ true → (y ≡ steps.Evaluate t n) ⊎ (y ≡ steps.Body t n)
     go (steps.Frame u n0) a o w = absurd (true≢false (sym o))
     go (steps.Start u) a o w = absurd (true≢false (sym w))
-    go (steps.Skip u n0) a o w = absurd (is_not_true (touched graph s t n) (skip-untouched graph s t n (at_it steps.Skip u n0 o w a)) k.touches)
-    go (steps.Gather u n0 m) a o w = let b = at_it (λ v j. steps.Gather v j m) u n0 o w a in absurd (is_not_true (is_gathered s n m) (gather-fresh graph s t n m b) (k.gathered m (gather-asked graph s t n m b)))
+    go (steps.Skip u n0) a o w = absurd (both_ways (touched graph s t n) (skip-untouched graph s t n (at_it steps.Skip u n0 o w a)) k.touches)
+    go (steps.Gather u n0 m) a o w = let b = at_it (λ v j. steps.Gather v j m) u n0 o w a in absurd (both_ways (is_gathered s n m) (gather-fresh graph s t n m b) (k.gathered m (gather-asked graph s t n m b)))
     go (steps.Evaluate u n0) a o w = inl (both steps.Evaluate u n0 o w)
     go (steps.Body u n0) a o w = inr (both steps.Body u n0 o w)
     go (steps.Resolve u n0) a o w = absurd (no_resolve (or_cases (is_source (node_at graph n)) (touched graph s t n && is_worked_out graph s t n) (resolve-rest graph s t n (at_it steps.Resolve u n0 o w a))))
@@ -194,11 +195,11 @@ evaluate-evaluable graph s t n e = record {
   front = evaluate-at_front graph s t n e;
   touches = and_right _ _ (and_left _ _ (and_left _ _ e));
   gathered = λ m k. gathered m (or_cases (is_in m (inputs_of (node_at graph n))) (is_candidate s n m) k);
-  unfinished = not_true _ (λ w. is_not_true _ not_found (and_left _ _ (and_left _ _ (and_left _ _ (and_left _ _ w)))));
+  unfinished = false_from_ne_true _ (λ w. both_ways _ not_found (and_left _ _ (and_left _ _ (and_left _ _ (and_left _ _ w)))));
 }
   where
     not_found : is_found s n ≡ false
-    not_found = not_is (is_found s n) (and_right (at_front graph s t n && touched graph s t n && all_gathered s n (inputs_of (node_at graph n))) (not (is_found s n)) e)
+    not_found = not-true (is_found s n) (and_right (at_front graph s t n && touched graph s t n && all_gathered s n (inputs_of (node_at graph n))) (not (is_found s n)) e)
 
     no_candidate : (o : Option Found) → is_some o ≡ false → (m : ℕ) → is_in m (nodes_in (picks_of_found o)) ≡ true → ⊥
     no_candidate None k m i = true≢false (sym i)
@@ -210,7 +211,7 @@ evaluate-evaluable graph s t n e = record {
 
 -- Where a node's scripts may be evaluated, its body may not.
 evaluate-not_body : (graph : Graph) (s : Core) (t n : ℕ) → allowed graph s (steps.Evaluate t n) ≡ true → allowed graph s (steps.Body t n) ≡ true → ⊥
-evaluate-not_body graph s t n e b = is_not_true _ (not_is _ (and_right _ _ e)) (and_right _ _ (and_left _ _ (and_left _ _ b)))
+evaluate-not_body graph s t n e b = both_ways _ (not-true _ (and_right _ _ e)) (and_right _ _ (and_left _ _ (and_left _ _ b)))
 
 pub evaluate-stays : (graph : Graph) (s : Core) (move : Move) → IsLawful graph s → may graph s move ≡ true → (t n : ℕ) → move ≢ Make (steps.Evaluate t n) → allowed graph s (steps.Evaluate t n) ≡ true
     → (allowed graph (after_move graph s move) (steps.Evaluate t n) ≡ true) × (found_now graph (after_move graph s move) t n ≡ found_now graph s t n)
@@ -222,7 +223,7 @@ body-evaluable graph s h t n e = record {
   front = body-at_front graph s t n e;
   touches = and_right _ _ (and_left _ _ (and_left _ _ (and_left _ _ (and_left _ _ e))));
   gathered = λ m k. gathered m (or_cases (is_in m (inputs_of (node_at graph n))) (is_candidate s n m) k);
-  unfinished = not_true _ (λ w. unfinished (body_of (node_at graph n)) (cell s n).body (and_right _ _ (and_left _ _ (and_left _ _ (and_left _ _ e)))) (and_right _ _ e) (and_right _ _ w));
+  unfinished = false_from_ne_true _ (λ w. unfinished (body_of (node_at graph n)) (cell s n).body (and_right _ _ (and_left _ _ (and_left _ _ (and_left _ _ e)))) (and_right _ _ e) (and_right _ _ w));
 }
   where
     found : is_found s n ≡ true

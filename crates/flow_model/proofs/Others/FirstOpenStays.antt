@@ -1,8 +1,10 @@
 -- The first open call of a node stays first there, with the same work, after each move but its own work there.
 use Rattle.std.proofs.Common.{◌≡◌, ℕ, Bool, true, false, ◌&&◌, ◌||◌, not, ◌==◌, ◌⊎◌, inl, inr, refl, sym, ap, ap₂, arith, List, [], ◌∷◌, ◌++◌, true≢false, ◌∙◌, subst, Option, Some}
+use Rattle.std.proofs.lemmas.Bool.{or_cases, or_left, or_right, and_from, eqb-true, eq-eqb, false_from_ne_true, both_ways, not-true}
 use Rattle.std.specs.Prelude.{is_some, is_none}
 use Rattle.std.specs.List.{list_any, list_all}
 use Rattle.script_tree.specs.declared.value.Value.{Value}
+use Rattle.script_tree.proofs.Truths.{and_left, and_right}
 use Rattle.signal_graph.specs.Graph.{Graph, is_in, is_source, node_at, inputs_of, body_of}
 use Rattle.signal_graph.specs.Values.{nodes_in}
 use Rattle.node_versions.specs.declared.entry.Entry.{Entry}
@@ -18,8 +20,7 @@ use Rattle.flow_model.specs.Machine.Steps.{allowed, apply, all_gathered, gather,
 use Rattle.flow_model.specs.Machine.Histories.{Move, Begin, Make, may, after_move}
 use Rattle.flow_model.specs.Kept.Lawful.{IsLawful}
 use Rattle.flow_model.specs.Follows.Others.{is_own_of, is_own_move, IsKept, is_opened_by}
-use Rattle.flow_model.proofs.General.Truths.{or_cases, or_left, or_right, and_make, same_number, equal_test, not_true, is_not_true}
-use Rattle.flow_model.proofs.OneStep.WhoMayStep.{and_left, and_right, not_is, executes-live, frame-wants, at_front-executes, at_front-heads, can_work-at_front, due-can_work, skip-can_work, gather-due, evaluate-at_front, body-at_front, resolve-can_work}
+use Rattle.flow_model.proofs.OneStep.WhoMayStep.{executes-live, frame-wants, at_front-executes, at_front-heads, can_work-at_front, due-can_work, skip-can_work, gather-due, evaluate-at_front, body-at_front, resolve-can_work}
 use Rattle.flow_model.proofs.OrderStays.NoFrameBeforeDones.{head-first}
 use Rattle.flow_model.proofs.OneStep.ChangesOfOneList.{ListStep, stays, step-list}
 use Rattle.flow_model.proofs.OrderStays.OpenNodesHaveFrames.{cell-other}
@@ -35,7 +36,7 @@ use Rattle.flow_model.proofs.FramesSpread.AfterDones.{heads-same}
 
 -- Two first open calls are so at different nodes.
 apart : (s : Core) (t u n n0 : ℕ) → heads s t n ≡ true → (u == t) ≡ false → heads s u n0 ≡ true → (n == n0) ≡ false
-apart s t u n n0 hd ne k = not_true _ (λ e. is_not_true _ ne (equal_test u t (heads-same s t u n hd (subst (λ (m : ℕ). heads s u m ≡ true) (sym (same_number n n0 e)) k))))
+apart s t u n n0 hd ne k = false_from_ne_true _ (λ e. both_ways _ ne (eq-eqb u t (heads-same s t u n hd (subst (λ (m : ℕ). heads s u m ≡ true) (sym (eqb-true n n0 e)) k))))
 
 pub record Keeps (s q : Core) (t n : ℕ) : Type 0 where
   pub head : first_open (entries q n) ≡ Some t
@@ -89,12 +90,12 @@ move-list graph s (Make step) h a n = step-list graph s step h a n
 
 any-same : (test test2 : ℕ → Bool) (xs : List ℕ) → ((m : ℕ) → is_in m xs ≡ true → test2 m ≡ true → test m ≡ true) → list_any test xs ≡ false → list_any test2 xs ≡ false
 any-same test test2 [] f h = refl
-any-same test test2 (x ∷ xs) f h = let a = f x (or_left _ _ (equal_test x x refl)) in let r = any-same test test2 xs (λ m k. f m (or_right _ _ k)) in grind (arith, a, r, h)
+any-same test test2 (x ∷ xs) f h = let a = f x (or_left _ _ (eq-eqb x x refl)) in let r = any-same test test2 xs (λ m k. f m (or_right _ _ k)) in grind (arith, a, r, h)
 
 -- What a move of others opens for a call the call wanted.
 opened-wanted : (graph : Graph) (s : Core) (move : Move) → may graph s move ≡ true → (t m : ℕ) → is_opened_by t move m ≡ true → wants s t m ≡ true
 opened-wanted graph s (Begin caller c) a t m k = absurd (true≢false (sym k))
-opened-wanted graph s (Make (steps.Frame u n)) a t m k = subst (λ (v : ℕ). wants s v m ≡ true) (sym (same_number t u (and_left _ _ k))) (subst (λ (j : ℕ). wants s u j ≡ true) (sym (same_number m n (and_right _ _ k))) (frame-wants graph s u n a))
+opened-wanted graph s (Make (steps.Frame u n)) a t m k = subst (λ (v : ℕ). wants s v m ≡ true) (sym (eqb-true t u (and_left _ _ k))) (subst (λ (j : ℕ). wants s u j ≡ true) (sym (eqb-true m n (and_right _ _ k))) (frame-wants graph s u n a))
 opened-wanted graph s (Make (steps.Start u)) a t m k = absurd (true≢false (sym k))
 opened-wanted graph s (Make (steps.Skip u n)) a t m k = absurd (true≢false (sym k))
 opened-wanted graph s (Make (steps.Gather u n i)) a t m k = absurd (true≢false (sym k))
@@ -110,7 +111,7 @@ opened-wanted graph s (Make (steps.Collect n)) a t m k = absurd (true≢false (s
 
 any-equal : (test test2 : ℕ → Bool) (xs : List ℕ) → ((m : ℕ) → is_in m xs ≡ true → test2 m ≡ test m) → list_any test2 xs ≡ list_any test xs
 any-equal test test2 [] f = refl
-any-equal test test2 (x ∷ xs) f = ap₂ (λ (a b : Bool). a || b) (f x (or_left _ _ (equal_test x x refl))) (any-equal test test2 xs (λ m k. f m (or_right _ _ k)))
+any-equal test test2 (x ∷ xs) f = ap₂ (λ (a b : Bool). a || b) (f x (or_left _ _ (eq-eqb x x refl))) (any-equal test test2 xs (λ m k. f m (or_right _ _ k)))
 
 -- What is left of a call, as far as a node goes that rests on these nodes: none of them comes to be open or changed.
 pub record IsUntouched (s q : Core) (t : ℕ) (ds : List ℕ) : Type 0 where
@@ -127,7 +128,7 @@ pub record StaysInFront (graph : Graph) (s q : Core) (t n : ℕ) : Type 0 where
 
 pub front-from : (graph : Graph) (s : Core) → IsLawful graph s → (move : Move) → may graph s move ≡ true → (t n : ℕ) → at_front graph s t n ≡ true → Keeps s (after_move graph s move) t n → IsUntouched s (after_move graph s move) t (deps graph s t n) → StaysInFront graph s (after_move graph s move) t n
 front-from graph s h move a t n f keeps un = record {
-  front = and_make _ _ (and_make _ _ (un.executing ∙ at_front-executes graph s t n f) (is-some (first_open (entries q n)) t keeps.head)) (ap not (ap (list_any (opens q t)) same_deps ∙ any-same (opens s t) (opens q t) (deps graph s t n) un.opens_less (not_is _ (and_right _ _ f))));
+  front = and_from _ _ (and_from _ _ (un.executing ∙ at_front-executes graph s t n f) (is-some (first_open (entries q n)) t keeps.head)) (ap not (ap (list_any (opens q t)) same_deps ∙ any-same (opens s t) (opens q t) (deps graph s t n) un.opens_less (not-true _ (and_right _ _ f))));
   touches = ap (λ (ds : List ℕ). not (is_source (node_at graph n)) && list_any (changes q t) ds) same_deps ∙ ap (λ (b : Bool). not (is_source (node_at graph n)) && b) (any-equal (changes s t) (changes q t) (deps graph s t n) un.changed);
   before_it = same_before;
   work = keeps.work;
@@ -164,7 +165,7 @@ others-in_front graph s move h a t n o f = front-from graph s h move a t n f (mo
 
     opens_less : (m : ℕ) → is_in m (deps graph s t n) ≡ true → (opens s t m ≡ true) ⊎ (is_opened_by t move m ≡ true) → opens s t m ≡ true
     opens_less m d (inl e) = e
-    opens_less m d (inr e) = absurd (is_not_true _ (head-wants_none graph s h t n m hd x d) (opened-wanted graph s move a t m e))
+    opens_less m d (inr e) = absurd (both_ways _ (head-wants_none graph s h t n m hd x d) (opened-wanted graph s move a t m e))
 
 -- ---- what may be evaluated
 

@@ -1,5 +1,6 @@
 -- A move changes no list and no out-edges but those of the node that it is kept under.
 use Rattle.std.proofs.Common.{◌≡◌, ◌≢◌, ℕ, Bool, true, false, ◌==◌, refl, sym, ap, List, [], ◌∷◌, ◌∙◌, Some}
+use Rattle.std.proofs.lemmas.Bool.{eqb-true, false_from_ne_true}
 use Rattle.std.specs.List.{AllByRecursion}
 use Rattle.signal_graph.specs.Graph.{Graph}
 use Rattle.node_versions.specs.declared.entry.State.TheVariants.{Mark, Frame, Done}
@@ -13,13 +14,12 @@ use Rattle.flow_model.specs.Machine.Steps.{apply, open_node, frame, gather, keep
 use Rattle.flow_model.specs.Machine.Keys.{list_of_step}
 use Rattle.flow_model.specs.Machine.Histories.{Move, Begin, Make, after_move, after_moves}
 use Rattle.flow_model.specs.Follows.Others.{list_of, IsSameList}
-use Rattle.flow_model.proofs.General.Truths.{same_number, not_true}
 use Rattle.flow_model.proofs.OneStep.ChangesOfOneList.{same_cell}
 use Rattle.flow_model.proofs.FramesSpread.AfterOtherSteps.{same_outs}
 use Rattle.flow_model.proofs.OrderStays.OpenNodesHaveFrames.{cell-other}
 
 apart : (n m : ℕ) → Some n ≢ Some m → (m == n) ≡ false
-apart n m h = not_true _ (λ e. h (ap Some (sym (same_number m n e))))
+apart n m h = false_from_ne_true _ (λ e. h (ap Some (sym (eqb-true m n e))))
 
 same-list : (s q : Core) (m : ℕ) → cell q m ≡ cell s m → IsSameList s q m
 same-list s q m e = record { entries = ap (λ (c : Cell). c.entries) e; outs = ap (λ (c : Cell). c.outs) e }

@@ -4,6 +4,7 @@ use Rattle.std.specs.Prelude.{is_some}
 use Rattle.std.specs.List.{list_any}
 use Rattle.std.specs.Option.{option_or}
 use Rattle.std.proofs.lemmas.List.Folds.{list_any-append}
+use Rattle.std.proofs.lemmas.Bool.{or_cases, eqb-true, eq-eqb, false_from_ne_true, both_ways, cases_Bool}
 use Rattle.script_tree.specs.declared.value.Value.{Value}
 use Rattle.signal_graph.specs.Graph.{is_in}
 use Rattle.signal_graph.specs.Values.{nodes_in}
@@ -11,9 +12,9 @@ use Rattle.node_versions.specs.declared.entry.State.{State}
 use Rattle.node_versions.specs.declared.entry.State.TheVariants.{Mark, Frame, Done}
 use Rattle.node_versions.specs.declared.entry.Entry.{Entry}
 use Rattle.node_versions.specs.Entries.{IsUnique, has, at, is_frame, is_done, behind, before, up_to, last_done, only_done, picks_of, picks_at, picks_before, with_state}
+use Rattle.node_versions.proofs.Places.{at-has}
 use Rattle.flow_model.specs.Kept.Runs.{Run, Reading, close, read_done, read_state, read_all, nothing_read}
-use Rattle.flow_model.proofs.General.Truths.{or_cases, same_number, equal_test, not_true, is_not_true, true_or_false}
-use Rattle.flow_model.proofs.OneList.StatesAndPlaces.{at-has, behind-has}
+use Rattle.flow_model.proofs.OneList.StatesAndPlaces.{behind-has}
 use Rattle.flow_model.proofs.Reactions.WhereRunsBegin.{picked_in, Seen, or-or, or-none, state_seen}
 
 -- ---- a run that has ended
@@ -41,7 +42,7 @@ ends-more test m e es o u p = record {
 }
   where
     other : (e.version == p.call) ≡ false
-    other = not_true _ (λ x. is_not_true _ u (subst (λ (w : ℕ). has es w ≡ true) (sym (same_number e.version p.call x)) (at-has is_done es p.call p.done)))
+    other = false_from_ne_true _ (λ x. both_ways _ u (subst (λ (w : ℕ). has es w ≡ true) (sym (eqb-true e.version p.call x)) (at-has is_done es p.call p.done)))
 
 pub any-last : (test : Run → Bool) (rs : List Run) (r : Run) → list_any test (rs ++ r ∷ []) ≡ true → (list_any test rs ≡ true) ⊎ (test r ≡ true)
 any-last test rs r h = go (or_cases _ _ (sym (list_any-append test rs (r ∷ [])) ∙ h))
@@ -59,7 +60,7 @@ ends-here : (test : Run → Bool) (m : ℕ) (e : Entry) (es : List Entry) (q : R
 ends-here test m e es q o seen k = go e.state refl k
   where
     same : (e.version == e.version) ≡ true
-    same = equal_test e.version e.version refl
+    same = eq-eqb e.version e.version refl
 
     ended : (v : Value) (c : Bool) (ps : List (Option ℕ)) → e.state ≡ Done v c ps → is_in m (nodes_in ps) ≡ false → (r : Run) → q.current ≡ Some r → test (record r { ends = Some e.version }) ≡ true → EndsRun test m (e ∷ es) o
     ended v c ps x f r g y = record {
@@ -140,17 +141,17 @@ no_done-read m e q h = go e.state h
 
 pub no_dones-read : (m : ℕ) (es : List Entry) (q : Reading) → IsUnique es → ((v : ℕ) → has es v ≡ true → at is_done es v ≡ false) → read_all m es q ≡ q
 no_dones-read m [] q u h = refl
-no_dones-read m (e ∷ es) q u h = ap (read_all m es) (no_done-read m e q (let k = h e.version (let w = equal_test e.version e.version refl in rw (w, has) refl) in let w = equal_test e.version e.version refl in rw (w, at) at k))
-    ∙ no_dones-read m es q u.1 (λ v k. let ne : (e.version == v) ≡ false = not_true _ (λ x. is_not_true _ u.0 (subst (λ (w : ℕ). has es w ≡ true) (sym (same_number e.version v x)) k)) in let n = h v (rw (ne, has) k) in rw (ne, at) at n)
+no_dones-read m (e ∷ es) q u h = ap (read_all m es) (no_done-read m e q (let k = h e.version (let w = eq-eqb e.version e.version refl in rw (w, has) refl) in let w = eq-eqb e.version e.version refl in rw (w, at) at k))
+    ∙ no_dones-read m es q u.1 (λ v k. let ne : (e.version == v) ≡ false = false_from_ne_true _ (λ x. both_ways _ u.0 (subst (λ (w : ℕ). has es w ≡ true) (sym (eqb-true e.version v x)) k)) in let n = h v (rw (ne, has) k) in rw (ne, at) at n)
 
 -- Where no Done stands behind the call's Frame, its Done is read last.
 pub finished-reading : (m t : ℕ) (v : Value) (c : Bool) (ps : List (Option ℕ)) (es : List Entry) (q : Reading) → IsUnique es → at is_frame es t ≡ true → ((x : ℕ) → behind es t x ≡ true → at is_done es x ≡ false)
     → read_all m (with_state t (Done v c ps) es) q ≡ read_done m t ps (read_all m es q)
 finished-reading m t v c ps [] q u f none = absurd (true≢false (sym f))
-finished-reading m t v c ps (e ∷ es) q u f none = go (true_or_false (e.version == t)) (finished-reading m t v c ps es (read_state m e.version e.state q) u.1)
+finished-reading m t v c ps (e ∷ es) q u f none = go (cases_Bool (e.version == t)) (finished-reading m t v c ps es (read_state m e.version e.state q) u.1)
   where
     later : (x : ℕ) → has es x ≡ true → (e.version == x) ≡ false
-    later x k = not_true _ (λ y. is_not_true _ u.0 (subst (λ (w : ℕ). has es w ≡ true) (sym (same_number e.version x y)) k))
+    later x k = false_from_ne_true _ (λ y. both_ways _ u.0 (subst (λ (w : ℕ). has es w ≡ true) (sym (eqb-true e.version x y)) k))
 
     frame : (x : State) → is_frame x ≡ true → is_done x ≡ false
     frame Mark h = refl
@@ -165,7 +166,7 @@ finished-reading m t v c ps (e ∷ es) q u f none = go (true_or_false (e.version
         let rest = λ (x : ℕ) (k : has es x ≡ true). (let n = none x (rw (w, behind) k) in rw (later x k, at) at n) in
         let a = no_dones-read m es (read_done m e.version ps q) u.1 rest in
         let b = no_dones-read m es (read_state m e.version e.state q) u.1 rest ∙ no_done-read m e q (frame e.state fe) in
-        rw (w, with_state) (a ∙ ap (λ (x : ℕ). read_done m x ps q) (same_number e.version t w) ∙ ap (read_done m t ps) (sym b))
+        rw (w, with_state) (a ∙ ap (λ (x : ℕ). read_done m x ps q) (eqb-true e.version t w) ∙ ap (read_done m t ps) (sym b))
     go (inr w) further = rw (w, with_state) (further (rw (w, at) at f) (λ x k. let n = none x (rw (w, behind) k) in rw (later x (behind-has es t x k).1, at) at n))
 
 -- ---- a list with a Done
@@ -181,7 +182,7 @@ fresh-kept m (e ∷ es) q h = fresh-kept m es (read_state m e.version e.state q)
 
 pub done-not_fresh : (m : ℕ) (es : List Entry) (q : Reading) (u : ℕ) → at is_done es u ≡ true → (read_all m es q).fresh ≡ false
 done-not_fresh m [] q u h = absurd (true≢false (sym h))
-done-not_fresh m (e ∷ es) q u h = go (true_or_false (e.version == u)) (done-not_fresh m es (read_state m e.version e.state q) u)
+done-not_fresh m (e ∷ es) q u h = go (cases_Bool (e.version == u)) (done-not_fresh m es (read_state m e.version e.state q) u)
   where
     here : (x : State) → is_done x ≡ true → (read_state m e.version x q).fresh ≡ false
     here Mark k = absurd (true≢false (sym k))

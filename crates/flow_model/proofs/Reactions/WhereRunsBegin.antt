@@ -1,5 +1,6 @@
 -- The run in which a list ends begins at a Done that picks the candidate, where the last Done before that doesn't.
 use Rattle.std.proofs.Common.{true≢false, ◌≡◌, ℕ, Bool, true, false, ◌==◌, ◌⊎◌, inl, inr, refl, sym, ap, List, [], ◌∷◌, ◌∙◌, subst, Option, Some, None}
+use Rattle.std.proofs.lemmas.Bool.{eqb-true, eq-eqb, false_from_ne_true, both_ways, cases_Bool}
 use Rattle.std.specs.Prelude.{is_some}
 use Rattle.std.specs.Option.{option_or}
 use Rattle.script_tree.specs.declared.value.Value.{Value}
@@ -9,11 +10,12 @@ use Rattle.node_versions.specs.declared.entry.State.{State}
 use Rattle.node_versions.specs.declared.entry.State.TheVariants.{Mark, Frame, Done}
 use Rattle.node_versions.specs.declared.entry.Entry.{Entry}
 use Rattle.node_versions.specs.Entries.{IsUnique, has, at, is_done, before, up_to, last_done, only_done, state_of, picks_of, picks_at, picks_before, is_frame, behind}
+use Rattle.node_versions.proofs.Collecting.{last_is_done}
+use Rattle.node_versions.proofs.Places.{at-has}
 use Rattle.flow_model.specs.Kept.Runs.{Run, Reading, begin_at, go_on, read_done, read_state, read_all, nothing_read}
-use Rattle.flow_model.proofs.General.Truths.{true_or_false, same_number, equal_test, not_true, is_not_true}
-use Rattle.flow_model.proofs.OneList.StatesAndPlaces.{at-has, behind-has}
+use Rattle.flow_model.proofs.OneList.StatesAndPlaces.{behind-has}
 use Rattle.flow_model.proofs.OneList.InOrder.{last_done-has}
-use Rattle.flow_model.proofs.OneList.OneEntryACall.{last_done-at, last_done-done}
+use Rattle.flow_model.proofs.OneList.OneEntryACall.{last_done-at}
 
 -- The picks of a Done, where there is one, have the candidate.
 abbrev pub picked_in : ℕ → Option Entry → Bool
@@ -68,15 +70,15 @@ no_done-none es u h = go (last_done es) refl
   where
     go : (o : Option Entry) → last_done es ≡ o → last_done es ≡ None
     go None e = e
-    go (Some x) e = absurd (is_not_true _ (h x.version (last_done-has es x e)) (last_done-at is_done es x u e ∙ last_done-done es x e))
+    go (Some x) e = absurd (both_ways _ (h x.version (last_done-has es x e)) (last_done-at is_done es x u e ∙ last_is_done es x e))
 
 -- Where no Done stands behind a call's Frame, the last Done before it is the last of all.
 pub before-last : (es : List Entry) (t : ℕ) → IsUnique es → at is_frame es t ≡ true → ((v : ℕ) → behind es t v ≡ true → at is_done es v ≡ false) → last_done (before es t) ≡ last_done es
 before-last [] t u f none = absurd (true≢false (sym f))
-before-last (e ∷ es) t u f none = go (true_or_false (e.version == t)) (before-last es t u.1)
+before-last (e ∷ es) t u f none = go (cases_Bool (e.version == t)) (before-last es t u.1)
   where
     later : (v : ℕ) → has es v ≡ true → (e.version == v) ≡ false
-    later v k = not_true _ (λ x. is_not_true _ u.0 (subst (λ (w : ℕ). has es w ≡ true) (sym (same_number e.version v x)) k))
+    later v k = false_from_ne_true _ (λ x. both_ways _ u.0 (subst (λ (w : ℕ). has es w ≡ true) (sym (eqb-true e.version v x)) k))
 
     frame_only : (x : State) → e.state ≡ x → is_frame x ≡ true → only_done e ≡ None
     frame_only Mark a b = absurd (true≢false (sym b))
@@ -99,7 +101,7 @@ first-more m e es o b u p = record {
 }
   where
     other : (e.version == b) ≡ false
-    other = not_true _ (λ x. is_not_true _ u (subst (λ (w : ℕ). has es w ≡ true) (sym (same_number e.version b x)) (at-has is_done es b p.done)))
+    other = false_from_ne_true _ (λ x. both_ways _ u (subst (λ (w : ℕ). has es w ≡ true) (sym (eqb-true e.version b x)) (at-has is_done es b p.done)))
 
 begun_at : (fresh : Bool) (v b : ℕ) → (begin_at fresh v).begins ≡ Some b → v ≡ b
 begun_at true v b h = cc
@@ -111,7 +113,7 @@ first-here m e es q o r b seen k j = go e.state refl k
   where
     begins : (v : Value) (c : Bool) (ps : List (Option ℕ)) → e.state ≡ Done v c ps → is_in m (nodes_in ps) ≡ true → q.current ≡ None → e.version ≡ b → PicksFirst m (e ∷ es) o b
     begins v c ps x y z w =
-        let same : (e.version == b) ≡ true = equal_test e.version b w in record {
+        let same : (e.version == b) ≡ true = eq-eqb e.version b w in record {
           done = rw (same, at, x) refl;
           now = rw (same, up_to, only_done, x) (ap (λ (w : State). is_in m (nodes_in (picks_of w))) x ∙ y);
           prior = rw (same, before) (sym seen ∙ ap is_some z);

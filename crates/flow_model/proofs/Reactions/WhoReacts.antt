@@ -3,17 +3,18 @@ use Rattle.std.proofs.Common.{◌≡◌, ℕ, suc, Bool, true, false, ◌&&◌, 
 use Rattle.std.specs.Prelude.{slice_get}
 use Rattle.std.specs.List.{list_any}
 use Rattle.std.proofs.lemmas.List.Folds.{list_any-append}
+use Rattle.std.proofs.lemmas.Bool.{or_cases, or_left, or_right, and_parts, and_from, eqb-true, eq-eqb, both_ways, cases_Bool}
 use Rattle.signal_graph.specs.Graph.{Graph, is_in, static_outs}
 use Rattle.node_versions.specs.declared.entry.State.{State}
 use Rattle.node_versions.specs.declared.entry.State.TheVariants.{Mark}
 use Rattle.node_versions.specs.declared.entry.Entry.{Entry}
 use Rattle.node_versions.specs.Entries.{OutEdge, has, is_frame, behind, up_to, first_open, is_active, has_out, has_node, front, rest, placed}
+use Rattle.node_versions.proofs.KeptLemmas.{has-put}
 use Rattle.flow_model.specs.Machine.State.{Core, live, entries, outs}
 use Rattle.flow_model.specs.Machine.Changes.{stops}
 use Rattle.flow_model.specs.Kept.Runs.{Run, Reading, read_state, read_all, nothing_read, last_run, discovered, runs, is_from, is_until, covers, reacts}
-use Rattle.flow_model.proofs.General.Truths.{or_cases, or_left, or_right, and_both, and_make, same_number, equal_test, is_not_true, true_or_false}
 use Rattle.flow_model.proofs.OneList.InOrder.{on_calls, front-rest}
-use Rattle.flow_model.proofs.OneList.StatesAndPlaces.{more-has, more-behind, behind-has}
+use Rattle.flow_model.proofs.OneList.StatesAndPlaces.{more-behind, behind-has}
 
 -- the runs by a list and the out-edges at the candidate
 abbrev pub dropper_in : List Entry → List OutEdge → ℕ → Option ℕ
@@ -71,12 +72,12 @@ pub record Covers (s : Core) (m u : ℕ) (r : Run) : Type 0 where
 
 pub covers-parts : (s : Core) (m u : ℕ) (r : Run) → covers s m u r ≡ true → Covers s m u r
 covers-parts s m u r h =
-    let a = and_both (has (entries s m) u && is_from s m r.begins u) (is_until s m r.ends u) h in
-    let b = and_both (has (entries s m) u) (is_from s m r.begins u) a.0 in
+    let a = and_parts (has (entries s m) u && is_from s m r.begins u) (is_until s m r.ends u) h in
+    let b = and_parts (has (entries s m) u) (is_from s m r.begins u) a.0 in
     record { has_it = b.0; from = b.1; until = a.1 }
 
 pub parts-covers : (s : Core) (m u : ℕ) (r : Run) → Covers s m u r → covers s m u r ≡ true
-parts-covers s m u r c = and_make _ _ (and_make _ _ c.has_it c.from) c.until
+parts-covers s m u r c = and_from _ _ (and_from _ _ c.has_it c.from) c.until
 
 pub from-back : (s q : Core) (m u : ℕ) (begins : Option ℕ) → ((b : ℕ) → begins ≡ Some b → is_active (entries q m) b u ≡ true → is_active (entries s m) b u ≡ true) → is_from q m begins u ≡ true → is_from s m begins u ≡ true
 from-back s q m u None f h = refl
@@ -84,7 +85,7 @@ from-back s q m u (Some b) f h = f b refl h
 
 pub until-back : (s q : Core) (m u : ℕ) (ends : Option ℕ) → ((z : ℕ) → ends ≡ Some z → live q z ≡ true → behind (entries q m) u z ≡ true → (live s z ≡ true) × (behind (entries s m) u z ≡ true)) → is_until q m ends u ≡ true → is_until s m ends u ≡ true
 until-back s q m u None f h = refl
-until-back s q m u (Some z) f h = let a = and_both (live q z) (behind (entries q m) u z) h in let b = f z refl a.0 a.1 in and_make _ _ b.0 b.1
+until-back s q m u (Some z) f h = let a = and_parts (live q z) (behind (entries q m) u z) h in let b = f z refl a.0 a.1 in and_from _ _ b.0 b.1
 
 -- Where the runs are the same and each run that covers the call covered it, what reacts reacted.
 pub kept-reacts : (graph : Graph) (s q : Core) (u m n : ℕ) → runs q n m ≡ runs s n m → ((i : ℕ) (r : Run) → slice_get (runs s n m) i ≡ Some r → covers q m u r ≡ true → covers s m u r ≡ true)
@@ -132,14 +133,14 @@ more-up_to (x ∷ xs) ys e u b h k = let r = more-up_to xs ys e u b h k in grind
 
 -- An edge of another call is active after a call has entered the list where it was before; one of the call itself was too.
 pub placed-active : (stops : ℕ → Bool) (e : Entry) (es : List Entry) (u b : ℕ) → has es e.version ≡ false → (e.version == u) ≡ false → is_active (placed (on_calls stops) e es) b u ≡ true → is_active es b u ≡ true
-placed-active stops e es u b fresh ne h = go (true_or_false (e.version == b))
+placed-active stops e es u b fresh ne h = go (cases_Bool (e.version == b))
   where
     go : ((e.version == b) ≡ true) ⊎ ((e.version == b) ≡ false) → is_active es b u ≡ true
-    go (inl k) = let z = subst (λ (v : ℕ). has es v ≡ false) (same_number e.version b k) fresh in grind (arith, z)
+    go (inl k) = let z = subst (λ (v : ℕ). has es v ≡ false) (eqb-true e.version b k) fresh in grind (arith, z)
     go (inr k) =
         let xs = front (on_calls stops) es in
         let ys = rest (on_calls stops) es in
-        let a = more-has xs ys e b in
+        let a = has-put xs ys e b in
         let c = more-up_to xs ys e u b ne k in
         let j = front-rest stops es in
         let d = ap (λ (zs : List Entry). has zs b) j in
@@ -150,4 +151,4 @@ placed-active stops e es u b fresh ne h = go (true_or_false (e.version == b))
         same a b c d e x p q h = grind (arith, x, p, q, h)
 
 pub placed-behind : (stops : ℕ → Bool) (e : Entry) (es : List Entry) (u z : ℕ) → (e.version == u) ≡ false → (e.version == z) ≡ false → behind (placed (on_calls stops) e es) u z ≡ behind es u z
-placed-behind stops e es u z h k = more-behind (front (on_calls stops) es) (rest (on_calls stops) es) e u z (λ x. is_not_true _ h (equal_test e.version u (sym x))) (λ x. is_not_true _ k (equal_test e.version z (sym x))) ∙ ap (λ (xs : List Entry). behind xs u z) (front-rest stops es)
+placed-behind stops e es u z h k = more-behind (front (on_calls stops) es) (rest (on_calls stops) es) e u z (λ x. both_ways _ h (eq-eqb e.version u (sym x))) (λ x. both_ways _ k (eq-eqb e.version z (sym x))) ∙ ap (λ (xs : List Entry). behind xs u z) (front-rest stops es)

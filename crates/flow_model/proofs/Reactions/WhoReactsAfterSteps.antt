@@ -1,5 +1,6 @@
 -- What reacts after a Mark or an out-edge has come, or ended entries have gone, reacted before, or is the new out-edge's node.
 use Rattle.std.proofs.Common.{◌≡◌, ℕ, Bool, true, false, ◌||◌, not, ◌==◌, ◌⊎◌, inl, inr, refl, sym, ap, arith, List, ◌∙◌, subst, Some, None}
+use Rattle.std.proofs.lemmas.Bool.{or_cases, or_left, or_right, eqb-true, false_from_ne_true, both_ways, cases_Bool, true_from_ne_false}
 use Rattle.std.specs.Prelude.{slice_get}
 use Rattle.std.specs.List.{list_any}
 use Rattle.signal_graph.specs.Graph.{Graph, is_in, static_outs}
@@ -12,7 +13,6 @@ use Rattle.flow_model.specs.Machine.Changes.{place_entry, enter, ensure_mark, ad
 use Rattle.flow_model.specs.Machine.Steps.{collect}
 use Rattle.flow_model.specs.Kept.Runs.{Run, runs, covers, reacts}
 use Rattle.flow_model.specs.Kept.Lawful.{IsLawful, picks_last, last_run_of}
-use Rattle.flow_model.proofs.General.Truths.{or_cases, or_left, or_right, same_number, not_true, not_false, is_not_true, true_or_false}
 use Rattle.flow_model.proofs.OneList.InOrder.{on_calls}
 use Rattle.flow_model.proofs.OneList.OneEntryACall.{collected-unique, collected-behind_live}
 use Rattle.flow_model.proofs.OneList.Entering.{with_cell-cell}
@@ -29,12 +29,12 @@ use Rattle.flow_model.proofs.FramesSpread.AfterCollect.{Earlier, collected-any, 
 
 -- A call that enters a list covers no more for the calls that have an entry.
 marked-covers_at : (graph : Graph) (s : Core) → IsLawful graph s → (t c u m n : ℕ) → has (entries s c) t ≡ false → has (entries s m) u ≡ true → (i : ℕ) (r : Run) → slice_get (runs s n m) i ≡ Some r → covers (enter s t c Mark) m u r ≡ true → covers s m u r ≡ true
-marked-covers_at graph s h t c u m n fresh e i r x k = go (true_or_false (t == u))
+marked-covers_at graph s h t c u m n fresh e i r x k = go (cases_Bool (t == u))
   where
     go : ((t == u) ≡ true) ⊎ ((t == u) ≡ false) → covers s m u r ≡ true
     go (inr ne) = marked-covers graph s h t c u m n fresh ne i r x k
     go (inl y) =
-        let apart : (m == c) ≡ false = not_true _ (λ z. is_not_true _ fresh (subst (λ (w : ℕ). has (entries s w) t ≡ true) (same_number m c z) (subst (λ (v : ℕ). has (entries s m) v ≡ true) (sym (same_number t u y)) e))) in
+        let apart : (m == c) ≡ false = false_from_ne_true _ (λ z. both_ways _ fresh (subst (λ (w : ℕ). has (entries s w) t ≡ true) (eqb-true m c z) (subst (λ (v : ℕ). has (entries s m) v ≡ true) (sym (eqb-true t u y)) e))) in
         same_lists-covers s (enter s t c Mark) m u (ap (λ (w : Cell). w.entries) (cell-other s c m (place_entry s t Mark) apart)) (λ z j l. l) r k
 
 pub marked-reacts_at : (graph : Graph) (s : Core) → IsLawful graph s → (t c : ℕ) → has (entries s c) t ≡ false → (u m n : ℕ) → has (entries s m) u ≡ true → reacts graph (enter s t c Mark) u m n ≡ true → reacts graph s u m n ≡ true
@@ -72,18 +72,18 @@ discovered-reacts_at graph s h t n0 c hd not_prior u m n e k = either (or_cases 
     back a = or_right _ _ (any-map (covers q m u) (covers s m u) (runs s n m) (λ i r y x. ensured-covers_at graph s h t c u m n e i r y (same_lists-covers p q m u (same_cell graph p c (add_edge n0 t) (λ z. refl) m) (λ z j l. l) r x)) a)
 
     edge : m ≡ c → outs q m ≡ with_out (outs s m) n0 t → list_any (covers q m u) (runs_in (entries s n) (outs q m) n m) ≡ true → (reacts graph s u m n ≡ true) ⊎ NewRun q t c n0 u m n
-    edge j g a = cases (true_or_false (n == n0)) (subst (λ (os : List OutEdge). list_any (covers q m u) (runs_in (entries s n) os n m) ≡ true) g a)
+    edge j g a = cases (cases_Bool (n == n0)) (subst (λ (os : List OutEdge). list_any (covers q m u) (runs_in (entries s n) os n m) ≡ true) g a)
       where
         none : n ≡ n0 → last_run_of s n m ≡ None
         none x = not_picked-none s n m (subst (λ (w : ℕ). picks_last s w m ≡ false) (sym x) (subst (λ (w : ℕ). picks_last s n0 w ≡ false) (sym j) (sym (head-prior graph s h t n0 c hd) ∙ not_prior)))
 
         cases : ((n == n0) ≡ true) ⊎ ((n == n0) ≡ false) → list_any (covers q m u) (runs_in (entries s n) (with_out (outs s m) n0 t) n m) ≡ true → (reacts graph s u m n ≡ true) ⊎ NewRun q t c n0 u m n
         cases (inr x) y = inl (back (subst (λ (rs : List Run). list_any (covers q m u) rs ≡ true) (same-edges (entries s n) (outs s m) (with_out (outs s m) n0 t) n m (added-node n0 n t (outs s m) x) (λ z. added-out n0 n t z (outs s m) x)) y))
-        cases (inl x) y = two (added-any (covers q m u) (entries s n) (outs s m) n0 n m t x (subst (λ (w : ℕ). first_open (entries s w) ≡ Some t) (sym (same_number n n0 x)) (head-first (entries s n0) t hd)) (none (same_number n n0 x)) y)
+        cases (inl x) y = two (added-any (covers q m u) (entries s n) (outs s m) n0 n m t x (subst (λ (w : ℕ). first_open (entries s w) ≡ Some t) (sym (eqb-true n n0 x)) (head-first (entries s n0) t hd)) (none (eqb-true n n0 x)) y)
           where
             two : (list_any (covers q m u) (runs_in (entries s n) (outs s m) n m) ≡ true) ⊎ (covers q m u (new_run t) ≡ true) → (reacts graph s u m n ≡ true) ⊎ NewRun q t c n0 u m n
             two (inl z) = inl (back z)
-            two (inr z) = inr (same_number n n0 x, j, z)
+            two (inr z) = inr (eqb-true n n0 x, j, z)
 
     by_run : (cell q m ≡ cell p m) ⊎ ((m ≡ c) × (cell q m ≡ add_edge n0 t (cell p m))) → list_any (covers q m u) (runs_in (entries s n) (outs q m) n m) ≡ true → (reacts graph s u m n ≡ true) ⊎ NewRun q t c n0 u m n
     by_run (inl y) a = inl (back (subst (λ (os : List OutEdge). list_any (covers q m u) (runs_in (entries s n) os n m) ≡ true) (ap (λ (x : Cell). x.outs) y ∙ ensured-edges s t c m) a))
@@ -111,11 +111,11 @@ collected-covers_at graph s h n0 m u r lu hu k = go (with_cell-cell s n0 (collec
     pu = ap not lu
 
     active : (b : ℕ) → is_active (collected (on_calls p) es) b u ≡ true → is_active es b u ≡ true
-    active b a = cases (true_or_false (live s b))
+    active b a = cases (cases_Bool (live s b))
       where
         cases : (live s b ≡ true) ⊎ (live s b ≡ false) → is_active es b u ≡ true
         cases (inr d) = ended-active graph s h m u b lu hu d
-        cases (inl l) = not_false _ (λ e.
+        cases (inl l) = true_from_ne_false _ (λ e.
             let c = behind-not_up (collected (on_calls p) es) u b (collected-unique p es (h.one_entry m)) (collected-behind p es u b pu (ap not l) (not_up_to-behind es u b hu e)) in
             neither_way (has (collected (on_calls p) es) b) (has (up_to (collected (on_calls p) es) u) b) c.0 c.1 a)
           where
@@ -161,7 +161,7 @@ collected-reacts_at graph s h n0 u m n lu hu k = reacts-back graph s q u m n (λ
     prefix x y b d = ap not (h.ended_is_prefix.prefix n x y b (turned (live s y) d))
 
     no_frame : (x : ℕ) → at is_frame (entries s n) x ≡ true → p x ≡ false
-    no_frame x f = ap not (not_false (live s x) (λ d. is_not_true _ (h.ended_is_prefix.no_frame n x d) f))
+    no_frame x f = ap not (true_from_ne_false (live s x) (λ d. both_ways _ (h.ended_is_prefix.no_frame n x d) f))
 
     go : (cell q n ≡ cell s n) ⊎ ((n ≡ n0) × (cell q n ≡ collect s (cell s n))) → list_any (covers s m u) (runs q n m) ≡ true → list_any (covers s m u) (runs s n m) ≡ true
     go (inl e) a = subst (λ (rs : List Run). list_any (covers s m u) rs ≡ true) (same-runs s q n m (ap (λ (x : Cell). x.entries) e) edges) a

@@ -6,6 +6,7 @@ use Rattle.std.specs.Prelude.{slice_index_or, sum_by}
 use Rattle.std.specs.List.{list_all}
 use Rattle.std.proofs.Math.Nat.{add-mul, mul-le-mul_left}
 use Rattle.std.proofs.lemmas.List.Sums.{sum_by-cons}
+use Rattle.std.proofs.lemmas.Bool.{eqb-true, eq-eqb, both_ways, true_from_ne_false}
 use Rattle.signal_graph.specs.declared.call.Call.{Call}
 use Rattle.signal_graph.specs.declared.log.Why.{Why}
 use Rattle.signal_graph.specs.Graph.{Graph, IsGraph}
@@ -22,7 +23,6 @@ use Rattle.flow_model.specs.Machine.Histories.{Move, Begin, Make}
 use Rattle.flow_model.specs.Machine.Schedules.{Thread, Play, no_thread, thread, made, goes_on, refuses, refused_for, begin_or_refuse, begin_next, make_turn, turn_of, version_of, take_turn, take_turns, is_over, round_from, rounds, most_rounds, at_start, replayed}
 use Rattle.flow_model.specs.Follows.Callers.{count_begins, AreWithin}
 use Rattle.flow_model.proofs.Lengths.FewInputs.{HasFewInputs}
-use Rattle.flow_model.proofs.General.Truths.{same_number, equal_test, not_false, is_not_true}
 use Rattle.flow_model.proofs.General.Sums.{total}
 use Rattle.flow_model.proofs.Histories.Moves.{KeepsLawful}
 use Rattle.flow_model.proofs.OneStep.BegunCalls.{reads-in, calls-distinct}
@@ -167,10 +167,10 @@ live-moves graph g scripts limit p r size t l = of (some-first graph p.core r.la
         turns (inr (e, a)) = subst (λ (x : Turn). Gains 1 p (make_turn graph p u x)) (sym e) (subst (λ (b : Bool). Gains 1 p (elim b as (λ _. Play) [ true ↦ made graph p (Make (steps.End u)) | false ↦ p ])) (sym a) (steps-gain graph p (steps.End u)))
 
         version : (k : ℕ) → (call p.core u).caller ≡ suc k → (o : Option ℕ) → version_of (suc k) p.core.calls ≡ o → o ≡ Some u
-        version k e None f = absurd (is_not_true _ (least-none (λ c. c.caller == suc k) p.core.calls f) (reads-in (λ c. c.caller == suc k) p.core.calls u lu (equal_test _ _ e)))
+        version k e None f = absurd (both_ways _ (least-none (λ c. c.caller == suc k) p.core.calls f) (reads-in (λ c. c.caller == suc k) p.core.calls u lu (eq-eqb _ _ e)))
         version k e (Some v) f =
             let x = least-passes (λ c. c.caller == suc k) p.core.calls v (calls-distinct p.core r.lawful.versions_are_fresh) f in
-            ap (λ (n : ℕ). Some n) (r.lawful.room_is_kept.callers_apart v u x.known lu (same_number (call p.core v).caller (suc k) x.passes ∙ sym e))
+            ap (λ (n : ℕ). Some n) (r.lawful.room_is_kept.callers_apart v u x.known lu (eqb-true (call p.core v).caller (suc k) x.passes ∙ sym e))
 
         at_caller : (n : ℕ) → (call p.core u).caller ≡ n → CanMove graph p
         at_caller zero e = let f = (r.lawful.room_is_kept.callers_fit u lu).0 in absurd (omega (arith, e, f))
@@ -239,7 +239,7 @@ rounds-gain graph g keeps scripts within limit (suc more) p r h = go (is_over p)
 
     go : (b : Bool) → is_over p ≡ b → is_over (elim b as (λ _. Play) [ true ↦ p | false ↦ rounds more graph q ]) ≡ false → (is_over (rounds more graph q) ≡ false → Gains more q (rounds more graph q))
         → Gains (suc more) p (elim b as (λ _. Play) [ true ↦ p | false ↦ rounds more graph q ])
-    go true e k further = absurd (is_not_true _ k e)
+    go true e k further = absurd (both_ways _ k e)
     go false e k further = subst (λ (n : ℕ). Gains n p (rounds more graph q)) (one_more more) (gains-on 1 more p q (rounds more graph q) (round-moves graph g scripts limit p r e) (further k))
 
 turns-keep : (graph : Graph) (schedule : List ℕ) (p : Play) → Gains 0 p (take_turns graph p schedule)
@@ -274,7 +274,7 @@ few all begun left steps bound b h m k =
     absurd (omega (arith, x, y, z, m, k))
 
 pub replay-over : (graph : Graph) → IsGraph graph → HasFewInputs graph → KeepsLawful graph → (scripts : List (List Call)) → AreWithin scripts → (limit : ℕ) (schedule : List ℕ) → is_over (replayed graph scripts limit schedule) ≡ true
-replay-over graph g fewi keeps scripts within limit schedule = not_false (is_over q) (λ h. go h)
+replay-over graph g fewi keeps scripts within limit schedule = true_from_ne_false (is_over q) (λ h. go h)
   where
     start : Play
     start = at_start graph scripts limit

@@ -2,6 +2,7 @@
 use Rattle.std.proofs.Common.{◌≡◌, ℕ, zero, suc, ◌+◌, ◌<◌, ◌≤◌, true, ◌⊎◌, inl, inr, refl, sym, ap, ap₂, arith, List, [], ◌∷◌, ◌++◌, map, length, true≢false, ◌∙◌, subst, append-nil}
 use Rattle.std.specs.Prelude.{slice_index_or}
 use Rattle.std.specs.List.{list_all}
+use Rattle.script_tree.proofs.Truths.{and_left, and_right}
 use Rattle.signal_graph.specs.declared.call.Call.{Call}
 use Rattle.signal_graph.specs.declared.log.Logged.{Logged}
 use Rattle.signal_graph.specs.declared.log.Refused.{Refused}
@@ -15,7 +16,6 @@ use Rattle.flow_model.specs.Machine.State.{Core, LiveCall}
 use Rattle.flow_model.specs.Machine.Histories.{Move, state, is_history, last_values}
 use Rattle.flow_model.specs.Machine.Schedules.{Thread, Play, no_thread, thread, is_over, all_refused, replayed}
 use Rattle.flow_model.specs.Follows.Callers.{count_begins, begun_by, calls_of, logged_of, IsFinishedRun, AreWithin}
-use Rattle.flow_model.proofs.OneStep.WhoMayStep.{and_left, and_right}
 use Rattle.flow_model.proofs.Histories.Moves.{KeepsLawful}
 use Rattle.flow_model.proofs.Histories.LastValues.{last_values-final}
 use Rattle.flow_model.proofs.Callers.FinishedRunsMerge.{ended-made, finished-Merge}
@@ -64,7 +64,7 @@ over-finished graph scripts limit play p o = record {
 
 -- ---- what was refused
 
-logged-length : (k : ℕ) (log : List Logged) → length (calls_of (logged_of k log)) ≡ length (entries_of k log)
+pub logged-length : (k : ℕ) (log : List Logged) → length (calls_of (logged_of k log)) ≡ length (entries_of k log)
 logged-length k log = go (entries_of k log)
   where
     go : (xs : List Logged) → length (calls_of (map (λ (x : Logged). (x.version, x.call)) xs)) ≡ length xs

@@ -1,5 +1,6 @@
 -- What a schedule of turns makes is a history, in which each thread has begun or refused what it has taken of its script.
 use Rattle.std.proofs.Common.{◌≡◌, ℕ, zero, suc, ◌<◌, ◌≤◌, Bool, true, false, not, ◌==◌, nat_lt, nat_le, ◌⊎◌, inl, inr, refl, sym, ap, arith, List, [], ◌∷◌, ◌++◌, map, length, ◌∙◌, subst, Option, Some, None}
+use Rattle.std.proofs.lemmas.Bool.{and_from, eqb-true, eq-eqb, both_ways, cases_Bool}
 use Rattle.std.specs.Prelude.{slice_index_or, is_none}
 use Rattle.std.specs.List.{AllByRecursion}
 use Rattle.script_tree.specs.declared.limits.TheConstants.{SETS, LOOKS}
@@ -21,7 +22,6 @@ use Rattle.flow_model.specs.Machine.Histories.{Move, Begin, Make, may, after_mov
 use Rattle.flow_model.specs.Kept.Lawful.{IsLawful}
 use Rattle.flow_model.specs.Machine.Schedules.{Thread, Play, no_thread, thread, made, goes_on, refuses, refused_for, begin_or_refuse, begin_next, make_turn, turn_of, version_of, take_turn, take_turns, round_from, rounds, is_over, most_rounds, at_start, replayed}
 use Rattle.flow_model.specs.Follows.Callers.{count_begins, IsWithin, AreWithin}
-use Rattle.flow_model.proofs.General.Truths.{and_make, same_number, equal_test, is_not_true, true_or_false}
 use Rattle.flow_model.proofs.Opening.OpeningIsLawful.{opening-lawful}
 use Rattle.flow_model.proofs.Together.WorkIsAllowed.{least-none}
 use Rattle.flow_model.proofs.Together.NextIsAllowed.{next-allowed, least-passes}
@@ -58,7 +58,7 @@ pub record PlayRight (graph : Graph) (scripts : List (List Call)) (limit : ℕ) 
   pub size : length play.threads ≡ length scripts
   pub each : (i : ℕ) → i < length scripts → ThreadRight graph limit (script_of scripts i) i (thread play i) play.moves
 
-may_all-more : (graph : Graph) (moves : List Move) (s : Core) (move : Move) → may_all graph s moves ≡ true → may graph (after_moves graph s moves) move ≡ true → may_all graph s (moves ++ move ∷ []) ≡ true
+pub may_all-more : (graph : Graph) (moves : List Move) (s : Core) (move : Move) → may_all graph s moves ≡ true → may graph (after_moves graph s moves) move ≡ true → may_all graph s (moves ++ move ∷ []) ≡ true
 may_all-more graph [] s move h m = one (may graph s move) m
   where
     one : (b : Bool) → b ≡ true → elim b as (λ _. Bool) [ true ↦ true | false ↦ false ] ≡ true
@@ -109,7 +109,7 @@ all-mid P (x ∷ xs) ys c h = all-mid P xs ys c h.1
 begins-right : (graph : Graph) → KeepsLawful graph → (scripts : List (List Call)) (limit : ℕ) (play : Play) → PlayRight graph scripts limit play → (i : ℕ) → i < length scripts → (c : Call) (rest : List Call) → (thread play i).left ≡ c ∷ rest
     → misnamed graph c ≡ None → count_begins play.moves < limit → can_begin graph play.core (suc i) c ≡ true → PlayRight graph scripts limit (begin_or_refuse graph play i c rest None)
 begins-right graph keeps scripts limit play p i l c rest e none few a =
-    made-right graph keeps scripts limit play p (Begin (suc i) c) a (change_at i (goes_on rest) play.threads) (changed-length i (goes_on rest) play.threads ∙ p.size) (λ j k. go j k (true_or_false (suc i == suc j)))
+    made-right graph keeps scripts limit play p (Begin (suc i) c) a (change_at i (goes_on rest) play.threads) (changed-length i (goes_on rest) play.threads ∙ p.size) (λ j k. go j k (cases_Bool (suc i == suc j)))
   where
     now : List Move
     now = play.moves ++ Begin (suc i) c ∷ []
@@ -118,9 +118,9 @@ begins-right graph keeps scripts limit play p i l c rest e none few a =
     same a b e = omega (arith, e)
 
     go : (j : ℕ) → j < length scripts → ((suc i == suc j) ≡ true) ⊎ ((suc i == suc j) ≡ false) → ThreadRight graph limit (script_of scripts j) j (slice_index_or (change_at i (goes_on rest) play.threads) j no_thread) now
-    go j k (inr ne) = subst (λ (x : Thread). ThreadRight graph limit (script_of scripts j) j x now) (sym (changed-other i j (goes_on rest) play.threads (λ q. is_not_true _ ne (equal_test (suc i) (suc j) (ap suc q)))))
+    go j k (inr ne) = subst (λ (x : Thread). ThreadRight graph limit (script_of scripts j) j x now) (sym (changed-other i j (goes_on rest) play.threads (λ q. both_ways _ ne (eq-eqb (suc i) (suc j) (ap suc q)))))
         (thread-kept graph limit (script_of scripts j) j (thread play j) play.moves now (begin-other_calls i j play.moves c ne) (let q = begin-count play.moves (suc i) c in omega (arith, q)) (p.each j k))
-    go j k (inl q) = subst (λ (n : ℕ). ThreadRight graph limit (script_of scripts n) n (slice_index_or (change_at i (goes_on rest) play.threads) n no_thread) now) (same i j (same_number (suc i) (suc j) q))
+    go j k (inl q) = subst (λ (n : ℕ). ThreadRight graph limit (script_of scripts n) n (slice_index_or (change_at i (goes_on rest) play.threads) n no_thread) now) (same i j (eqb-true (suc i) (suc j) q))
         (subst (λ (x : Thread). ThreadRight graph limit (script_of scripts i) i x now) (sym (changed-same i (goes_on rest) play.threads (let z = p.size in omega (arith, z, l))))
         (thread-begins graph limit (script_of scripts i) i (thread play i) play.moves c rest e none few (p.each i l)))
 
@@ -131,12 +131,12 @@ refuses-right graph scripts limit play p i l c rest e why unknown used = record 
   core = p.core;
   history = p.history;
   size = changed-length i (refuses (suc i) why rest) play.threads ∙ p.size;
-  each = λ j k. go j k (true_or_false (i == j));
+  each = λ j k. go j k (cases_Bool (i == j));
 }
   where
     go : (j : ℕ) → j < length scripts → ((i == j) ≡ true) ⊎ ((i == j) ≡ false) → ThreadRight graph limit (script_of scripts j) j (slice_index_or (change_at i (refuses (suc i) why rest) play.threads) j no_thread) play.moves
-    go j k (inr ne) = subst (λ (x : Thread). ThreadRight graph limit (script_of scripts j) j x play.moves) (sym (changed-other i j (refuses (suc i) why rest) play.threads (λ q. is_not_true _ ne (equal_test i j q)))) (p.each j k)
-    go j k (inl q) = subst (λ (n : ℕ). ThreadRight graph limit (script_of scripts n) n (slice_index_or (change_at i (refuses (suc i) why rest) play.threads) n no_thread) play.moves) (same_number i j q)
+    go j k (inr ne) = subst (λ (x : Thread). ThreadRight graph limit (script_of scripts j) j x play.moves) (sym (changed-other i j (refuses (suc i) why rest) play.threads (λ q. both_ways _ ne (eq-eqb i j q)))) (p.each j k)
+    go j k (inl q) = subst (λ (n : ℕ). ThreadRight graph limit (script_of scripts n) n (slice_index_or (change_at i (refuses (suc i) why rest) play.threads) n no_thread) play.moves) (eqb-true i j q)
         (subst (λ (x : Thread). ThreadRight graph limit (script_of scripts i) i x play.moves) (sym (changed-same i (refuses (suc i) why rest) play.threads (let z = p.size in omega (arith, z, l))))
         (thread-refuses graph limit (script_of scripts i) i (thread play i) play.moves c rest why e unknown used (p.each i l)))
 
@@ -163,7 +163,7 @@ begin_or_refuse-right graph keeps scripts within limit play p i l c rest e free 
     top = play-limit graph scripts limit play p
 
     can : misnamed graph c ≡ None → nat_lt play.core.begun play.core.limit ≡ true → can_begin graph play.core (suc i) c ≡ true
-    can m b = and_make _ _ (and_make _ _ (and_make _ _ (and_make _ _ (and_make _ _ (and_make _ _ (at_most 1 (suc i) (omega arith)) (at_most (suc i) play.core.callers (let k = play-callers graph scripts limit play p in omega (arith, k, l)))) (ap not free)) (at_most (length (sets_of c)) SETS is_within.0)) (at_most (length (looks_of c)) LOOKS is_within.1)) (ap (λ (o : Option ℕ). is_none o) m)) b
+    can m b = and_from _ _ (and_from _ _ (and_from _ _ (and_from _ _ (and_from _ _ (and_from _ _ (at_most 1 (suc i) (omega arith)) (at_most (suc i) play.core.callers (let k = play-callers graph scripts limit play p in omega (arith, k, l)))) (ap not free)) (at_most (length (sets_of c)) SETS is_within.0)) (at_most (length (looks_of c)) LOOKS is_within.1)) (ap (λ (o : Option ℕ). is_none o) m)) b
 
     named : misnamed graph c ≡ None → (b : Bool) → nat_lt play.core.begun play.core.limit ≡ b → PlayRight graph scripts limit (begin_or_refuse graph play i c rest (elim b as (λ _. Option Why) [ true ↦ None | false ↦ Some (VersionsUsedUp play.core.limit) ]))
     named m true b = begins-right graph keeps scripts limit play p i l c rest e m (let q = less play.core.begun play.core.limit b in omega (arith, q, begun, top)) (can m b)

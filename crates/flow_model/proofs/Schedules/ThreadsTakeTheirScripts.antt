@@ -1,6 +1,7 @@
 -- A thread of a play: what it has begun and what was refused are told by how much of its script it has taken.
-use Rattle.std.proofs.Common.{◌≡◌, ℕ, zero, suc, ◌+◌, ◌-◌, ◌<◌, ◌≤◌, Bool, true, false, ◌==◌, ◌⊎◌, inl, inr, refl, sym, ap, ap₂, arith, List, [], ◌∷◌, ◌++◌, length, take, true≢false, ◌∙◌, subst, Option, Some, None, append_assoc, append-nil}
-use Rattle.std.proofs.lemmas.List.{length-append, map-append, length-take, take-append-le, take_all}
+use Rattle.std.proofs.Common.{◌≡◌, ℕ, zero, suc, ◌+◌, ◌-◌, ◌<◌, ◌≤◌, Bool, true, false, ◌==◌, ◌⊎◌, inl, inr, refl, sym, ap, ap₂, arith, List, [], ◌∷◌, ◌++◌, length, true≢false, ◌∙◌, subst, Option, Some, None, append_assoc, append-nil}
+use Rattle.std.proofs.lemmas.List.{length-append, map-append}
+use Rattle.std.proofs.lemmas.Bool.{eq-eqb}
 use Rattle.signal_graph.specs.declared.call.Call.{Call}
 use Rattle.signal_graph.specs.declared.log.Refused.{Refused}
 use Rattle.signal_graph.specs.declared.log.Why.{Why}
@@ -9,11 +10,11 @@ use Rattle.signal_graph.specs.Graph.{Graph}
 use Rattle.signal_graph.specs.Machine.{misnamed}
 use Rattle.call_log.specs.Made.{well_named, IsPrefix}
 use Rattle.call_log.specs.LeftOut.{why_not, refusal, left_out_from}
+use Rattle.call_log.proofs.Prefixes.{prefix-whole, prefix-length, prefix-more}
 use Rattle.flow_model.specs.declared.step.Step.{Step}
 use Rattle.flow_model.specs.Machine.Histories.{Move, Begin, Make}
 use Rattle.flow_model.specs.Machine.Schedules.{Thread, goes_on, refuses}
 use Rattle.flow_model.specs.Follows.Callers.{count_begins, begun_from, begun_by, calls_of}
-use Rattle.flow_model.proofs.General.Truths.{equal_test}
 use Rattle.flow_model.proofs.Schedules.LeftOutByCall.{named-more, named-same, left_out-more, left_out-enough}
 
 -- ---- one move more
@@ -46,7 +47,7 @@ pub step-calls : (i : ℕ) (xs : List Move) (step : Step) → begun_calls i (xs 
 step-calls i xs step = calls-more i xs (Make step) ∙ append-nil (begun_calls i xs)
 
 begin-calls : (i : ℕ) (xs : List Move) (c : Call) → begun_calls i (xs ++ Begin (suc i) c ∷ []) ≡ begun_calls i xs ++ c ∷ []
-begin-calls i xs c = calls-more i xs (Begin (suc i) c) ∙ ap (λ (cs : List Call). begun_calls i xs ++ cs) (one (suc i == suc i) (equal_test (suc i) (suc i) refl))
+begin-calls i xs c = calls-more i xs (Begin (suc i) c) ∙ ap (λ (cs : List Call). begun_calls i xs ++ cs) (one (suc i == suc i) (eq-eqb (suc i) (suc i) refl))
   where
     one : (b : Bool) → b ≡ true → calls_of (elim b as (λ _. List (ℕ × Call)) [ true ↦ (suc (0 + count_begins xs), c) ∷ [] | false ↦ [] ]) ≡ c ∷ []
     one true e = refl
@@ -70,15 +71,6 @@ begin-count (Begin k x ∷ xs) caller c = ap suc (begin-count xs caller c)
 begin-count (Make x ∷ xs) caller c = begin-count xs caller c
 
 -- ---- prefixes
-
-prefix-whole : (xs : List Call) → IsPrefix xs xs
-prefix-whole xs = sym (take_all (length xs) xs (omega arith))
-
-pub prefix-length : (xs ys : List Call) → IsPrefix xs ys → length xs ≤ length ys
-prefix-length xs ys p = let e : length xs ≡ length (take (length xs) ys) = ap length p in let t = length-take (length xs) ys in omega (arith, e, t)
-
-prefix-more : (xs ys zs : List Call) → IsPrefix xs ys → IsPrefix xs (ys ++ zs)
-prefix-more xs ys zs p = p ∙ sym (take-append-le (length xs) ys zs (prefix-length xs ys p))
 
 -- ---- threads
 

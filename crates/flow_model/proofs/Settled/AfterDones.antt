@@ -1,8 +1,10 @@
 -- After Skip and Resolve no Frame stands before a settled entry: what the Done settles was settled by what it was worked out of.
 use Rattle.std.proofs.Common.{◌≡◌, ℕ, ◌<◌, Bool, true, false, ◌&&◌, ◌||◌, not, ◌==◌, ◌⊎◌, inl, inr, refl, sym, ap, List, [], ◌∷◌, ◌++◌, length, true≢false, ◌∙◌, subst, Option}
+use Rattle.std.proofs.lemmas.Bool.{or_cases, or_left, or_right, and_from, eqb-true, eq-eqb, false_from_ne_true, both_ways, cases_Bool, not-true}
 use Rattle.std.specs.Prelude.{is_some, take}
 use Rattle.std.specs.List.{list_any, list_all}
 use Rattle.script_tree.specs.declared.value.Value.{Value}
+use Rattle.script_tree.proofs.Truths.{and_left, and_right}
 use Rattle.signal_graph.specs.declared.node.Node.{Node}
 use Rattle.signal_graph.specs.declared.node.Node.TheVariants.{Source, Signal, Fold, Choose}
 use Rattle.signal_graph.specs.Graph.{Graph, is_in, is_source, node_at, inputs_of, selectors_of}
@@ -11,6 +13,7 @@ use Rattle.node_versions.specs.declared.entry.State.{State}
 use Rattle.node_versions.specs.declared.entry.State.TheVariants.{Done}
 use Rattle.node_versions.specs.declared.entry.Entry.{Entry}
 use Rattle.node_versions.specs.Entries.{OutEdge, has, at, is_frame, is_done, behind, first_open, has_node, with_state, picks_before, picks_at, value_before}
+use Rattle.node_versions.proofs.Places.{at-has}
 use Rattle.flow_model.specs.declared.step.Step.TheVariants as steps
 use Rattle.flow_model.specs.Machine.State.{Core, Cell, call, cell, live, entries, outs, opens, wants, changes, with_call, with_cell}
 use Rattle.flow_model.specs.Machine.Words.{heads, at_front, can_work, pressed, touched, deps, prior_picks, gathered_of, is_gathered, is_candidate, is_prior, found_picks, found_candidates, value_now}
@@ -19,9 +22,7 @@ use Rattle.flow_model.specs.Machine.Changes.{set_state, closed, cleared, finish}
 use Rattle.flow_model.specs.Machine.Steps.{allowed, apply, is_change, is_worked_out, is_released}
 use Rattle.flow_model.specs.Kept.Runs.{looked_at, by_node}
 use Rattle.flow_model.specs.Kept.Lawful.{IsLawful, lists_candidate, picks_last}
-use Rattle.flow_model.proofs.General.Truths.{or_cases, or_left, or_right, and_make, same_number, equal_test, not_true, is_not_true, true_or_false}
-use Rattle.flow_model.proofs.OneStep.WhoMayStep.{and_left, and_right, not_is, executes-live, at_front-executes, at_front-heads}
-use Rattle.flow_model.proofs.OneList.StatesAndPlaces.{at-has}
+use Rattle.flow_model.proofs.OneStep.WhoMayStep.{executes-live, at_front-executes, at_front-heads}
 use Rattle.flow_model.proofs.General.Sets.{in-put}
 use Rattle.flow_model.proofs.OneStep.SameLengths.{change_at-length}
 use Rattle.flow_model.proofs.OrderStays.OpenNodesHaveFrames.{cell-there, entry-there}
@@ -45,13 +46,13 @@ any-more_in f g [] h k = k
 any-more_in f g (x ∷ xs) h k = go (or_cases _ _ k) (any-more_in f g xs (λ m i. h m (or_right _ _ i)))
   where
     go : (f x ≡ true) ⊎ (list_any f xs ≡ true) → (list_any f xs ≡ true → list_any g xs ≡ true) → list_any g (x ∷ xs) ≡ true
-    go (inl a) further = or_left _ _ (h x (or_left _ _ (equal_test x x refl)) a)
+    go (inl a) further = or_left _ _ (h x (or_left _ _ (eq-eqb x x refl)) a)
     go (inr a) further = or_right _ _ (further a)
 
 -- Where the node that a call comes to have changed is none that another rests on, that one is no more touched than before.
 touched-back : (graph : Graph) (s q : Core) (u n n0 : ℕ) → picks_before (entries q n) u ≡ picks_before (entries s n) u → ((m : ℕ) → changes q u m ≡ true → (changes s u m ≡ true) ⊎ (m ≡ n0))
     → (is_in n0 (deps graph s u n) ≡ true → ⊥) → touched graph q u n ≡ true → touched graph s u n ≡ true
-touched-back graph s q u n n0 e c apart k = and_make _ _ (and_left _ _ k)
+touched-back graph s q u n n0 e c apart k = and_from _ _ (and_left _ _ k)
     (any-more_in (changes q u) (changes s u) (deps graph s u n) (λ m i x. go m i (c m x)) (subst (λ (ps : List (Option ℕ)). list_any (changes q u) (inputs_of (node_at graph n) ++ nodes_in ps) ≡ true) e (and_right _ _ k)))
   where
     go : (m : ℕ) → is_in m (deps graph s u n) ≡ true → (changes s u m ≡ true) ⊎ (m ≡ n0) → changes s u m ≡ true
@@ -98,23 +99,23 @@ finished-settled graph s q h t n0 v c ps fin f none_there = settled-stays graph 
 
     -- the node is none that a finished one rests on
     done_apart : (u n : ℕ) → u ≡ t → at is_done (entries s n) u ≡ true → is_source (node_at graph n) ≡ false → is_in n0 (deps graph s u n) ≡ true → ⊥
-    done_apart u n e d src i = is_not_true _ (h.dones_are_right.other u n (subst (λ (w : ℕ). live s w ≡ true) (sym e) (executes-live s t (at_front-executes graph s t n0 fin.front))) d src).no_open
+    done_apart u n e d src i = both_ways _ (h.dones_are_right.other u n (subst (λ (w : ℕ). live s w ≡ true) (sym e) (executes-live s t (at_front-executes graph s t n0 fin.front))) d src).no_open
         (any-in (λ m. opens s u m || wants s u m) (deps graph s u n) n0 i (or_left _ _ (subst (λ (w : ℕ). opens s w n0 ≡ true) (sym e) (heads-opens graph s h t n0 hd))))
 
     still_due : (u n : ℕ) → at is_done (entries s n) u ≡ true → picks_before (entries q n) u ≡ picks_before (entries s n) u → touched graph q u n ≡ true → touched graph s u n ≡ true
-    still_due u n d e k = go (true_or_false (u == t))
+    still_due u n d e k = go (cases_Bool (u == t))
       where
         go : ((u == t) ≡ true) ⊎ ((u == t) ≡ false) → touched graph s u n ≡ true
-        go (inl x) = touched-back graph s q u n n0 e (λ m y. either m (f.changed u m y)) (λ i. done_apart u n (same_number u t x) d (not_is _ (and_left _ _ k)) i) k
+        go (inl x) = touched-back graph s q u n n0 e (λ m y. either m (f.changed u m y)) (λ i. done_apart u n (eqb-true u t x) d (not-true _ (and_left _ _ k)) i) k
           where
             either : (m : ℕ) → (changes s u m ≡ true) ⊎ ((u ≡ t) × (m ≡ n0)) → (changes s u m ≡ true) ⊎ (m ≡ n0)
             either m (inl y) = inl y
             either m (inr y) = inr y.1
-        go (inr x) = and_make _ _ (and_left _ _ k) (any-more_in (changes q u) (changes s u) (deps graph s u n) (λ m _ y. mine m (f.changed u m y)) (subst (λ (ps : List (Option ℕ)). list_any (changes q u) (inputs_of (node_at graph n) ++ nodes_in ps) ≡ true) e (and_right _ _ k)))
+        go (inr x) = and_from _ _ (and_left _ _ k) (any-more_in (changes q u) (changes s u) (deps graph s u n) (λ m _ y. mine m (f.changed u m y)) (subst (λ (ps : List (Option ℕ)). list_any (changes q u) (inputs_of (node_at graph n) ++ nodes_in ps) ≡ true) e (and_right _ _ k)))
           where
             mine : (m : ℕ) → (changes s u m ≡ true) ⊎ ((u ≡ t) × (m ≡ n0)) → changes s u m ≡ true
             mine m (inl y) = y
-            mine m (inr y) = absurd (is_not_true _ x (equal_test u t y.0))
+            mine m (inr y) = absurd (both_ways _ x (eq-eqb u t y.0))
 
     edge_before : (n m : ℕ) → has_node (outs q m) n ≡ false → has_node (outs s m) n ≡ false
     edge_before n m e = sym (ap (λ (os : List OutEdge). has_node os n) (f.edges m)) ∙ e
@@ -124,12 +125,12 @@ finished-settled graph s q h t n0 v c ps fin f none_there = settled-stays graph 
 
     -- the node of the Done
     there : (u m : ℕ) → entries q n0 ≡ with_state t (Done v c ps) (entries s n0) → HowSettled graph q u m n0 → HowSettled graph s u m n0
-    there u m e (by_gather x y) = absurd (is_not_true _ (none_there m) y)
-    there u m e (by_leaving p d l) = go (true_or_false (u == t))
+    there u m e (by_gather x y) = absurd (both_ways _ (none_there m) y)
+    there u m e (by_leaving p d l) = go (cases_Bool (u == t))
       where
         go : ((u == t) ≡ true) ⊎ ((u == t) ≡ false) → HowSettled graph s u m n0
         go (inl x) =
-            let w = same_number u t x in
+            let w = eqb-true u t x in
             let p2 : is_prior s t n0 m ≡ true = in-picks _ _ m true (own-before t (Done v c ps) (entries s n0)) (subst (λ (j : ℕ). is_in m (nodes_in (picks_before (with_state t (Done v c ps) (entries s n0)) j)) ≡ true) w (subst (λ (es : List Entry). is_in m (nodes_in (picks_before es u)) ≡ true) e p)) in
             let l2 : is_in m (nodes_in ps) ≡ false = in-picks _ _ m false (own-now t v c ps (entries s n0) ht) (subst (λ (j : ℕ). is_in m (nodes_in (picks_at (with_state t (Done v c ps) (entries s n0)) j)) ≡ false) w (subst (λ (es : List Entry). is_in m (nodes_in (picks_at es u)) ≡ false) e l)) in
             subst (λ (j : ℕ). HowSettled graph s j m n0) (sym w) (by_drop p2 hd (fin.left m p2 l2))
@@ -139,15 +140,15 @@ finished-settled graph s q h t n0 v c ps fin f none_there = settled-stays graph 
     there u m e (by_drop p x y) =
         let first = ap first_open (sym e) ∙ head-first (entries q n0) u x in
         let ps_are = finished-next t v c ps (entries s n0) u (h.one_entry n0) ht no_done (head-first (entries s n0) t hd) (λ a b k g. h.frames_are_open.behind_dones n0 a b k g) first in
-        absurd (is_not_true _ (edge_before n0 m y) (fin.kept m (in-picks _ _ m true (ap (λ (es : List Entry). picks_before es u) e ∙ ps_are) p)))
-    there u m e (by_due d k i) = go (true_or_false (u == t))
+        absurd (both_ways _ (edge_before n0 m y) (fin.kept m (in-picks _ _ m true (ap (λ (es : List Entry). picks_before es u) e ∙ ps_are) p)))
+    there u m e (by_due d k i) = go (cases_Bool (u == t))
       where
         go : ((u == t) ≡ true) ⊎ ((u == t) ≡ false) → HowSettled graph s u m n0
         go (inr x) =
             let z = finished-done t v c ps (entries s n0) u x no_done (subst (λ (es : List Entry). at is_done es u ≡ true) e d) in
             done_settles u m n0 (subst (λ (es : List Entry). KeepsDone (entries s n0) es u) (sym e) z) k i
         go (inl x) =
-            let w = same_number u t x in
+            let w = eqb-true u t x in
             let k2 : touched graph q t n0 ≡ true = subst (λ (j : ℕ). touched graph q j n0 ≡ true) w k in
             let prior : picks_before (entries q n0) t ≡ picks_before (entries s n0) t = ap (λ (es : List Entry). picks_before es t) e ∙ own-before t (Done v c ps) (entries s n0) in
             let k3 = touched-back graph s q t n0 n0 prior (λ j y. either j (f.changed t j y)) own_apart k2 in
@@ -160,7 +161,7 @@ finished-settled graph s q h t n0 v c ps fin f none_there = settled-stays graph 
             either j (inr y) = inr y.1
 
             own_apart : is_in n0 (deps graph s t n0) ≡ true → ⊥
-            own_apart i = is_not_true _ (front-no_open graph s t n0 fin.front) (any-in (opens s t) (deps graph s t n0) n0 i (heads-opens graph s h t n0 hd))
+            own_apart i = both_ways _ (front-no_open graph s t n0 fin.front) (any-in (opens s t) (deps graph s t n0) n0 i (heads-opens graph s h t n0 hd))
 
     -- any other node
     elsewhere : (u m n : ℕ) → KeepsPicks (entries s n) (entries q n) u → HowSettled graph q u m n → HowSettled graph s u m n
@@ -184,7 +185,7 @@ finish-Finishes s t n v c ps lt = record {
   lists = λ m. lists m (with_cell-cell s n (set_state t (Done v c ps)) m);
   gathered = λ i m k. sym (same-part (λ x. is_some (gathered_of m x.gathered)) s n (set_state t (Done v c ps)) (λ x. refl) i) ∙ k;
   edges = λ m. same-part (λ x. x.outs) s n (set_state t (Done v c ps)) (λ x. refl) m;
-  changed = λ u m k. changed u m k (true_or_false (u == t)) (with_call-field (λ x. is_in m x.changed) p t (closed n c) (λ x. refl) u lt);
+  changed = λ u m k. changed u m k (cases_Bool (u == t)) (with_call-field (λ x. is_in m x.changed) p t (closed n c) (λ x. refl) u lt);
   looked = λ u m k. sym (with_call-keeps (λ x. is_in m (take (length x.looked) x.looks)) p t (closed n c) (λ x. refl) (λ x. refl) u) ∙ k;
   lives = λ u k. ap (λ (l : ℕ → Bool). l u) (sym (with_call-live p t (closed n c) (λ x. refl))) ∙ k;
 }
@@ -206,8 +207,8 @@ finish-Finishes s t n v c ps lt = record {
     changed u m k (inl x) e = go (more m c (sym (rw x at e) ∙ k))
       where
         go : (changes s t m ≡ true) ⊎ ((m == n) ≡ true) → (changes s u m ≡ true) ⊎ ((u ≡ t) × (m ≡ n))
-        go (inl y) = inl (subst (λ (w : ℕ). changes s w m ≡ true) (sym (same_number u t x)) y)
-        go (inr y) = inr (same_number u t x, same_number m n y)
+        go (inl y) = inl (subst (λ (w : ℕ). changes s w m ≡ true) (sym (eqb-true u t x)) y)
+        go (inr y) = inr (eqb-true u t x, eqb-true m n y)
 
 pub clear-Finishes : (s q : Core) (t n : ℕ) (x : State) → Finishes s q t n x → Finishes s (with_cell q n cleared) t n x
 clear-Finishes s q t n x f = record {
@@ -233,13 +234,13 @@ skip-takes : (graph : Graph) (s : Core) → IsLawful graph s → (t n : ℕ) →
 skip-takes graph s h t n a =
     let fin = skip-finishing graph s h t n a in record {
       front = fin.front;
-      left = λ m p l. absurd (is_not_true _ l p);
+      left = λ m p l. absurd (both_ways _ l p);
       kept = λ m i. fin.goes_on m i (sym (head-prior graph s h t n m (at_front-heads graph s t n fin.front)) ∙ i);
-      gathered = λ m k i. absurd (is_not_true _ (skip-untouched graph s t n a) k);
+      gathered = λ m k i. absurd (both_ways _ (skip-untouched graph s t n a) k);
     }
 
 pub skipped-settled : (graph : Graph) (s : Core) (t n : ℕ) → IsLawful graph s → allowed graph s (steps.Skip t n) ≡ true → SettledStays graph (apply graph s (steps.Skip t n))
-skipped-settled graph s t n h a = finished-settled graph s q h t n (value_before (entries s n) t) false (picks_before (entries s n) t) takes f (λ m. not_true _ (λ k. none_there m (f.gathered n m k)))
+skipped-settled graph s t n h a = finished-settled graph s q h t n (value_before (entries s n) t) false (picks_before (entries s n) t) takes f (λ m. false_from_ne_true _ (λ k. none_there m (f.gathered n m k)))
   where
     q : Core
     q = finish s t n (value_before (entries s n) t) false (picks_before (entries s n) t)
@@ -254,7 +255,7 @@ skipped-settled graph s t n h a = finished-settled graph s q h t n (value_before
     none_there : (m : ℕ) → is_gathered s n m ≡ true → ⊥
     none_there m k =
         let w = h.work_is_kept.gathers n m k in
-        is_not_true _ (skip-untouched graph s t n a) (subst (λ (v : ℕ). touched graph s v n ≡ true) (heads-same s t w.head n (at_front-heads graph s t n takes.front) w.first) w.holds.changed)
+        both_ways _ (skip-untouched graph s t n a) (subst (λ (v : ℕ). touched graph s v n ≡ true) (heads-same s t w.head n (at_front-heads graph s t n takes.front) w.first) w.holds.changed)
 
 -- ---- Resolve
 
@@ -271,7 +272,7 @@ resolve-takes : (graph : Graph) (s : Core) → IsLawful graph s → (t n : ℕ) 
 resolve-takes graph s h t n a = record {
   front = fin.front;
   left = λ m p l. gone m l (all-in (is_released s n) (prior_picks s t n) m (worked-released graph s t n (worked m p)) p);
-  kept = λ m i. stands m i (true_or_false (picks_last s n m));
+  kept = λ m i. stands m i (cases_Bool (picks_last s n m));
   gathered = λ m k i. all_there m (resolve-worked graph s t n a k) (or_cases _ _ i);
 }
   where
@@ -290,8 +291,8 @@ resolve-takes graph s h t n a = record {
     gone m l k = go (or_cases _ _ k)
       where
         go : (is_candidate s n m ≡ true) ⊎ (not (has_node (outs s m) n) ≡ true) → has_node (outs s m) n ≡ false
-        go (inl x) = absurd (is_not_true _ l x)
-        go (inr x) = not_is _ x
+        go (inl x) = absurd (both_ways _ l x)
+        go (inr x) = not-true _ x
 
     stands : (m : ℕ) → is_in m (nodes_in (found_picks s n)) ≡ true → (picks_last s n m ≡ true) ⊎ (picks_last s n m ≡ false) → has_node (outs s m) n ≡ true
     stands m i (inl p) = fin.goes_on m i p

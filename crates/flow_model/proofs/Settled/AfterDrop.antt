@@ -2,11 +2,15 @@
 use Rattle.std.proofs.Common.{◌≡◌, ℕ, ◌<◌, zero, suc, Bool, true, false, not, ◌==◌, ◌⊎◌, inl, inr, refl, sym, ap, arith, List, [], ◌∷◌, length, true≢false, ◌∙◌, subst, Option, Some, None}
 use Rattle.std.specs.Prelude.{is_some}
 use Rattle.std.proofs.lemmas.List.Folds.{list_any-append}
+use Rattle.std.proofs.lemmas.Bool.{or_cases, or_left, or_right, and_from, eqb-true, eq-eqb, false_from_ne_true, both_ways, cases_Bool, true_from_ne_false}
+use Rattle.script_tree.proofs.Truths.{and_left, and_right}
 use Rattle.signal_graph.specs.Graph.{Graph, is_in, node_at, inputs_of}
 use Rattle.order_graph.specs.Order.{reaches}
+use Rattle.order_graph.proofs.Reaching.{reaches-join}
 use Rattle.node_versions.specs.declared.entry.State.TheVariants.{Mark}
 use Rattle.node_versions.specs.declared.entry.Entry.{Entry}
 use Rattle.node_versions.specs.Entries.{has, at, is_frame, behind, has_node}
+use Rattle.node_versions.proofs.Places.{at-has}
 use Rattle.flow_model.specs.declared.step.Step.TheVariants as steps
 use Rattle.flow_model.specs.Machine.State.{Core, Cell, cell, live, executes, entries, outs, opens, wants, precedes, with_cell}
 use Rattle.flow_model.specs.Machine.Words.{heads, at_front, deps, prior_picks, is_prior, gathered_of}
@@ -14,12 +18,10 @@ use Rattle.flow_model.specs.Machine.Changes.{stops_call, new_entry, place_entry,
 use Rattle.flow_model.specs.Machine.Steps.{allowed, apply}
 use Rattle.flow_model.specs.Kept.Runs.{Run, is_from, reacts, IsSettled, by_node}
 use Rattle.flow_model.specs.Kept.Lawful.{IsLawful, OrderIsKept, FramingComesLast, picks_last, last_run_of}
-use Rattle.flow_model.proofs.General.Truths.{or_cases, or_left, or_right, and_make, same_number, equal_test, not_true, not_false, is_not_true, true_or_false}
-use Rattle.flow_model.proofs.OneStep.WhoMayStep.{and_left, and_right, opens-live, executes-live, drop-due, due-can_work, can_work-at_front, at_front-heads, at_front-executes}
-use Rattle.flow_model.proofs.OneList.Chains.{reaches-trans}
+use Rattle.flow_model.proofs.OneStep.WhoMayStep.{opens-live, executes-live, drop-due, due-can_work, can_work-at_front, at_front-heads, at_front-executes}
 use Rattle.flow_model.proofs.OrderStays.AfterEachStep.{step-OrderIsKept}
 use Rattle.flow_model.proofs.OrderStays.EntriesAndRoom.{step-FramingComesLast}
-use Rattle.flow_model.proofs.OneList.StatesAndPlaces.{at-has, behind-total, first_open-none}
+use Rattle.flow_model.proofs.OneList.StatesAndPlaces.{behind-total, first_open-none}
 use Rattle.flow_model.proofs.OneList.OneEntryACall.{placed-has}
 use Rattle.flow_model.proofs.OrderStays.NoFrameBeforeDones.{head-first}
 use Rattle.flow_model.proofs.Wants.FramedWith.{opens-frame, heads-opens, live-chain, last-covers, no_frame-before, not_up_to-behind}
@@ -49,7 +51,7 @@ last-reacts graph s h w m n o p e = go (last_run_of s n m) refl
 
     from : (r : Run) → last_run_of s n m ≡ Some r → (z : Option ℕ) → r.begins ≡ z → is_from s m z w ≡ true
     from r k None x = refl
-    from r k (Some b) x = not_false _ (λ y. no_frame-before graph s h w m n r b o k x (not_up_to-behind (entries s m) w b hw y))
+    from r k (Some b) x = true_from_ne_false _ (λ y. no_frame-before graph s h w m n r b o k x (not_up_to-behind (entries s m) w b hw y))
 
     go : (c : Option Run) → last_run_of s n m ≡ c → reacts graph s w m n ≡ true
     go None k = absurd (true≢false (sym p ∙ sym (seen-all m (entries s n)) ∙ ap is_some k))
@@ -91,32 +93,32 @@ frame-after graph s h t n o w d ow ne xw = go (or_cases _ _ (h.frames_spread w o
 
     -- each other open call stands behind the first
     behind_head : (v : ℕ) → opens s v n ≡ true → (t == v) ≡ false → reaches s.pairs t v ≡ true
-    behind_head v ov nv = cases (or_cases _ _ (behind-total (entries s n) t v (at-has is_frame (entries s n) t (opens-frame graph s h t n (heads-opens graph s h t n hd))) (at-has is_frame (entries s n) v fv) (λ e. is_not_true _ nv (equal_test t v e))))
+    behind_head v ov nv = cases (or_cases _ _ (behind-total (entries s n) t v (at-has is_frame (entries s n) t (opens-frame graph s h t n (heads-opens graph s h t n hd))) (at-has is_frame (entries s n) v fv) (λ e. both_ways _ nv (eq-eqb t v e))))
       where
         fv : at is_frame (entries s n) v ≡ true
         fv = opens-frame graph s h v n ov
 
         cases : (behind (entries s n) t v ≡ true) ⊎ (behind (entries s n) v t ≡ true) → reaches s.pairs t v ≡ true
         cases (inl b) = live-chain s t v lt (h.order_is_kept.lists n t v b (opens-live s v n ov))
-        cases (inr b) = absurd (is_not_true _ (first_open-none (entries s n) t v (h.one_entry n) (head-first (entries s n) t hd) b) fv)
+        cases (inr b) = absurd (both_ways _ (first_open-none (entries s n) t v (h.one_entry n) (head-first (entries s n) t hd) b) fv)
 
     go : (opens s w n ≡ true) ⊎ (wants s w n ≡ true) → reaches s.pairs t w ≡ true
     go (inl x) = behind_head w x ne
     go (inr x) =
         let c = h.wants_are_covered w n xw x in
         let r = live-chain s c.by.0 w (opens-live s c.by.0 n c.by.2) c.by.1 in
-        cases c.by.0 c.by.2 r (true_or_false (t == c.by.0))
+        cases c.by.0 c.by.2 r (cases_Bool (t == c.by.0))
       where
         cases : (v : ℕ) → opens s v n ≡ true → reaches s.pairs v w ≡ true → ((t == v) ≡ true) ⊎ ((t == v) ≡ false) → reaches s.pairs t w ≡ true
-        cases v ov r (inl e) = subst (λ (j : ℕ). reaches s.pairs j w ≡ true) (sym (same_number t v e)) r
-        cases v ov r (inr e) = reaches-trans s.pairs t v w (behind_head v ov e) r
+        cases v ov r (inl e) = subst (λ (j : ℕ). reaches s.pairs j w ≡ true) (sym (eqb-true t v e)) r
+        cases v ov r (inr e) = reaches-join s.pairs t v w (behind_head v ov e) r
 
 dropped-served : (graph : Graph) (s : Core) → IsLawful graph s → (t n o : ℕ) → Drops graph s t n o → (q : Core) → KeepsPlaces (live s) (entries s o) (entries q o) → has (entries q o) t ≡ true
     → OrderIsKept q → FramingComesLast q → ((u : ℕ) → live q u ≡ live s u) → ((u : ℕ) → executes q u ≡ executes s u) → ((u v : ℕ) → reaches s.pairs u v ≡ true → reaches q.pairs u v ≡ true) → IsServed (entries q o) t
 dropped-served graph s h t n o d q places entry order phases ls xs grows = record {
   entry = entry;
-  no_frame = not_true _ (λ f. closed (places.frame t f));
-  none_before = λ w b. not_true _ (λ f. before w b (places.frame w f) (true_or_false (t == w)));
+  no_frame = false_from_ne_true _ (λ f. closed (places.frame t f));
+  none_before = λ w b. false_from_ne_true _ (λ f. before w b (places.frame w f) (cases_Bool (t == w)));
 }
   where
     xt : executes s t ≡ true
@@ -126,11 +128,11 @@ dropped-served graph s h t n o d q places entry order phases ls xs grows = recor
     lt = ls t ∙ executes-live s t xt
 
     closed : at is_frame (entries s o) t ≡ true → ⊥
-    closed f = is_not_true _ (front-no_open graph s t n d.front) (any-in (opens s t) (deps graph s t n) o (list_any-append (λ x. x == o) (inputs_of (node_at graph n)) (prior_picks s t n) ∙ or_right (is_in o (inputs_of (node_at graph n))) (is_in o (prior_picks s t n)) d.prior) (h.frames_are_open.opens_frames t o ∙ f))
+    closed f = both_ways _ (front-no_open graph s t n d.front) (any-in (opens s t) (deps graph s t n) o (list_any-append (λ x. x == o) (inputs_of (node_at graph n)) (prior_picks s t n) ∙ or_right (is_in o (inputs_of (node_at graph n))) (is_in o (prior_picks s t n)) d.prior) (h.frames_are_open.opens_frames t o ∙ f))
 
     before : (w : ℕ) → behind (entries q o) w t ≡ true → at is_frame (entries s o) w ≡ true → ((t == w) ≡ true) ⊎ ((t == w) ≡ false) → ⊥
-    before w b f (inl e) = closed (subst (λ (j : ℕ). at is_frame (entries s o) j ≡ true) (sym (same_number t w e)) f)
-    before w b f (inr e) = is_not_true _ (order.no_cycle t) (reaches-trans q.pairs t w t (grows t w (frame-after graph s h t n o w d ow e xw)) (live-chain q w t lw p))
+    before w b f (inl e) = closed (subst (λ (j : ℕ). at is_frame (entries s o) j ≡ true) (sym (eqb-true t w e)) f)
+    before w b f (inr e) = both_ways _ (order.no_cycle t) (reaches-join q.pairs t w t (grows t w (frame-after graph s h t n o w d ow e xw)) (live-chain q w t lw p))
       where
         ow : opens s w o ≡ true
         ow = h.frames_are_open.opens_frames w o ∙ f
@@ -142,7 +144,7 @@ dropped-served graph s h t n o d q places entry order phases ls xs grows = recor
         p = order.lists o w t b lt
 
         xw : executes s w ≡ true
-        xw = sym (xs w) ∙ not_false _ (λ x. is_not_true _ (phases.before w t (and_make _ _ lw (ap not x)) (xs t ∙ xt)) p)
+        xw = sym (xs w) ∙ true_from_ne_false _ (λ x. both_ways _ (phases.before w t (and_from _ _ lw (ap not x)) (xs t ∙ xt)) p)
 
 -- ---- the step
 
@@ -172,7 +174,7 @@ dropped-settled graph s t n0 o h a = settled-stays graph s q h (by-nodes graph s
       where
         go : (b : Bool) → has (entries s o) t ≡ b → has (entries (elim b as (λ _. Core) [ true ↦ s | false ↦ enter s t o Mark ]) o) t ≡ true
         go true e = e
-        go false e = ap (λ (x : Cell). has x.entries t) (cell-there s o (place_entry s t Mark) (edge-there s o n0 d.edge)) ∙ placed-has (stops_call s t) (new_entry s t Mark) (entries s o) t ∙ or_left _ _ (equal_test t t refl)
+        go false e = ap (λ (x : Cell). has x.entries t) (cell-there s o (place_entry s t Mark) (edge-there s o n0 d.edge)) ∙ placed-has (stops_call s t) (new_entry s t Mark) (entries s o) t ∙ or_left _ _ (eq-eqb t t refl)
 
     served : IsServed (entries q o) t
     served = dropped-served graph s h t n0 o d q (places o) entry (step-OrderIsKept graph s (steps.Drop t n0 o) h a) (step-FramingComesLast graph s (steps.Drop t n0 o) h a)
@@ -187,12 +189,12 @@ dropped-settled graph s t n0 o h a = settled-stays graph s q h (by-nodes graph s
         removed : m ≡ o → has_node (remove_first n0 (outs p m)) n ≡ false → ((n == n0) ≡ true) ⊎ ((n == n0) ≡ false) → (has_node (outs s m) n ≡ false) ⊎ IsServed (entries q m) u
         removed e y (inr z) = inl (edges-kept m n ∙ sym (removed-node n0 n (outs p m) z) ∙ y)
         removed e y (inl z) =
-            let w = heads-same s t u n0 (at_front-heads graph s t n0 d.front) (subst (λ (j : ℕ). heads s u j ≡ true) (same_number n n0 z) x) in
+            let w = heads-same s t u n0 (at_front-heads graph s t n0 d.front) (subst (λ (j : ℕ). heads s u j ≡ true) (eqb-true n n0 z) x) in
             inr (subst (λ (j : ℕ). IsServed (entries q j) u) (sym e) (subst (IsServed (entries q o)) (sym w) served))
 
         go : (cell q m ≡ cell p m) ⊎ ((m ≡ o) × (cell q m ≡ drop_edge n0 (cell p m))) → (has_node (outs s m) n ≡ false) ⊎ IsServed (entries q m) u
         go (inl e) = inl (edges-kept m n ∙ sym (ap (λ (y : Cell). has_node y.outs n) e) ∙ k)
-        go (inr e) = removed e.0 (sym (ap (λ (y : Cell). has_node y.outs n) e.1) ∙ k) (true_or_false (n == n0))
+        go (inr e) = removed e.0 (sym (ap (λ (y : Cell). has_node y.outs n) e.1) ∙ k) (cases_Bool (n == n0))
 
     nodes : (u m n : ℕ) → HowSettled graph q u m n → IsSettled graph s u m ⊎ IsServed (entries q m) u
     nodes u m n k = go (settled-or graph s q u m n (subst (λ (es : List Entry). KeepsPicks (entries s n) es u) (sym (lists n)) (ensured-picks graph s h t o u n)) (λ j c. (ensured-calls s t o).changed u j c)

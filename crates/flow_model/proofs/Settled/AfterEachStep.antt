@@ -1,18 +1,18 @@
 -- After each step and each beginning no Frame stands before a settled entry, and it is none.
 use Rattle.std.proofs.Common.{◌≡◌, ℕ, suc, true, false, ◌⊎◌, ◌==◌, inl, inr, refl, sym, ap, length, true≢false, ◌∙◌, subst, Option, Some, None}
+use Rattle.std.proofs.lemmas.Bool.{both_ways}
 use Rattle.std.specs.Prelude.{is_some}
 use Rattle.std.specs.Prelude.{take}
 use Rattle.signal_graph.specs.declared.call.Call.{Call}
 use Rattle.signal_graph.specs.Graph.{Graph, is_in}
 use Rattle.node_versions.specs.Entries.{has, is_done}
+use Rattle.node_versions.proofs.Places.{at-has}
 use Rattle.flow_model.specs.declared.step.Step.{Step}
 use Rattle.flow_model.specs.declared.step.Step.TheVariants as steps
 use Rattle.flow_model.specs.Machine.State.{Core, LiveCall, call_of, call_or, live, entries, changes}
 use Rattle.flow_model.specs.Machine.Steps.{allowed, apply, begin, new_call}
 use Rattle.flow_model.specs.Kept.Runs.{looked_at, IsSettled, by_node, by_look}
 use Rattle.flow_model.specs.Kept.Lawful.{IsLawful, SettledIsKept}
-use Rattle.flow_model.proofs.General.Truths.{is_not_true}
-use Rattle.flow_model.proofs.OneList.StatesAndPlaces.{at-has}
 use Rattle.flow_model.proofs.Wants.FramedWith.{heads-opens}
 use Rattle.flow_model.proofs.OneStep.WhoMayStep.{opens-live}
 use Rattle.flow_model.proofs.OneStep.BegunCalls.{begin-call}
@@ -55,14 +55,14 @@ unsettled graph s h u m l absent (by_look k) = go (call_of s.calls u) refl k
   where
     go : (o : Option LiveCall) → call_of s.calls u ≡ o → is_in m (take (length (call_or o).looked) (call_or o).looks) ≡ true → ⊥
     go None e j = true≢false (sym j)
-    go (Some c) e j = is_not_true _ l (ap is_some e)
+    go (Some c) e j = both_ways _ l (ap is_some e)
 unsettled graph s h u m l absent (by_node n k) = go (how graph s u m n k)
   where
     go : HowSettled graph s u m n → ⊥
-    go (by_gather x y) = is_not_true _ l (opens-live s u n (heads-opens graph s h u n x))
-    go (by_leaving p d y) = is_not_true _ (absent n) (at-has is_done (entries s n) u d)
-    go (by_drop p x y) = is_not_true _ l (opens-live s u n (heads-opens graph s h u n x))
-    go (by_due d y i) = is_not_true _ (absent n) (at-has is_done (entries s n) u d)
+    go (by_gather x y) = both_ways _ l (opens-live s u n (heads-opens graph s h u n x))
+    go (by_leaving p d y) = both_ways _ (absent n) (at-has is_done (entries s n) u d)
+    go (by_drop p x y) = both_ways _ l (opens-live s u n (heads-opens graph s h u n x))
+    go (by_due d y i) = both_ways _ (absent n) (at-has is_done (entries s n) u d)
 
 begin-back : (graph : Graph) (s : Core) (caller : ℕ) (c : Call) → IsLawful graph s → (u m : ℕ) → IsSettled graph (begin graph s caller c) u m → IsSettled graph s u m
 begin-back graph s caller c h u m k = go (begin-call graph s h caller c u) k

@@ -1,6 +1,8 @@
 -- End and Collect leave settled entries settled, with no Frame before them: what goes nobody reads any more.
 use Rattle.std.proofs.Common.{◌≡◌, ℕ, Bool, true, false, not, ◌==◌, ◌⊎◌, inl, inr, refl, sym, ap, List, length, true≢false, ◌∙◌, subst, Option, None}
+use Rattle.std.proofs.lemmas.Bool.{eqb-true, eq-eqb, false_from_ne_true, both_ways, cases_Bool}
 use Rattle.std.specs.Prelude.{is_some, take}
+use Rattle.script_tree.proofs.Truths.{and_right}
 use Rattle.signal_graph.specs.Graph.{Graph, is_in}
 use Rattle.signal_graph.specs.Values.{nodes_in}
 use Rattle.node_versions.specs.Entries.{at, is_frame, is_done, behind, first_open, has_node, picks_before}
@@ -10,8 +12,7 @@ use Rattle.flow_model.specs.Machine.Words.{heads, deps, touched, gathered_of, is
 use Rattle.flow_model.specs.Machine.Steps.{apply, collect, without_call}
 use Rattle.flow_model.specs.Kept.Runs.{by_node}
 use Rattle.flow_model.specs.Kept.Lawful.{IsLawful}
-use Rattle.flow_model.proofs.General.Truths.{same_number, equal_test, not_true, is_not_true, true_or_false}
-use Rattle.flow_model.proofs.OneStep.WhoMayStep.{and_right, opens-live}
+use Rattle.flow_model.proofs.OneStep.WhoMayStep.{opens-live}
 use Rattle.flow_model.proofs.OneList.StatesAndPlaces.{first_open-frame}
 use Rattle.flow_model.proofs.OrderStays.NoFrameBeforeDones.{head-first}
 use Rattle.flow_model.proofs.OneList.Entering.{with_cell-cell}
@@ -34,11 +35,11 @@ without-calls s t q e = record {
 }
   where
     go : (read : Option LiveCall → Bool) → read None ≡ false → (u : ℕ) → read (call_of (without_call t s.calls) u) ≡ true → read (call_of s.calls u) ≡ true
-    go read f u k = cases (true_or_false (u == t))
+    go read f u k = cases (cases_Bool (u == t))
       where
         cases : ((u == t) ≡ true) ⊎ ((u == t) ≡ false) → read (call_of s.calls u) ≡ true
-        cases (inl x) = absurd (is_not_true _ (ap (λ (v : ℕ). read (call_of (without_call t s.calls) v)) (same_number u t x) ∙ ap read (without_call-same t s.calls) ∙ f) k)
-        cases (inr x) = sym (ap read (without_call-other t u s.calls (λ y. is_not_true _ x (equal_test u t y)))) ∙ k
+        cases (inl x) = absurd (both_ways _ (ap (λ (v : ℕ). read (call_of (without_call t s.calls) v)) (eqb-true u t x) ∙ ap read (without_call-same t s.calls) ∙ f) k)
+        cases (inr x) = sym (ap read (without_call-other t u s.calls (λ y. both_ways _ x (eq-eqb u t y)))) ∙ k
 
 pub ended-settled : (graph : Graph) (s : Core) (t : ℕ) → IsLawful graph s → SettledStays graph (apply graph s (steps.End t))
 ended-settled graph s t h = same_cells-settled graph s (apply graph s (steps.End t)) h (without-calls s t (apply graph s (steps.End t)) refl) refl
@@ -68,7 +69,7 @@ collected-settled graph s n0 h = settled-stays graph s q h (by-nodes graph s q (
     edges n m k = sym (same-part (λ x. has_node x.outs n) s n0 (collect s) (λ x. refl) m) ∙ k
 
     not_ended : (u : ℕ) → not (live s u) ≡ true → live s u ≡ false
-    not_ended u k = not_true _ (λ l. true≢false (sym k ∙ ap not l))
+    not_ended u k = false_from_ne_true _ (λ l. true≢false (sym k ∙ ap not l))
 
     prefix : (n x y : ℕ) → behind (entries s n) x y ≡ true → not (live s y) ≡ true → not (live s x) ≡ true
     prefix n x y b k = ap not (h.ended_is_prefix.prefix n x y b (not_ended y k))
@@ -83,9 +84,9 @@ collected-settled graph s n0 h = settled-stays graph s q h (by-nodes graph s q (
         frame-live graph s h n u (first_open-frame (entries s n) u (h.one_entry n) f)
 
     of_ended : (u m n : ℕ) → live s u ≡ false → cell q n ≡ collect s (cell s n) → HowSettled graph q u m n → HowSettled graph s u m n
-    of_ended u m n l e (by_gather x y) = absurd (is_not_true _ l (head-live n u e x))
-    of_ended u m n l e (by_drop p x y) = absurd (is_not_true _ l (head-live n u e x))
-    of_ended u m n l e (by_due d k i) = absurd (is_not_true _ l (touched-live graph q u n k))
+    of_ended u m n l e (by_gather x y) = absurd (both_ways _ l (head-live n u e x))
+    of_ended u m n l e (by_drop p x y) = absurd (both_ways _ l (head-live n u e x))
+    of_ended u m n l e (by_due d k i) = absurd (both_ways _ l (touched-live graph q u n k))
     of_ended u m n l e (by_leaving p d k) =
         let d2 = subst (λ (x : Cell). at is_done x.entries u ≡ true) e d in
         let none = ap (λ (x : Cell). picks_before x.entries u) e ∙ collected-first (λ v. not (live s v)) (entries s n) u (ap not l) d2 in
@@ -93,7 +94,7 @@ collected-settled graph s n0 h = settled-stays graph s q h (by-nodes graph s q (
 
     before : (u m n : ℕ) → (cell q n ≡ cell s n) ⊎ ((n ≡ n0) × (cell q n ≡ collect s (cell s n))) → HowSettled graph q u m n → HowSettled graph s u m n
     before u m n (inl e) k = settled-before graph s q u m n (same-picks (entries s n) (entries q n) u (ap (λ (x : Cell). x.entries) e)) (λ j c. c) (gathered n m) (edges n m) k
-    before u m n (inr e) k = cases (true_or_false (live s u))
+    before u m n (inr e) k = cases (cases_Bool (live s u))
       where
         cases : (live s u ≡ true) ⊎ (live s u ≡ false) → HowSettled graph s u m n
         cases (inr l) = of_ended u m n l e.1 k

@@ -2,13 +2,18 @@
 use Rattle.std.proofs.Common.{◌≡◌, ℕ, Bool, true, false, not, ◌==◌, ◌⊎◌, inl, inr, refl, sym, ap, arith, List, [], ◌∷◌, ◌++◌, true≢false, ◌∙◌, subst, Option, Some, None}
 use Rattle.std.specs.Prelude.{is_some}
 use Rattle.std.proofs.lemmas.Bool.Decides.{eqb_tells}
+use Rattle.std.proofs.lemmas.Bool.{or_cases, or_right, and_from, eqb-true, eq-eqb, false_from_ne_true, both_ways, cases_Bool, true_from_ne_false}
+use Rattle.script_tree.proofs.Numbers.{differs_back}
 use Rattle.signal_graph.specs.Graph.{Graph, is_in}
 use Rattle.signal_graph.specs.Values.{nodes_in}
 use Rattle.order_graph.specs.Order.{reaches}
+use Rattle.order_graph.proofs.Reaching.{reaches-join}
 use Rattle.node_versions.specs.declared.entry.State.{State}
 use Rattle.node_versions.specs.declared.entry.State.TheVariants.{Mark, Frame, Done}
 use Rattle.node_versions.specs.declared.entry.Entry.{Entry}
 use Rattle.node_versions.specs.Entries.{IsUnique, has, at, is_mark, is_frame, is_done, behind, front, rest, first_open, has_node, last_done, only_done, state_of, picks_of, picks_before, placed, with_state}
+use Rattle.node_versions.proofs.KeptLemmas.{has-with_state}
+use Rattle.node_versions.proofs.Places.{at-has}
 use Rattle.flow_model.specs.declared.step.Step.TheVariants as steps
 use Rattle.flow_model.specs.Machine.State.{Core, LiveCall, Cell, cell, live, executes, entries, outs, opens, wants, precedes}
 use Rattle.flow_model.specs.Machine.Words.{active_outs, gathered_of, is_gathered, is_prior}
@@ -16,14 +21,12 @@ use Rattle.flow_model.specs.Machine.Changes.{stops_call, new_entry, place_entry,
 use Rattle.flow_model.specs.Machine.Steps.{allowed, apply, open_node, frame}
 use Rattle.flow_model.specs.Kept.Runs.{IsSettled, by_node, by_look}
 use Rattle.flow_model.specs.Kept.Lawful.{IsLawful, OrderIsKept, FramingComesLast, EndedIsPrefix, FramesAreOpen, SomeHead, IsWorking, picks_last}
-use Rattle.flow_model.proofs.General.Truths.{or_cases, or_right, and_make, same_number, equal_test, not_true, not_false, is_not_true, true_or_false}
 use Rattle.flow_model.proofs.OneStep.WhoMayStep.{executes-live, opens-live, wants-live, frame-wants}
-use Rattle.flow_model.proofs.OneList.Chains.{reaches-trans}
 use Rattle.flow_model.proofs.OrderStays.AfterEachStep.{step-OrderIsKept, wanted-fresh}
 use Rattle.flow_model.proofs.OrderStays.EntriesAndRoom.{step-FramingComesLast, step-EndedIsPrefix, step-one_entry}
-use Rattle.flow_model.proofs.OneList.InOrder.{on_calls, front-rest, with_state-has}
+use Rattle.flow_model.proofs.OneList.InOrder.{on_calls, front-rest}
 use Rattle.flow_model.proofs.OneList.OneEntryACall.{placed-has, placed-at, placed-at_other}
-use Rattle.flow_model.proofs.OneList.StatesAndPlaces.{at-has, behind-has, behind-total, with_state-at, with_state-behind, first_open-none}
+use Rattle.flow_model.proofs.OneList.StatesAndPlaces.{behind-has, behind-total, with_state-at, with_state-behind, first_open-none}
 use Rattle.flow_model.proofs.OrderStays.NoFrameBeforeDones.{head-first}
 use Rattle.flow_model.proofs.Wants.FramedWith.{opens-frame, heads-opens, live-chain, before-not_after}
 use Rattle.flow_model.proofs.Reactions.WhereRunsBegin.{before-last}
@@ -64,9 +67,9 @@ placed-GetsFrame stops e es f q fresh = record {
   done = λ u d. placed-done stops e es u fresh not_done none d;
   head = λ u ne k. (subst (λ (zs : List Entry). first_open zs ≡ Some u) (front-rest stops es) (more-first (front (on_calls stops) es) (rest (on_calls stops) es) e u ne k), placed-before stops e es u ne none);
   last = placed-last_done stops e es none;
-  other = λ u ne. placed-at_other is_frame stops e es u (λ x. is_not_true _ ne (equal_test e.version u (sym x)));
+  other = λ u ne. placed-at_other is_frame stops e es u (λ x. both_ways _ ne (eq-eqb e.version u (sym x)));
   framed = placed-at is_frame stops e es fresh ∙ ap is_frame f;
-  order = λ u v ne b hv. sym (placed-behind stops e es u v ne (not_true _ (λ x. is_not_true _ fresh (subst (λ (w : ℕ). has es w ≡ true) (sym (same_number e.version v x)) hv)))) ∙ b;
+  order = λ u v ne b hv. sym (placed-behind stops e es u v ne (false_from_ne_true _ (λ x. both_ways _ fresh (subst (λ (w : ℕ). has es w ≡ true) (sym (eqb-true e.version v x)) hv)))) ∙ b;
   entrant = λ v k ne. new v ne (or_cases _ _ (sym (placed-has stops e es v) ∙ k));
   stays_in = λ u k. placed-has stops e es u ∙ or_right _ _ k;
 }
@@ -78,22 +81,19 @@ placed-GetsFrame stops e es f q fresh = record {
     none = rw (not_done, only_done) refl
 
     new : (v : ℕ) → (e.version == v) ≡ false → ((e.version == v) ≡ true) ⊎ (has es v ≡ true) → has es v ≡ true
-    new v ne (inl x) = absurd (is_not_true _ ne x)
+    new v ne (inl x) = absurd (both_ways _ ne x)
     new v ne (inr x) = x
-
-flipped : (a b : ℕ) → (a == b) ≡ false → (b == a) ≡ false
-flipped a b h = not_true _ (λ x. is_not_true _ h (equal_test a b (sym (same_number b a x))))
 
 raised-GetsFrame : (t : ℕ) (es : List Entry) → at is_mark es t ≡ true → GetsFrame t es (with_state t Frame es)
 raised-GetsFrame t es m = record {
   done = λ u d. raised-done t Frame es u no_done refl d;
   head = λ u ne k. (raised-first t es u ne k, raised-picks_before t Frame es u no_done refl);
   last = raised-last_done t Frame es no_done refl;
-  other = λ u ne. let w = with_state-at is_frame t Frame es u in let n = flipped t u ne in rw n at w;
-  framed = let w = with_state-at is_frame t Frame es t in let e = equal_test t t refl in let ht = at-has is_mark es t m in grind (arith, w, e, ht);
+  other = λ u ne. let w = with_state-at is_frame t Frame es u in let n = differs_back t u ne in rw n at w;
+  framed = let w = with_state-at is_frame t Frame es t in let e = eq-eqb t t refl in let ht = at-has is_mark es t m in grind (arith, w, e, ht);
   order = λ u v ne b hv. sym (with_state-behind t Frame es u v) ∙ b;
-  entrant = λ v k ne. sym (with_state-has t Frame es v) ∙ k;
-  stays_in = λ u k. with_state-has t Frame es u ∙ k;
+  entrant = λ v k ne. sym (has-with_state t Frame es v) ∙ k;
+  stays_in = λ u k. has-with_state t Frame es u ∙ k;
 }
   where
     mark-no_done : (es : List Entry) → at is_mark es t ≡ true → at is_done es t ≡ false
@@ -147,10 +147,10 @@ framed-order graph s q h t n wt f k v xv b place = go (h.wants_are_covered t n x
     p = k.order.lists n t v b lv
 
     xt : executes s t ≡ true
-    xt = sym (f.runs_on t) ∙ not_false _ (λ x. is_not_true _ (k.phases.before t v (and_make _ _ lt (ap not x)) (f.runs_on v ∙ xv)) p)
+    xt = sym (f.runs_on t) ∙ true_from_ne_false _ (λ x. both_ways _ (k.phases.before t v (and_from _ _ lt (ap not x)) (f.runs_on v ∙ xv)) p)
 
     cycle : reaches s.pairs v t ≡ true → ⊥
-    cycle r = is_not_true _ (k.order.no_cycle t) (reaches-trans q.pairs t v t (live-chain q t v lt p) (f.grows v t r))
+    cycle r = both_ways _ (k.order.no_cycle t) (reaches-join q.pairs t v t (live-chain q t v lt p) (f.grows v t r))
 
     go : (w : ℕ) × (precedes s w t ≡ true) × (opens s w n ≡ true) → ⊥
     go c = cases (place c.0 c.2)
@@ -160,7 +160,7 @@ framed-order graph s q h t n wt f k v xv b place = go (h.wants_are_covered t n x
 
         cases : (c.0 ≡ v) ⊎ (behind (entries s n) v c.0 ≡ true) → ⊥
         cases (inl e) = cycle (subst (λ (j : ℕ). reaches s.pairs j t ≡ true) e r)
-        cases (inr y) = cycle (reaches-trans s.pairs v c.0 t (live-chain s v c.0 (executes-live s v xv) (h.order_is_kept.lists n v c.0 y (opens-live s c.0 n c.2))) r)
+        cases (inr y) = cycle (reaches-join s.pairs v c.0 t (live-chain s v c.0 (executes-live s v xv) (h.order_is_kept.lists n v c.0 y (opens-live s c.0 n c.2))) r)
 
 -- Where work is done at a node for its first open call, a new Frame doesn't come first.
 not_first : (graph : Graph) (s q : Core) → IsLawful graph s → (t n : ℕ) → wants s t n ≡ true → Frames s q t n → KnownAfter q → GetsFrame t (entries s n) (entries q n) → SomeHead s n (IsWorking graph s n) → first_open (entries q n) ≡ Some t → ⊥
@@ -170,31 +170,31 @@ not_first graph s q h t n wt f k g w x = framed-order graph s q h t n wt f k w.h
     fh = opens-frame graph s h w.head n (heads-opens graph s h w.head n w.first)
 
     ne : (t == w.head) ≡ false
-    ne = not_true _ (λ e. is_not_true _ (h.wants_are_free t n wt).not_open (subst (λ (j : ℕ). opens s j n ≡ true) (sym (same_number t w.head e)) (heads-opens graph s h w.head n w.first)))
+    ne = false_from_ne_true _ (λ e. both_ways _ (h.wants_are_free t n wt).not_open (subst (λ (j : ℕ). opens s j n ≡ true) (sym (eqb-true t w.head e)) (heads-opens graph s h w.head n w.first)))
 
     fq : at is_frame (entries q n) w.head ≡ true
     fq = g.other w.head ne ∙ fh
 
     b : behind (entries q n) t w.head ≡ true
-    b = cases (or_cases _ _ (behind-total (entries q n) t w.head (at-has is_frame (entries q n) t g.framed) (at-has is_frame (entries q n) w.head fq) (λ e. is_not_true _ ne (equal_test t w.head e))))
+    b = cases (or_cases _ _ (behind-total (entries q n) t w.head (at-has is_frame (entries q n) t g.framed) (at-has is_frame (entries q n) w.head fq) (λ e. both_ways _ ne (eq-eqb t w.head e))))
       where
         cases : (behind (entries q n) t w.head ≡ true) ⊎ (behind (entries q n) w.head t ≡ true) → behind (entries q n) t w.head ≡ true
         cases (inl y) = y
-        cases (inr y) = absurd (is_not_true _ (first_open-none (entries q n) t w.head (k.unique n) x y) fq)
+        cases (inr y) = absurd (both_ways _ (first_open-none (entries q n) t w.head (k.unique n) x y) fq)
 
     place : (v : ℕ) → opens s v n ≡ true → (v ≡ w.head) ⊎ (behind (entries s n) w.head v ≡ true)
-    place v o = cases (true_or_false (v == w.head))
+    place v o = cases (cases_Bool (v == w.head))
       where
         fv : at is_frame (entries s n) v ≡ true
         fv = opens-frame graph s h v n o
 
         total : (v == w.head) ≡ false → (behind (entries s n) v w.head ≡ true) ⊎ (behind (entries s n) w.head v ≡ true) → behind (entries s n) w.head v ≡ true
         total e (inr y) = y
-        total e (inl y) = absurd (is_not_true _ (first_open-none (entries s n) w.head v (h.one_entry n) (head-first (entries s n) w.head w.first) y) fv)
+        total e (inl y) = absurd (both_ways _ (first_open-none (entries s n) w.head v (h.one_entry n) (head-first (entries s n) w.head w.first) y) fv)
 
         cases : ((v == w.head) ≡ true) ⊎ ((v == w.head) ≡ false) → (v ≡ w.head) ⊎ (behind (entries s n) w.head v ≡ true)
-        cases (inl e) = inl (same_number v w.head e)
-        cases (inr e) = inr (total e (or_cases _ _ (behind-total (entries s n) v w.head (at-has is_frame (entries s n) v fv) (at-has is_frame (entries s n) w.head fh) (λ z. is_not_true _ e (equal_test v w.head z)))))
+        cases (inl e) = inl (eqb-true v w.head e)
+        cases (inr e) = inr (total e (or_cases _ _ (behind-total (entries s n) v w.head (at-has is_frame (entries s n) v fv) (at-has is_frame (entries s n) w.head fh) (λ z. both_ways _ e (eq-eqb v w.head z)))))
 
 -- ---- what is settled
 
@@ -213,18 +213,18 @@ framed-before graph s q h t n0 wt f k u m n j = go (f.lists n) j
 
     there : n ≡ n0 → GetsFrame t (entries s n) (entries q n) → HowSettled graph q u m n → ((t == u) ≡ true) ⊎ ((t == u) ≡ false) → HowSettled graph s u m n
     there e g y (inr ne) = settled-before graph s q u m n (record { done = λ d. g.done u d; head = λ x. g.head u ne x }) (f.calls.changed u) (f.gathered n m) (f.edges n m) y
-    there e g (by_gather x y) (inl w) = absurd (first_new e g (working (f.gathered n m y)) (subst (λ (i : ℕ). first_open (entries q n) ≡ Some i) (sym (same_number t u w)) (head-first (entries q n) u x)))
+    there e g (by_gather x y) (inl w) = absurd (first_new e g (working (f.gathered n m y)) (subst (λ (i : ℕ). first_open (entries q n) ≡ Some i) (sym (eqb-true t u w)) (head-first (entries q n) u x)))
     there e g (by_drop p x y) (inl w) =
-        let i = same_number t u w in
+        let i = eqb-true t u w in
         let p2 = sym (last g) ∙ subst (λ (z : ℕ). is_prior q z n m ≡ true) (sym i) p in
         let found = h.edges_are_kept.missing n m p2 (f.edges n m y) in
         absurd (first_new e g (h.work_is_kept.finds n found.holds) (subst (λ (z : ℕ). first_open (entries q n) ≡ Some z) (sym i) (head-first (entries q n) u x)))
-    there e g (by_leaving p d l) (inl w) = absurd (is_not_true _ (not_both (entries q n) t g.framed) (subst (λ (z : ℕ). at is_done (entries q n) z ≡ true) (sym (same_number t u w)) d))
-    there e g (by_due d y i) (inl w) = absurd (is_not_true _ (not_both (entries q n) t g.framed) (subst (λ (z : ℕ). at is_done (entries q n) z ≡ true) (sym (same_number t u w)) d))
+    there e g (by_leaving p d l) (inl w) = absurd (both_ways _ (not_both (entries q n) t g.framed) (subst (λ (z : ℕ). at is_done (entries q n) z ≡ true) (sym (eqb-true t u w)) d))
+    there e g (by_due d y i) (inl w) = absurd (both_ways _ (not_both (entries q n) t g.framed) (subst (λ (z : ℕ). at is_done (entries q n) z ≡ true) (sym (eqb-true t u w)) d))
 
     go : (entries q n ≡ entries s n) ⊎ ((n ≡ n0) × GetsFrame t (entries s n) (entries q n)) → HowSettled graph q u m n → HowSettled graph s u m n
     go (inl e) y = settled-before graph s q u m n (same-picks (entries s n) (entries q n) u e) (f.calls.changed u) (f.gathered n m) (f.edges n m) y
-    go (inr e) y = there e.0 e.1 y (true_or_false (t == u))
+    go (inr e) y = there e.0 e.1 y (cases_Bool (t == u))
 
 settled-back : (graph : Graph) (s q : Core) → IsLawful graph s → (t n0 : ℕ) → wants s t n0 ≡ true → Frames s q t n0 → KnownAfter q → (v m : ℕ) → IsSettled graph q v m → IsSettled graph s v m
 settled-back graph s q h t n0 wt f k v m (by_node n j) = by_node n (settled-by graph s v m n (framed-before graph s q h t n0 wt f k v m n (how graph q v m n j)))
@@ -238,35 +238,35 @@ wanted-open graph s h t n wt k = go (h.wants_are_covered t n (settled-executes g
     lt = wants-live s t n wt
 
     go : (w : ℕ) × (precedes s w t ≡ true) × (opens s w n ≡ true) → ⊥
-    go c = cases (or_cases _ _ (behind-total (entries s n) c.0 t (at-has is_frame (entries s n) c.0 fw) (h.settled_has_entry t n lt k) (λ e. is_not_true _ (h.wants_are_free t n wt).not_open (subst (λ (j : ℕ). opens s j n ≡ true) e c.2))))
+    go c = cases (or_cases _ _ (behind-total (entries s n) c.0 t (at-has is_frame (entries s n) c.0 fw) (h.settled_has_entry t n lt k) (λ e. both_ways _ (h.wants_are_free t n wt).not_open (subst (λ (j : ℕ). opens s j n ≡ true) e c.2))))
       where
         fw : at is_frame (entries s n) c.0 ≡ true
         fw = opens-frame graph s h c.0 n c.2
 
         cases : (behind (entries s n) c.0 t ≡ true) ⊎ (behind (entries s n) t c.0 ≡ true) → ⊥
-        cases (inl b) = is_not_true _ (h.settled_is_kept.none_before c.0 t n k b) fw
-        cases (inr b) = is_not_true _ (before-not_after graph s h c.0 t c.1) (h.order_is_kept.lists n t c.0 b (opens-live s c.0 n c.2))
+        cases (inl b) = both_ways _ (h.settled_is_kept.none_before c.0 t n k b) fw
+        cases (inr b) = both_ways _ (before-not_after graph s h c.0 t c.1) (h.order_is_kept.lists n t c.0 b (opens-live s c.0 n c.2))
 
 -- The new Frame stands before no settled entry.
 enters-behind : (graph : Graph) (s q : Core) → IsLawful graph s → (t n : ℕ) → wants s t n ≡ true → Frames s q t n → KnownAfter q → (v : ℕ) → IsSettled graph s v n → behind (entries q n) t v ≡ true → ⊥
-enters-behind graph s q h t n wt f k v settled b = go (true_or_false (live s v))
+enters-behind graph s q h t n wt f k v settled b = go (cases_Bool (live s v))
   where
     lt : live q t ≡ true
     lt = f.lives t ∙ wants-live s t n wt
 
     place : live s v ≡ true → (w : ℕ) → opens s w n ≡ true → (w ≡ v) ⊎ (behind (entries s n) v w ≡ true)
-    place lv w o = inr (cases (or_cases _ _ (behind-total (entries s n) w v (at-has is_frame (entries s n) w fw) (h.settled_has_entry v n lv settled) (λ e. is_not_true _ (h.settled_is_kept.no_frame v n settled) (subst (λ (j : ℕ). at is_frame (entries s n) j ≡ true) e fw)))))
+    place lv w o = inr (cases (or_cases _ _ (behind-total (entries s n) w v (at-has is_frame (entries s n) w fw) (h.settled_has_entry v n lv settled) (λ e. both_ways _ (h.settled_is_kept.no_frame v n settled) (subst (λ (j : ℕ). at is_frame (entries s n) j ≡ true) e fw)))))
       where
         fw : at is_frame (entries s n) w ≡ true
         fw = opens-frame graph s h w n o
 
         cases : (behind (entries s n) w v ≡ true) ⊎ (behind (entries s n) v w ≡ true) → behind (entries s n) v w ≡ true
-        cases (inl y) = absurd (is_not_true _ (h.settled_is_kept.none_before w v n settled y) fw)
+        cases (inl y) = absurd (both_ways _ (h.settled_is_kept.none_before w v n settled y) fw)
         cases (inr y) = y
 
     go : (live s v ≡ true) ⊎ (live s v ≡ false) → ⊥
     go (inl lv) = framed-order graph s q h t n wt f k v (settled-executes graph s h v n lv settled) b (place lv)
-    go (inr e) = is_not_true _ (k.ended.prefix n t v b (f.lives v ∙ e)) lt
+    go (inr e) = both_ways _ (k.ended.prefix n t v b (f.lives v ∙ e)) lt
 
 framed-stays : (graph : Graph) (s q : Core) → IsLawful graph s → (t n0 : ℕ) → wants s t n0 ≡ true → Frames s q t n0 → KnownAfter q → SettledStays graph q
 framed-stays graph s q h t n0 wt f k = record {
@@ -279,19 +279,19 @@ framed-stays graph s q h t n0 wt f k = record {
 
     before : (u v m : ℕ) → behind (entries q m) u v ≡ true → IsSettled graph s v m → (entries q m ≡ entries s m) ⊎ ((m ≡ n0) × GetsFrame t (entries s m) (entries q m)) → at is_frame (entries q m) u ≡ false
     before u v m b j (inl e) = ap (λ (es : List Entry). at is_frame es u) e ∙ h.settled_is_kept.none_before u v m j (subst (λ (es : List Entry). behind es u v ≡ true) e b)
-    before u v m b j (inr e) = cases (true_or_false (t == u)) (true_or_false (t == v))
+    before u v m b j (inr e) = cases (cases_Bool (t == u)) (cases_Bool (t == v))
       where
         cases : ((t == u) ≡ true) ⊎ ((t == u) ≡ false) → ((t == v) ≡ true) ⊎ ((t == v) ≡ false) → at is_frame (entries q m) u ≡ false
-        cases x (inl y) = absurd (own m e.0 (subst (λ (w : ℕ). IsSettled graph s w m) (sym (same_number t v y)) j))
-        cases (inl x) (inr y) = absurd (enters-behind graph s q h t m (subst (λ (i : ℕ). wants s t i ≡ true) (sym e.0) wt) (subst (Frames s q t) (sym e.0) f) k v j (subst (λ (w : ℕ). behind (entries q m) w v ≡ true) (sym (same_number t u x)) b))
+        cases x (inl y) = absurd (own m e.0 (subst (λ (w : ℕ). IsSettled graph s w m) (sym (eqb-true t v y)) j))
+        cases (inl x) (inr y) = absurd (enters-behind graph s q h t m (subst (λ (i : ℕ). wants s t i ≡ true) (sym e.0) wt) (subst (Frames s q t) (sym e.0) f) k v j (subst (λ (w : ℕ). behind (entries q m) w v ≡ true) (sym (eqb-true t u x)) b))
         cases (inr x) (inr y) = e.1.other u x ∙ h.settled_is_kept.none_before u v m j (e.1.order u v x b (e.1.entrant v (behind-has (entries q m) u v b).1 y))
 
     no_frame : (v m : ℕ) → IsSettled graph s v m → (entries q m ≡ entries s m) ⊎ ((m ≡ n0) × GetsFrame t (entries s m) (entries q m)) → at is_frame (entries q m) v ≡ false
     no_frame v m j (inl e) = ap (λ (es : List Entry). at is_frame es v) e ∙ h.settled_is_kept.no_frame v m j
-    no_frame v m j (inr e) = cases (true_or_false (t == v))
+    no_frame v m j (inr e) = cases (cases_Bool (t == v))
       where
         cases : ((t == v) ≡ true) ⊎ ((t == v) ≡ false) → at is_frame (entries q m) v ≡ false
-        cases (inl y) = absurd (own m e.0 (subst (λ (w : ℕ). IsSettled graph s w m) (sym (same_number t v y)) j))
+        cases (inl y) = absurd (own m e.0 (subst (λ (w : ℕ). IsSettled graph s w m) (sym (eqb-true t v y)) j))
         cases (inr y) = e.1.other v y ∙ h.settled_is_kept.no_frame v m j
 
     entry : (u m : ℕ) → has (entries s m) u ≡ true → (entries q m ≡ entries s m) ⊎ ((m ≡ n0) × GetsFrame t (entries s m) (entries q m)) → has (entries q m) u ≡ true

@@ -1,7 +1,9 @@
 -- After the steps that change no Frame, no Frame stands before a settled entry, which is none and is there.
 use Rattle.std.proofs.Common.{◌≡◌, ℕ, zero, suc, Bool, true, false, ◌==◌, ◌⊎◌, inl, inr, refl, sym, ap, arith, List, [], ◌∷◌, ◌++◌, length, true≢false, ◌∙◌, subst, Option, Some, None}
+use Rattle.std.proofs.lemmas.Bool.{or_cases, or_left, or_right, eqb-true, cases_Bool}
 use Rattle.std.specs.Prelude.{is_some, take, slice_get, map}
 use Rattle.script_tree.specs.declared.value.Value.{Value}
+use Rattle.script_tree.proofs.Truths.{and_left, and_right}
 use Rattle.signal_graph.specs.Graph.{Graph, is_in}
 use Rattle.node_versions.specs.declared.entry.State.TheVariants.{Mark}
 use Rattle.node_versions.specs.declared.entry.Entry.{Entry}
@@ -13,8 +15,7 @@ use Rattle.flow_model.specs.Machine.Changes.{stops_call, new_entry, place_entry,
 use Rattle.flow_model.specs.Machine.Steps.{allowed, apply, started, counted, keep_found, keep_body, gather, with_look, look_value, served_look}
 use Rattle.flow_model.specs.Kept.Runs.{looked_at, IsSettled, by_node}
 use Rattle.flow_model.specs.Kept.Lawful.{IsLawful}
-use Rattle.flow_model.proofs.General.Truths.{or_cases, or_left, or_right, same_number, true_or_false}
-use Rattle.flow_model.proofs.OneStep.WhoMayStep.{and_left, and_right, discover-due, due-can_work, can_work-at_front, at_front-heads, at_front-executes, executes-live, mark-executes, mark-no_entry, idle-executes, look-idle}
+use Rattle.flow_model.proofs.OneStep.WhoMayStep.{discover-due, due-can_work, can_work-at_front, at_front-heads, at_front-executes, executes-live, mark-executes, mark-no_entry, idle-executes, look-idle}
 use Rattle.flow_model.proofs.OneList.Entering.{with_cell-cell}
 use Rattle.flow_model.proofs.OneList.CallsAndCells.{with_call-field, with_call-keeps, with_call-live, map_call-keeps, map_call-live}
 use Rattle.flow_model.proofs.OneStep.SameCallers.{ensured}
@@ -225,7 +226,7 @@ gathered-settled graph s t n0 m0 h a = settled-stays graph s q h (by-nodes graph
       where
         which : n ≡ n0 → (is_gathered s n m ≡ true) ⊎ ((m0 == m) ≡ true) → (is_gathered s n m ≡ true) ⊎ IsServed (entries q m) u
         which e (inl z) = inl z
-        which e (inr z) = inr (subst (λ (es : List Entry). IsServed es u) (sym (lists m)) (subst (λ (j : ℕ). IsServed (entries s j) u) (same_number m0 m z)
+        which e (inr z) = inr (subst (λ (es : List Entry). IsServed es u) (sym (lists m)) (subst (λ (j : ℕ). IsServed (entries s j) u) (eqb-true m0 m z)
             (subst (IsServed (entries s m0)) (sym (heads-same s t u n0 head (subst (λ (j : ℕ). heads s u j ≡ true) e x))) (served-is (entries s m0) t (h.one_entry m0) (and_right _ _ a)))))
 
         go : (cell q n ≡ cell s n) ⊎ ((n ≡ n0) × (cell q n ≡ gather m0 (value_at (entries s m0) t) (cell s n))) → (is_gathered s n m ≡ true) ⊎ IsServed (entries q m) u
@@ -248,7 +249,7 @@ take-more [] k m h = absurd (true≢false (sym h))
 take-more (x ∷ xs) zero m h = one (or_cases (x == m) false h)
   where
     one : ((x == m) ≡ true) ⊎ (false ≡ true) → (is_in m [] ≡ true) ⊎ (Some x ≡ Some m)
-    one (inl e) = inr (ap (λ (j : ℕ). Some j) (same_number x m e))
+    one (inl e) = inr (ap (λ (j : ℕ). Some j) (eqb-true x m e))
     one (inr e) = absurd (true≢false (sym e))
 take-more (x ∷ xs) (suc k) m h = go (or_cases (x == m) (is_in m (take (suc k) xs)) h) (take-more xs k m)
   where
@@ -285,12 +286,12 @@ looked-settled graph s t h a = settled-stays graph s q h (by-nodes graph s q nod
         here f = cc
 
     looks : (u m : ℕ) → looked_at q u m ≡ true → (looked_at s u m ≡ true) ⊎ IsServed (entries q m) u
-    looks u m k = go (true_or_false (u == t)) (with_call-field (λ x. is_in m (take (length x.looked) x.looks)) s t look (λ x. refl) u (executes-live s t (idle-executes s t (look-idle graph s t a))))
+    looks u m k = go (cases_Bool (u == t)) (with_call-field (λ x. is_in m (take (length x.looked) x.looks)) s t look (λ x. refl) u (executes-live s t (idle-executes s t (look-idle graph s t a))))
       where
         newer : (is_in m (take (length (call s t).looked) (call s t).looks) ≡ true) ⊎ (next_look s t ≡ Some m) → u ≡ t → (looked_at s u m ≡ true) ⊎ IsServed (entries s m) u
         newer (inl x) e = inl (subst (λ (v : ℕ). looked_at s v m ≡ true) (sym e) x)
         newer (inr x) e = inr (subst (IsServed (entries s m)) (sym e) (served (next_look s t) refl (and_right _ _ a) m x))
 
         go : ((u == t) ≡ true) ⊎ ((u == t) ≡ false) → looked_at q u m ≡ elim (u == t) as (λ _. Bool) [ true ↦ is_in m (take (length (look (call s t)).looked) (call s t).looks) | false ↦ looked_at s u m ] → (looked_at s u m ≡ true) ⊎ IsServed (entries q m) u
-        go (inl e) x = newer (take-more (call s t).looks (length (call s t).looked) m (subst (λ (i : ℕ). is_in m (take i (call s t).looks) ≡ true) (length-more (call s t).looked (look_value s t (next_look s t))) (sym (rw e at x) ∙ k))) (same_number u t e)
+        go (inl e) x = newer (take-more (call s t).looks (length (call s t).looked) m (subst (λ (i : ℕ). is_in m (take i (call s t).looks) ≡ true) (length-more (call s t).looked (look_value s t (next_look s t))) (sym (rw e at x) ∙ k))) (eqb-true u t e)
         go (inr e) x = inl (sym (rw e at x) ∙ k)

@@ -2,7 +2,9 @@
 use Rattle.std.proofs.Common.{◌≡◌, ℕ, suc, Bool, true, false, ◌&&◌, ◌||◌, not, ◌==◌, ◌⊎◌, inl, inr, refl, sym, ap, arith, List, [], ◌∷◌, length, true≢false, ◌∙◌, subst, Option, Some}
 use Rattle.std.specs.Prelude.{is_some}
 use Rattle.std.proofs.lemmas.List.Folds.{list_any-append}
+use Rattle.std.proofs.lemmas.Bool.{or_cases, or_left, or_right, and_parts, and_from, eqb-true, eq-eqb, false_from_ne_true, both_ways, cases_Bool, not-true}
 use Rattle.script_tree.specs.declared.value.Value.{Value}
+use Rattle.script_tree.proofs.Truths.{and_left, and_right}
 use Rattle.signal_graph.specs.declared.call.Call.{Call}
 use Rattle.signal_graph.specs.declared.log.Logged.{Logged}
 use Rattle.signal_graph.specs.declared.node.Node.{Node}
@@ -11,6 +13,8 @@ use Rattle.signal_graph.specs.Graph.{Graph, is_in, is_source, node_at, inputs_of
 use Rattle.node_versions.specs.declared.entry.State.TheVariants.{Mark, Frame, Done}
 use Rattle.node_versions.specs.declared.entry.Entry.{Entry}
 use Rattle.node_versions.specs.Entries.{OutEdge, IsUnique, has, at, is_mark, is_frame, is_done, has_out, active_nodes, placed, with_state, collected, value_before, picks_at, picks_before}
+use Rattle.node_versions.proofs.KeptLemmas.{has-with_state}
+use Rattle.node_versions.proofs.Places.{at-has}
 use Rattle.flow_model.specs.declared.step.Step.{Step}
 use Rattle.flow_model.specs.declared.step.Step.TheVariants as steps
 use Rattle.flow_model.specs.Machine.State.{Core, LiveCall, call, call_of, call_or, live, entries, outs, wants, opens, with_call, with_cell}
@@ -19,14 +23,11 @@ use Rattle.flow_model.specs.Machine.Changes.{stops, stops_call, new_entry, place
 use Rattle.flow_model.specs.Machine.Steps.{allowed, apply, begin, new_call, open_node, frame, started, counted, with_look, look_value, keep_found, is_change, nodes_set, sets_in, logged}
 use Rattle.flow_model.specs.Kept.Runs.{is_framed_state, framed, was_due, by_node, by_look}
 use Rattle.flow_model.specs.Kept.Lawful.{IsLawful, EntriesAreKept, log_has}
-use Rattle.flow_model.proofs.General.Truths.{or_cases, or_left, or_right, and_both, and_make, same_number, equal_test, not_true, is_not_true, true_or_false}
-use Rattle.flow_model.proofs.OneStep.WhoMayStep.{and_left, and_right, not_is, executes-live, wants-live, opens-live, frame-wants, at_front-heads, discover-due}
+use Rattle.flow_model.proofs.OneStep.WhoMayStep.{executes-live, wants-live, opens-live, frame-wants, at_front-heads, discover-due}
 use Rattle.flow_model.proofs.General.Sets.{in-put_all}
-use Rattle.flow_model.proofs.OneList.Chains.{recorded-reaches}
 use Rattle.flow_model.proofs.OrderStays.AfterEachStep.{step-Standing, begin-Stood, not_begun-entry}
-use Rattle.flow_model.proofs.OneList.InOrder.{with_state-has}
 use Rattle.flow_model.proofs.OneList.OneEntryACall.{placed-has, placed-at, placed-at_other, collected-at}
-use Rattle.flow_model.proofs.OneList.StatesAndPlaces.{at-has, with_state-at, first_open-frame}
+use Rattle.flow_model.proofs.OneList.StatesAndPlaces.{with_state-at, first_open-frame}
 use Rattle.flow_model.proofs.OneStep.ChangesOfOneList.{ListStep, stays, marks, frames, raises, finishes, collects, step-list}
 use Rattle.flow_model.proofs.OrderStays.EntriesAndRoom.{step-one_entry}
 use Rattle.flow_model.proofs.OrderStays.OpenNodesHaveFrames.{step-FramesAreOpen}
@@ -45,6 +46,7 @@ use Rattle.flow_model.proofs.Settled.AfterEachStep.{step-settled, begin-settled_
 use Rattle.flow_model.proofs.OneStep.CallsLiveOn.{Continues, step-continues, IsEnd}
 use Rattle.flow_model.proofs.Settled.NewPicksWereDue.{step-NewPicks, IsNewOrKept}
 use Rattle.flow_model.proofs.General.AnyAndAll.{get-take}
+use Rattle.order_graph.proofs.Reaching.{recorded-reaches}
 
 -- ---- whose entries there are
 
@@ -53,15 +55,15 @@ list-has graph s n u es (stays e) f k = inl (sym (ap (λ (xs : List Entry). has 
 list-has graph s n u es (marks t x fresh r e) f k = go (or_cases _ _ (sym (placed-has (stops_call s t) (new_entry s t Mark) (entries s n) u) ∙ subst (λ (xs : List Entry). has xs u ≡ true) e k))
   where
     go : ((t == u) ≡ true) ⊎ (has (entries s n) u ≡ true) → (has (entries s n) u ≡ true) ⊎ (live s u ≡ true)
-    go (inl y) = inr (subst (λ (v : ℕ). live s v ≡ true) (same_number t u y) (executes-live s t x))
+    go (inl y) = inr (subst (λ (v : ℕ). live s v ≡ true) (eqb-true t u y) (executes-live s t x))
     go (inr y) = inl y
 list-has graph s n u es (frames t w fresh r e) f k = go (or_cases _ _ (sym (placed-has (stops_call s t) (new_entry s t Frame) (entries s n) u) ∙ subst (λ (xs : List Entry). has xs u ≡ true) e k))
   where
     go : ((t == u) ≡ true) ⊎ (has (entries s n) u ≡ true) → (has (entries s n) u ≡ true) ⊎ (live s u ≡ true)
-    go (inl y) = inr (subst (λ (v : ℕ). live s v ≡ true) (same_number t u y) (wants-live s t n w))
+    go (inl y) = inr (subst (λ (v : ℕ). live s v ≡ true) (eqb-true t u y) (wants-live s t n w))
     go (inr y) = inl y
-list-has graph s n u es (raises t w m e) f k = inl (sym (with_state-has t Frame (entries s n) u) ∙ subst (λ (xs : List Entry). has xs u ≡ true) e k)
-list-has graph s n u es (finishes t v c ps x e) f k = inl (sym (with_state-has t (Done v c ps) (entries s n) u) ∙ subst (λ (xs : List Entry). has xs u ≡ true) e k)
+list-has graph s n u es (raises t w m e) f k = inl (sym (has-with_state t Frame (entries s n) u) ∙ subst (λ (xs : List Entry). has xs u ≡ true) e k)
+list-has graph s n u es (finishes t v c ps x e) f k = inl (sym (has-with_state t (Done v c ps) (entries s n) u) ∙ subst (λ (xs : List Entry). has xs u ≡ true) e k)
 list-has graph s n u es (collects e) f k = inl (f u (subst (λ (xs : List Entry). has xs u ≡ true) e k))
 
 collected-has : (graph : Graph) (s : Core) → IsLawful graph s → (n v : ℕ) → has (collected (λ e. not (live s e.version)) (entries s n)) v ≡ true → has (entries s n) v ≡ true
@@ -77,16 +79,16 @@ known-on graph s step u (inr k) = go step (step-continues graph s step) k
   where
     ends : (t : ℕ) → (live s u ≡ true) ⊎ (log_has s.log u ≡ true) → ((u == t) ≡ true) ⊎ ((u == t) ≡ false) → (live (apply graph s (steps.End t)) u ≡ true) ⊎ (log_has (apply graph s (steps.End t)).log u ≡ true)
     ends t (inr l) y = inr (logged-more s.log (logged (call s t)) u ∙ or_left _ _ l)
-    ends t (inl l) (inr y) = inl (ap is_some (without_call-other t u s.calls (λ e. is_not_true _ y (equal_test u t e))) ∙ l)
+    ends t (inl l) (inr y) = inl (ap is_some (without_call-other t u s.calls (λ e. both_ways _ y (eq-eqb u t e))) ∙ l)
     ends t (inl l) (inl y) =
-        let e = same_number u t y in
+        let e = eqb-true u t y in
         let v : (call s t).version ≡ u = call-version s t (subst (λ (w : ℕ). live s w ≡ true) e l) ∙ sym e in
-        inr (logged-more s.log (logged (call s t)) u ∙ or_right _ _ (equal_test (call s t).version u v))
+        inr (logged-more s.log (logged (call s t)) u ∙ or_right _ _ (eq-eqb (call s t).version u v))
 
     go : (step : Step) → Continues s (apply graph s step) ⊎ IsEnd step → (live s u ≡ true) ⊎ (log_has s.log u ≡ true) → IsKnown (apply graph s step) u
     go step (inl c) (inl l) = inr (inl (c.lives u ∙ l))
     go step (inl c) (inr l) = inr (inr (ap (λ (log : List Logged). log_has log u) c.log ∙ l))
-    go step (inr e) k = inr (subst (λ (x : Step). (live (apply graph s x) u ≡ true) ⊎ (log_has (apply graph s x).log u ≡ true)) (sym e.1) (ends e.0 k (true_or_false (u == e.0))))
+    go step (inr e) k = inr (subst (λ (x : Step). (live (apply graph s x) u ≡ true) ⊎ (log_has (apply graph s x).log u ≡ true)) (sym e.1) (ends e.0 k (cases_Bool (u == e.0))))
 
 step-versions : (graph : Graph) (s : Core) (step : Step) → IsLawful graph s → allowed graph s step ≡ true → (n u : ℕ) → has (entries (apply graph s step) n) u ≡ true → IsKnown (apply graph s step) u
 step-versions graph s step h a n u k = go (list-has graph s n u (entries (apply graph s step) n) (step-list graph s step h a n) (collected-has graph s h n) k)
@@ -111,28 +113,28 @@ at-framed (e ∷ es) u h = let r = at-framed es u in grind (arith, r, h)
 -- Who has a node framed after a step had it framed or wanted it.
 list-framed : (graph : Graph) (s : Core) → IsLawful graph s → (n u : ℕ) (es : List Entry) → ListStep graph s n es → at is_framed_state es u ≡ true → (wants s u n || framed s u n) ≡ true
 list-framed graph s h n u es (stays e) k = or_right _ _ (sym (ap (λ (xs : List Entry). at is_framed_state xs u) e) ∙ k)
-list-framed graph s h n u es (marks t x fresh r e) k = go (true_or_false (u == t))
+list-framed graph s h n u es (marks t x fresh r e) k = go (cases_Bool (u == t))
   where
     k2 : at is_framed_state (placed (stops s t) (new_entry s t Mark) (entries s n)) u ≡ true
     k2 = subst (λ (xs : List Entry). at is_framed_state xs u ≡ true) e k
 
     go : ((u == t) ≡ true) ⊎ ((u == t) ≡ false) → (wants s u n || framed s u n) ≡ true
-    go (inl y) = absurd (true≢false (sym (sym (placed-at is_framed_state (stops_call s t) (new_entry s t Mark) (entries s n) fresh) ∙ subst (λ (w : ℕ). at is_framed_state (placed (stops s t) (new_entry s t Mark) (entries s n)) w ≡ true) (same_number u t y) k2)))
-    go (inr y) = or_right _ _ (sym (placed-at_other is_framed_state (stops_call s t) (new_entry s t Mark) (entries s n) u (λ z. is_not_true _ y (equal_test u t z))) ∙ k2)
-list-framed graph s h n u es (frames t w fresh r e) k = go (true_or_false (u == t))
+    go (inl y) = absurd (true≢false (sym (sym (placed-at is_framed_state (stops_call s t) (new_entry s t Mark) (entries s n) fresh) ∙ subst (λ (w : ℕ). at is_framed_state (placed (stops s t) (new_entry s t Mark) (entries s n)) w ≡ true) (eqb-true u t y) k2)))
+    go (inr y) = or_right _ _ (sym (placed-at_other is_framed_state (stops_call s t) (new_entry s t Mark) (entries s n) u (λ z. both_ways _ y (eq-eqb u t z))) ∙ k2)
+list-framed graph s h n u es (frames t w fresh r e) k = go (cases_Bool (u == t))
   where
     go : ((u == t) ≡ true) ⊎ ((u == t) ≡ false) → (wants s u n || framed s u n) ≡ true
-    go (inl y) = or_left _ _ (subst (λ (v : ℕ). wants s v n ≡ true) (sym (same_number u t y)) w)
-    go (inr y) = or_right _ _ (sym (placed-at_other is_framed_state (stops_call s t) (new_entry s t Frame) (entries s n) u (λ z. is_not_true _ y (equal_test u t z))) ∙ subst (λ (xs : List Entry). at is_framed_state xs u ≡ true) e k)
-list-framed graph s h n u es (raises t w m e) k = go (true_or_false (u == t)) (with_state-at is_framed_state t Frame (entries s n) u)
+    go (inl y) = or_left _ _ (subst (λ (v : ℕ). wants s v n ≡ true) (sym (eqb-true u t y)) w)
+    go (inr y) = or_right _ _ (sym (placed-at_other is_framed_state (stops_call s t) (new_entry s t Frame) (entries s n) u (λ z. both_ways _ y (eq-eqb u t z))) ∙ subst (λ (xs : List Entry). at is_framed_state xs u ≡ true) e k)
+list-framed graph s h n u es (raises t w m e) k = go (cases_Bool (u == t)) (with_state-at is_framed_state t Frame (entries s n) u)
   where
     go : ((u == t) ≡ true) ⊎ ((u == t) ≡ false) → at is_framed_state (with_state t Frame (entries s n)) u ≡ elim (u == t) as (λ _. Bool) [ true ↦ has (entries s n) t && true | false ↦ at is_framed_state (entries s n) u ] → (wants s u n || framed s u n) ≡ true
-    go (inl y) x = or_left _ _ (subst (λ (v : ℕ). wants s v n ≡ true) (sym (same_number u t y)) w)
+    go (inl y) x = or_left _ _ (subst (λ (v : ℕ). wants s v n ≡ true) (sym (eqb-true u t y)) w)
     go (inr y) x = or_right _ _ (sym (rw y at x) ∙ subst (λ (xs : List Entry). at is_framed_state xs u ≡ true) e k)
-list-framed graph s h n u es (finishes t v c ps x e) k = go (true_or_false (u == t)) (with_state-at is_framed_state t (Done v c ps) (entries s n) u)
+list-framed graph s h n u es (finishes t v c ps x e) k = go (cases_Bool (u == t)) (with_state-at is_framed_state t (Done v c ps) (entries s n) u)
   where
     go : ((u == t) ≡ true) ⊎ ((u == t) ≡ false) → at is_framed_state (with_state t (Done v c ps) (entries s n)) u ≡ elim (u == t) as (λ _. Bool) [ true ↦ has (entries s n) t && true | false ↦ at is_framed_state (entries s n) u ] → (wants s u n || framed s u n) ≡ true
-    go (inl y) z = or_right _ _ (subst (λ (w : ℕ). framed s w n ≡ true) (sym (same_number u t y)) (at-framed (entries s n) t (opens-frame graph s h t n (heads-opens graph s h t n (at_front-heads graph s t n x)))))
+    go (inl y) z = or_right _ _ (subst (λ (w : ℕ). framed s w n ≡ true) (sym (eqb-true u t y)) (at-framed (entries s n) t (opens-frame graph s h t n (heads-opens graph s h t n (at_front-heads graph s t n x)))))
     go (inr y) z = or_right _ _ (sym (rw y at z) ∙ subst (λ (xs : List Entry). at is_framed_state xs u ≡ true) e k)
 list-framed graph s h n u es (collects e) k = or_right _ _ (collected-at is_framed_state (λ w. not (live s w)) (entries s n) u (h.one_entry n) (subst (λ (xs : List Entry). at is_framed_state xs u ≡ true) e k))
 
@@ -141,7 +143,7 @@ abbrev IsNewWant : Graph → Core → ℕ → ℕ → Type 0
 IsNewWant graph s u n = (wants s u n ≡ true) ⊎ (is_source (node_at graph n) ≡ false)
 
 opened-new : (graph : Graph) (s : Core) → IsLawful graph s → (p : Core) (t m u n : ℕ) → ((v j : ℕ) → wants p v j ≡ wants s v j) → outs p m ≡ outs s m → live p t ≡ true → wants (open_node graph p t m) u n ≡ true → IsNewWant graph s u n
-opened-new graph s h p t m u n ws os lp k = go (true_or_false (u == t)) (opened-wants p t m xs u n lp)
+opened-new graph s h p t m u n ws os lp k = go (cases_Bool (u == t)) (opened-wants p t m xs u n lp)
   where
     xs : List ℕ
     xs = active_outs graph p t m
@@ -150,7 +152,7 @@ opened-new graph s h p t m u n ws os lp k = go (true_or_false (u == t)) (opened-
     new (inl y) = no_input (node_at graph n) m (filtered-passes (λ j. is_in m (inputs_of (node_at graph j))) (numbers graph) n y)
     new (inr y) =
         let e = active-edge (entries p m) (outs p m) t n y in
-        not_true _ (λ src. source-lists (node_at graph n) m src (h.edges_fit.candidate n m e.since (subst (λ (es : List OutEdge). has_out es n e.since ≡ true) os e.stands)))
+        false_from_ne_true _ (λ src. source-lists (node_at graph n) m src (h.edges_fit.candidate n m e.since (subst (λ (es : List OutEdge). has_out es n e.since ≡ true) os e.stands)))
 
     mine : ((n == m) ≡ false) × (((is_in n xs ≡ true) × (opens p t n ≡ false)) ⊎ (wants p t n ≡ true)) → IsNewWant graph s t n
     mine (ne, inl y) = inr (new (or_cases _ _ (sym (list_any-append (λ z. z == n) (static_outs graph m) (active_nodes (entries p m) (outs p m) t)) ∙ y.0)))
@@ -163,7 +165,7 @@ opened-new graph s h p t m u n ws os lp k = go (true_or_false (u == t)) (opened-
     go (inr e) y = let j : wants p u n ≡ true = grind (arith, y, e, k) in inl (sym (ws u n) ∙ j)
     go (inl e) y =
         let j : ((is_in n xs && not ((n == m) || opens p t n)) || (wants p t n && not (n == m))) ≡ true = grind (arith, y, e, k) in
-        subst (λ (v : ℕ). IsNewWant graph s v n) (sym (same_number u t e)) (mine (new_or_old (is_in n xs) (n == m) (opens p t n) (wants p t n) j))
+        subst (λ (v : ℕ). IsNewWant graph s v n) (sym (eqb-true u t e)) (mine (new_or_old (is_in n xs) (n == m) (opens p t n) (wants p t n) j))
 
 framed-new : (graph : Graph) (s : Core) → IsLawful graph s → (t m u n : ℕ) → wants s t m ≡ true → wants (frame graph s t m) u n ≡ true → IsNewWant graph s u n
 framed-new graph s h t m u n w = go (at is_mark (entries s m) t)
@@ -183,14 +185,14 @@ told-new graph s t n0 c u n a k = go (tell-wants q c t n0 u n k)
 
     go : (wants q u n ≡ true) ⊎ IsTold q (entries q c) t n0 u n → IsNewWant graph s u n
     go (inl y) = inl (sym (ensured (λ x. is_in n x.wanted) s t c u) ∙ y)
-    go (inr y) = inr (subst (λ (j : ℕ). is_source (node_at graph j) ≡ false) (sym y.it) (not_is _ (and_left _ _ (and_right _ _ (discover-due graph s t n0 c a)))))
+    go (inr y) = inr (subst (λ (j : ℕ). is_source (node_at graph j) ≡ false) (sym y.it) (not-true _ (and_left _ _ (and_right _ _ (discover-due graph s t n0 c a)))))
 
 ended-new : (graph : Graph) (s : Core) (t u n : ℕ) → wants (apply graph s (steps.End t)) u n ≡ true → IsNewWant graph s u n
-ended-new graph s t u n k = go (true_or_false (u == t))
+ended-new graph s t u n k = go (cases_Bool (u == t))
   where
     go : ((u == t) ≡ true) ⊎ ((u == t) ≡ false) → IsNewWant graph s u n
-    go (inl x) = absurd (true≢false (sym (sym (ap (λ (v : ℕ). wants (apply graph s (steps.End t)) v n) (same_number u t x) ∙ ap (λ (o : Option LiveCall). is_in n (call_or o).wanted) (without_call-same t s.calls)) ∙ k)))
-    go (inr x) = inl (sym (ap (λ (o : Option LiveCall). is_in n (call_or o).wanted) (without_call-other t u s.calls (λ y. is_not_true _ x (equal_test u t y)))) ∙ k)
+    go (inl x) = absurd (true≢false (sym (sym (ap (λ (v : ℕ). wants (apply graph s (steps.End t)) v n) (eqb-true u t x) ∙ ap (λ (o : Option LiveCall). is_in n (call_or o).wanted) (without_call-same t s.calls)) ∙ k)))
+    go (inr x) = inl (sym (ap (λ (o : Option LiveCall). is_in n (call_or o).wanted) (without_call-other t u s.calls (λ y. both_ways _ x (eq-eqb u t y)))) ∙ k)
 
 step-new : (graph : Graph) (s : Core) (step : Step) → IsLawful graph s → allowed graph s step ≡ true → (u n : ℕ) → wants (apply graph s step) u n ≡ true → IsNewWant graph s u n
 step-new graph s (steps.Frame t m) h a u n k = framed-new graph s h t m u n (frame-wants graph s t m a) k
@@ -212,7 +214,7 @@ step-sources graph s step h a u n l src k = subst (λ (xs : List (ℕ × Value))
   where
     new : IsNewWant graph s u n → (wants s u n || framed s u n) ≡ true
     new (inl x) = or_left _ _ x
-    new (inr x) = absurd (is_not_true _ x src)
+    new (inr x) = absurd (both_ways _ x src)
 
     go : (wants (apply graph s step) u n ≡ true) ⊎ (framed (apply graph s step) u n ≡ true) → (wants s u n || framed s u n) ≡ true
     go (inl x) = new (step-new graph s step h a u n x)
@@ -229,11 +231,11 @@ step-EntriesAreKept graph s step h a =
     let settled = step-settled graph s step h a in
     record {
       versions = step-versions graph s step h a;
-      pairs = λ u v r. and_both _ _ ((step-Standing graph s step h a).pairs_live u v (recorded-reaches q.pairs u v r));
+      pairs = λ u v r. and_parts _ _ ((step-Standing graph s step h a).pairs_live u v (recorded-reaches q.pairs u v r));
       sources = step-sources graph s step h a;
-      gathers = λ u n m k g. settled.has_entry u m (head-live q u n (step-FramesAreOpen graph s step h a).opens_frames (step-one_entry graph s step h a) k) (by_node n (or_left _ _ (or_left _ _ (and_make _ _ k g))));
+      gathers = λ u n m k g. settled.has_entry u m (head-live q u n (step-FramesAreOpen graph s step h a).opens_frames (step-one_entry graph s step h a) k) (by_node n (or_left _ _ (or_left _ _ (and_from _ _ k g))));
       looks = λ u k m l b e. settled.has_entry u m l (by_look (get-take (call q u).looks k (length (call q u).looked) m e b));
-      dues = λ u n m l d i. settled.has_entry u m l (by_node n (or_right _ _ (and_make _ _ d i)));
+      dues = λ u n m l d i. settled.has_entry u m l (by_node n (or_right _ _ (and_from _ _ d i)));
       new_picks = step-NewPicks graph s step h a;
     }
 
@@ -268,15 +270,15 @@ begin-sources graph s h caller c u n (inr e) l src k = ap (λ (o : Option LiveCa
 
     go : (wants (begin graph s caller c) u n ≡ true) ⊎ (framed s u n ≡ true) → is_in n sets ≡ true
     go (inl x) = only (sym (in-put_all n sets []) ∙ sym (ap (λ (o : Option LiveCall). is_in n (call_or o).wanted) e.1) ∙ x)
-    go (inr x) = absurd (is_not_true _ (new-absent graph s h u n e.0) (at-has is_framed_state (entries s n) u x))
+    go (inr x) = absurd (both_ways _ (new-absent graph s h u n e.0) (at-has is_framed_state (entries s n) u x))
 
 begin-NewPicks : (graph : Graph) (s : Core) → IsLawful graph s → (caller : ℕ) (c : Call) (u n : ℕ) → IsBegun graph s caller c u → live (begin graph s caller c) u ≡ true → at is_done (entries s n) u ≡ true → IsNewOrKept graph (begin graph s caller c) u n
-begin-NewPicks graph s h caller c u n (inr e) l d = absurd (is_not_true _ (new-absent graph s h u n e.0) (at-has is_done (entries s n) u d))
+begin-NewPicks graph s h caller c u n (inr e) l d = absurd (both_ways _ (new-absent graph s h u n e.0) (at-has is_done (entries s n) u d))
 begin-NewPicks graph s h caller c u n (inl e) l d = go (h.entries_are_kept.new_picks u n (sym (ap is_some e.0) ∙ l) d)
   where
     go : (was_due graph s u n ≡ true) ⊎ (picks_at (entries s n) u ≡ picks_before (entries s n) u) → IsNewOrKept graph (begin graph s caller c) u n
     go (inr x) = inr x
-    go (inl x) = inl (and_make _ _ d (touched-kept graph (begin graph s caller c) s u n refl (λ m y. ap (λ (o : Option LiveCall). is_in m (call_or o).changed) e.0 ∙ y) (and_right _ _ x)))
+    go (inl x) = inl (and_from _ _ d (touched-kept graph (begin graph s caller c) s u n refl (λ m y. ap (λ (o : Option LiveCall). is_in m (call_or o).changed) e.0 ∙ y) (and_right _ _ x)))
 
 pub begin-EntriesAreKept : (graph : Graph) (s : Core) (caller : ℕ) (c : Call) → IsLawful graph s → EntriesAreKept graph (begin graph s caller c)
 begin-EntriesAreKept graph s caller c h =
@@ -284,10 +286,10 @@ begin-EntriesAreKept graph s caller c h =
     let entry = begin-settled_has_entry graph s caller c h in
     record {
       versions = λ n u k. begin-known graph s caller c u (begin-call graph s h caller c u) (h.entries_are_kept.versions n u k);
-      pairs = λ u v r. and_both _ _ ((begin-Stood graph s caller c h).pairs_live u v (recorded-reaches s.pairs u v r));
+      pairs = λ u v r. and_parts _ _ ((begin-Stood graph s caller c h).pairs_live u v (recorded-reaches s.pairs u v r));
       sources = λ u n l src k. begin-sources graph s h caller c u n (begin-call graph s h caller c u) l src k;
       gathers = h.entries_are_kept.gathers;
       looks = λ u k m l b e. entry u m l (by_look (get-take (call q u).looks k (length (call q u).looked) m e b));
-      dues = λ u n m l d i. entry u m l (by_node n (or_right _ _ (and_make _ _ d i)));
+      dues = λ u n m l d i. entry u m l (by_node n (or_right _ _ (and_from _ _ d i)));
       new_picks = λ u n l d. begin-NewPicks graph s h caller c u n (begin-call graph s h caller c u) l d;
     }

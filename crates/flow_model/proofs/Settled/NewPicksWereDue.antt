@@ -1,13 +1,17 @@
 -- A live call's Done was due, or shows the picks that were there before it, after each step.
 use Rattle.std.proofs.Common.{◌≡◌, ℕ, Bool, true, false, ◌&&◌, ◌||◌, not, ◌==◌, ◌⊎◌, inl, inr, refl, sym, ap, List, [], ◌∷◌, ◌∙◌, subst, Option, Some, None}
+use Rattle.std.proofs.lemmas.Bool.{or_cases, and_from, eqb-true, eq-eqb, both_ways, cases_Bool, not-true}
 use Rattle.std.specs.Prelude.{is_some}
 use Rattle.std.specs.List.{AllZip}
 use Rattle.script_tree.specs.declared.value.Value.{Value}
+use Rattle.script_tree.proofs.Truths.{and_left, and_right}
 use Rattle.signal_graph.specs.declared.node.Selector.{Selector}
 use Rattle.signal_graph.specs.Graph.{Graph, is_in, is_source, node_at}
 use Rattle.node_versions.specs.declared.entry.State.TheVariants.{Done}
 use Rattle.node_versions.specs.declared.entry.Entry.{Entry}
 use Rattle.node_versions.specs.Entries.{at, is_frame, is_done, before, last_done, state_of, picks_of, picks_at, picks_before, value_before, value_at, with_state}
+use Rattle.node_versions.proofs.Collecting.{last_is_done}
+use Rattle.node_versions.proofs.Places.{at-has}
 use Rattle.flow_model.specs.declared.step.Step.{Step}
 use Rattle.flow_model.specs.declared.step.Step.TheVariants as steps
 use Rattle.flow_model.specs.Machine.State.{Core, LiveCall, Cell, Found, call_or, cell, live, entries, changes, with_cell}
@@ -16,11 +20,9 @@ use Rattle.flow_model.specs.Machine.Changes.{ensure_mark, add_edge, drop_edge, f
 use Rattle.flow_model.specs.Machine.Steps.{allowed, apply, gather, keep_found, keep_body, is_change, is_worked_out, collect}
 use Rattle.flow_model.specs.Kept.Runs.{was_due}
 use Rattle.flow_model.specs.Kept.Lawful.{IsLawful, IsPickOf}
-use Rattle.flow_model.proofs.General.Truths.{or_cases, and_make, same_number, equal_test, is_not_true, true_or_false}
-use Rattle.flow_model.proofs.OneStep.WhoMayStep.{and_left, and_right, not_is, opens-live, frame-wants, skip-can_work, resolve-can_work, can_work-at_front, at_front-heads, at_front-executes, executes-live, mark-no_entry}
+use Rattle.flow_model.proofs.OneStep.WhoMayStep.{opens-live, frame-wants, skip-can_work, resolve-can_work, can_work-at_front, at_front-heads, at_front-executes, executes-live, mark-no_entry}
 use Rattle.flow_model.proofs.OneList.InOrder.{last_done-has}
-use Rattle.flow_model.proofs.OneList.OneEntryACall.{last_done-at, last_done-done}
-use Rattle.flow_model.proofs.OneList.StatesAndPlaces.{at-has}
+use Rattle.flow_model.proofs.OneList.OneEntryACall.{last_done-at}
 use Rattle.flow_model.proofs.Wants.EarlierNodes.{before-unique, before-at, before-up_to, own-done}
 use Rattle.flow_model.proofs.Wants.FramedWith.{heads-opens, opens-frame}
 use Rattle.flow_model.proofs.OneList.Entering.{with_cell-cell}
@@ -48,7 +50,7 @@ kept : (graph : Graph) (s : Core) → IsLawful graph s → (q : Core) (u n : ℕ
 kept graph s h q u n l c d k = go (h.entries_are_kept.new_picks u n l k.done)
   where
     go : (was_due graph s u n ≡ true) ⊎ (picks_at (entries s n) u ≡ picks_before (entries s n) u) → IsNewOrKept graph q u n
-    go (inl x) = inl (and_make _ _ d (touched-kept graph q s u n (sym k.prior) c (and_right _ _ x)))
+    go (inl x) = inl (and_from _ _ d (touched-kept graph q s u n (sym k.prior) c (and_right _ _ x)))
     go (inr x) = inr (k.now ∙ x ∙ sym k.prior)
 
 -- ---- sources have no picks
@@ -66,7 +68,7 @@ source-prior graph s h t n src = go (last_done (before (entries s n) t)) refl
         let b = before (entries s n) t in
         let q = before-unique (entries s n) t (h.one_entry n) in
         let hx = last_done-has b x e in
-        let d : at is_done (entries s n) x.version ≡ true = sym (before-at is_done (entries s n) t x.version (h.one_entry n) hx) ∙ last_done-at is_done b x q e ∙ last_done-done b x e in
+        let d : at is_done (entries s n) x.version ≡ true = sym (before-at is_done (entries s n) t x.version (h.one_entry n) hx) ∙ last_done-at is_done b x q e ∙ last_is_done b x e in
         let own : picks_at (entries s n) x.version ≡ picks_of x.state = ap (λ (es : List Entry). picks_of (state_of (last_done es))) (sym (before-up_to (entries s n) t x.version hx)) ∙ ap (λ (o : Option Entry). picks_of (state_of o)) (own-done b x q e) in
         sym own ∙ no_zip (picks_at (entries s n) x.version) (subst (λ (xs : List Selector). AllZip IsPickOf xs (picks_at (entries s n) x.version)) (source-selectors (node_at graph n) src) (h.picks_fit x.version n d))
 
@@ -75,7 +77,7 @@ source-found graph s h t n hd src = go (cell s n).found refl
   where
     go : (o : Option Found) → (cell s n).found ≡ o → picks_of_found o ≡ []
     go None e = refl
-    go (Some f) e = absurd (is_not_true _ (not_is _ (and_left _ _ (found-touched graph s h t n hd (ap is_some e)))) src)
+    go (Some f) e = absurd (both_ways _ (not-true _ (and_left _ _ (found-touched graph s h t n hd (ap is_some e)))) src)
 
 -- ---- the Done of Skip and Resolve
 
@@ -94,7 +96,7 @@ finished-new graph s h q t n0 v c ps f k hd mine u n l d = go (f.lists n)
 
     there : n ≡ n0 → entries q n ≡ with_state t (Done v c ps) (entries s n) → ((u == t) ≡ true) ⊎ ((u == t) ≡ false) → IsNewOrKept graph q u n
     there e g (inl x) =
-        let w = same_number u t x in
+        let w = eqb-true u t x in
         subst (λ (j : ℕ). IsNewOrKept graph q u j) (sym e) (subst (λ (j : ℕ). IsNewOrKept graph q j n0) (sym w)
         (own (subst (λ (j : ℕ). entries q j ≡ with_state t (Done v c ps) (entries s j)) e g) (subst (λ (j : ℕ). at is_done (entries q n0) j ≡ true) w (subst (λ (j : ℕ). at is_done (entries q j) u ≡ true) e d))))
     there e g (inr x) =
@@ -103,7 +105,7 @@ finished-new graph s h q t n0 v c ps f k hd mine u n l d = go (f.lists n)
 
     go : (entries q n ≡ entries s n) ⊎ ((n ≡ n0) × (entries q n ≡ with_state t (Done v c ps) (entries s n))) → IsNewOrKept graph q u n
     go (inl e) = kept graph s h q u n ls (k.changed u) d ((same-picks (entries s n) (entries q n) u e).done d)
-    go (inr e) = there e.0 e.1 (true_or_false (u == t))
+    go (inr e) = there e.0 e.1 (cases_Bool (u == t))
 
 -- all calls go on where the step is no End
 goes_on : (graph : Graph) (s : Core) (step : Step) → (IsEnd step → ⊥) → Continues s (apply graph s step)
@@ -138,7 +140,7 @@ resolved-new graph s t n h a k = finished-new graph s h (apply graph s (steps.Re
       where
         go : (is_source (node_at graph n) ≡ true) ⊎ ((touched graph s t n && is_worked_out graph s t n) ≡ true) → IsNewOrKept graph q t n
         go (inl src) = inr (x ∙ source-found graph s h t n hd src ∙ sym (y ∙ source-prior graph s h t n src))
-        go (inr w) = inl (and_make _ _ d (touched-kept graph q s t n (sym y) (k.changed t) (and_left _ _ w)))
+        go (inr w) = inl (and_from _ _ d (touched-kept graph q s t n (sym y) (k.changed t) (and_left _ _ w)))
 
 -- ---- the other steps
 
@@ -173,7 +175,7 @@ collected-done graph s h n0 u n l d = go (with_cell-cell s n0 (collect s) n)
     q = with_cell s n0 (collect s)
 
     not_ended : (y : ℕ) → not (live s y) ≡ true → live s y ≡ false
-    not_ended y k = not_is _ k
+    not_ended y k = not-true _ k
 
     go : (cell q n ≡ cell s n) ⊎ ((n ≡ n0) × (cell q n ≡ collect s (cell s n))) → KeepsDone (entries s n) (entries q n) u
     go (inl e) = (same-picks (entries s n) (entries q n) u (ap (λ (x : Cell). x.entries) e)).done d
@@ -182,14 +184,14 @@ collected-done graph s h n0 u n l d = go (with_cell-cell s n0 (collect s) n)
         (subst (λ (x : Cell). at is_done x.entries u ≡ true) e.1 d))
 
 ended-new : (graph : Graph) (s : Core) (t : ℕ) → IsLawful graph s → allowed graph s (steps.End t) ≡ true → NewPicks graph (apply graph s (steps.End t))
-ended-new graph s t h a = plain-new graph s q h (λ u l. phase-live s q (step-phases graph s (steps.End t) a) u l) (λ u m l c. go u m l c (true_or_false (u == t))) (same_lists-done s q (λ n. refl))
+ended-new graph s t h a = plain-new graph s q h (λ u l. phase-live s q (step-phases graph s (steps.End t) a) u l) (λ u m l c. go u m l c (cases_Bool (u == t))) (same_lists-done s q (λ n. refl))
   where
     q : Core
     q = apply graph s (steps.End t)
 
     go : (u m : ℕ) → live q u ≡ true → changes s u m ≡ true → ((u == t) ≡ true) ⊎ ((u == t) ≡ false) → changes q u m ≡ true
-    go u m l c (inl x) = absurd (is_not_true _ (subst (λ (v : ℕ). live q v ≡ false) (sym (same_number u t x)) (ap is_some (without_call-same t s.calls))) l)
-    go u m l c (inr x) = ap (λ (o : Option LiveCall). is_in m (call_or o).changed) (without_call-other t u s.calls (λ y. is_not_true _ x (equal_test u t y))) ∙ c
+    go u m l c (inl x) = absurd (both_ways _ (subst (λ (v : ℕ). live q v ≡ false) (sym (eqb-true u t x)) (ap is_some (without_call-same t s.calls))) l)
+    go u m l c (inr x) = ap (λ (o : Option LiveCall). is_in m (call_or o).changed) (without_call-other t u s.calls (λ y. both_ways _ x (eq-eqb u t y))) ∙ c
 
 pub step-NewPicks : (graph : Graph) (s : Core) (step : Step) → IsLawful graph s → allowed graph s step ≡ true → NewPicks graph (apply graph s step)
 step-NewPicks graph s (steps.Frame t n) h a = on-new graph s (apply graph s (steps.Frame t n)) h (goes_on graph s (steps.Frame t n) (λ e. cc)) (framed-done graph s t n h a)

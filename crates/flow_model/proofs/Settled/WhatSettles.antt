@@ -2,18 +2,20 @@
 use Rattle.std.proofs.Common.{◌≡◌, ℕ, Bool, true, false, ◌&&◌, ◌||◌, not, ◌==◌, ◌⊎◌, inl, inr, refl, sym, ap, arith, List, [], ◌∷◌, ◌++◌, ◌∙◌, subst, Option}
 use Rattle.std.specs.List.{list_any}
 use Rattle.std.proofs.lemmas.Bool.Decides.{eqb_tells}
+use Rattle.std.proofs.lemmas.Bool.{or_cases, or_left, or_right, and_parts, and_from, eqb-true, eq-eqb, false_from_ne_true, both_ways, true_from_ne_false, not-true, not_from_false}
+use Rattle.script_tree.proofs.Truths.{and_left, and_right}
 use Rattle.signal_graph.specs.Graph.{Graph, is_in, node_at, inputs_of}
 use Rattle.signal_graph.specs.Values.{nodes_in}
 use Rattle.node_versions.specs.declared.entry.State.{State}
 use Rattle.node_versions.specs.declared.entry.Entry.{Entry}
 use Rattle.node_versions.specs.Entries.{IsUnique, has, at, is_frame, is_done, behind, served, first_open, has_node, with_state, placed, collected, picks_before}
+use Rattle.node_versions.proofs.KeptLemmas.{has-with_state}
 use Rattle.flow_model.specs.Machine.State.{Core, live, executes, is_framing, entries, outs, changes}
 use Rattle.flow_model.specs.Machine.Words.{heads, is_prior, is_gathered, touched, deps}
 use Rattle.flow_model.specs.Kept.Runs.{settles, was_due, dropped, picks_it, looked_at, IsSettled, by_node, by_look}
 use Rattle.flow_model.specs.Kept.Lawful.{IsLawful, SettledIsKept}
-use Rattle.flow_model.proofs.General.Truths.{or_cases, or_left, or_right, and_both, and_make, same_number, equal_test, not_true, not_false, is_not_true}
-use Rattle.flow_model.proofs.OneStep.WhoMayStep.{and_left, and_right, not_is, no_states-none}
-use Rattle.flow_model.proofs.OneList.InOrder.{on_calls, with_state-has}
+use Rattle.flow_model.proofs.OneStep.WhoMayStep.{no_states-none}
+use Rattle.flow_model.proofs.OneList.InOrder.{on_calls}
 use Rattle.flow_model.proofs.OneList.OneEntryACall.{placed-has, placed-at, placed-at_other, collected-at, collected-at_live, collected-behind_live}
 use Rattle.flow_model.proofs.OneList.StatesAndPlaces.{behind-has, with_state-at, with_state-behind}
 use Rattle.flow_model.proofs.OrderStays.NoFrameBeforeDones.{head-first}
@@ -31,39 +33,36 @@ pub data HowSettled (graph : Graph) (s : Core) (u m n : ℕ) : Type 0 where
   by_drop : is_prior s u n m ≡ true → heads s u n ≡ true → has_node (outs s m) n ≡ false → HowSettled graph s u m n
   by_due : at is_done (entries s n) u ≡ true → touched graph s u n ≡ true → (is_in m (inputs_of (node_at graph n)) || picks_it s u n m) ≡ true → HowSettled graph s u m n
 
-turned : (a : Bool) → a ≡ false → not a ≡ true
-turned a e = ap not e
-
 pub how : (graph : Graph) (s : Core) (u m n : ℕ) → settles graph s u m n ≡ true → HowSettled graph s u m n
 how graph s u m n h = go (or_cases _ _ h)
   where
     left : (is_prior s u n m ≡ true) → ((at is_done (entries s n) u && not (picks_it s u n m)) ≡ true) ⊎ ((heads s u n && not (has_node (outs s m) n)) ≡ true) → HowSettled graph s u m n
-    left p (inl x) = by_leaving p (and_left (at is_done (entries s n) u) (not (picks_it s u n m)) x) (not_is _ (and_right (at is_done (entries s n) u) (not (picks_it s u n m)) x))
-    left p (inr x) = by_drop p (and_left (heads s u n) (not (has_node (outs s m) n)) x) (not_is _ (and_right (heads s u n) (not (has_node (outs s m) n)) x))
+    left p (inl x) = by_leaving p (and_left (at is_done (entries s n) u) (not (picks_it s u n m)) x) (not-true _ (and_right (at is_done (entries s n) u) (not (picks_it s u n m)) x))
+    left p (inr x) = by_drop p (and_left (heads s u n) (not (has_node (outs s m) n)) x) (not-true _ (and_right (heads s u n) (not (has_node (outs s m) n)) x))
 
     first : ((heads s u n && is_gathered s n m) ≡ true) ⊎ (dropped s u n m ≡ true) → HowSettled graph s u m n
     first (inl x) = by_gather (and_left (heads s u n) (is_gathered s n m) x) (and_right (heads s u n) (is_gathered s n m) x)
     first (inr x) =
-        let b = and_both (is_prior s u n m) ((at is_done (entries s n) u && not (picks_it s u n m)) || (heads s u n && not (has_node (outs s m) n))) x in
+        let b = and_parts (is_prior s u n m) ((at is_done (entries s n) u && not (picks_it s u n m)) || (heads s u n && not (has_node (outs s m) n))) x in
         left b.0 (or_cases (at is_done (entries s n) u && not (picks_it s u n m)) (heads s u n && not (has_node (outs s m) n)) b.1)
 
     go : (((heads s u n && is_gathered s n m) || dropped s u n m) ≡ true) ⊎ ((was_due graph s u n && (is_in m (inputs_of (node_at graph n)) || picks_it s u n m)) ≡ true) → HowSettled graph s u m n
     go (inl x) = first (or_cases _ _ x)
     go (inr x) =
-        let b = and_both (was_due graph s u n) (is_in m (inputs_of (node_at graph n)) || picks_it s u n m) x in
-        let d = and_both (at is_done (entries s n) u) (touched graph s u n) b.0 in
+        let b = and_parts (was_due graph s u n) (is_in m (inputs_of (node_at graph n)) || picks_it s u n m) x in
+        let d = and_parts (at is_done (entries s n) u) (touched graph s u n) b.0 in
         by_due d.0 d.1 b.1
 
 pub settled-by : (graph : Graph) (s : Core) (u m n : ℕ) → HowSettled graph s u m n → settles graph s u m n ≡ true
-settled-by graph s u m n (by_gather x y) = or_left _ _ (or_left _ _ (and_make _ _ x y))
-settled-by graph s u m n (by_leaving p d k) = or_left _ _ (or_right _ _ (and_make _ _ p (or_left _ _ (and_make _ _ d (turned _ k)))))
-settled-by graph s u m n (by_drop p x e) = or_left _ _ (or_right _ _ (and_make _ _ p (or_right _ _ (and_make _ _ x (turned _ e)))))
-settled-by graph s u m n (by_due d t i) = or_right _ _ (and_make _ _ (and_make _ _ d t) i)
+settled-by graph s u m n (by_gather x y) = or_left _ _ (or_left _ _ (and_from _ _ x y))
+settled-by graph s u m n (by_leaving p d k) = or_left _ _ (or_right _ _ (and_from _ _ p (or_left _ _ (and_from _ _ d (not_from_false _ k)))))
+settled-by graph s u m n (by_drop p x e) = or_left _ _ (or_right _ _ (and_from _ _ p (or_right _ _ (and_from _ _ x (not_from_false _ e)))))
+settled-by graph s u m n (by_due d t i) = or_right _ _ (and_from _ _ (and_from _ _ d t) i)
 
 -- ---- what is kept at a node
 
 pub touched-kept : (graph : Graph) (s q : Core) (u n : ℕ) → picks_before (entries q n) u ≡ picks_before (entries s n) u → ((m : ℕ) → changes q u m ≡ true → changes s u m ≡ true) → touched graph q u n ≡ true → touched graph s u n ≡ true
-touched-kept graph s q u n e c k = and_make _ _ (and_left _ _ k) (subst (λ (ps : List (Option ℕ)). list_any (changes s u) (inputs_of (node_at graph n) ++ nodes_in ps) ≡ true) e (any-more (changes q u) (changes s u) (deps graph q u n) c (and_right _ _ k)))
+touched-kept graph s q u n e c k = and_from _ _ (and_left _ _ k) (subst (λ (ps : List (Option ℕ)). list_any (changes s u) (inputs_of (node_at graph n) ++ nodes_in ps) ≡ true) e (any-more (changes q u) (changes s u) (deps graph q u n) c (and_right _ _ k)))
 
 -- The candidate is among the same picks.
 pub in-picks : (ps qs : List (Option ℕ)) (m : ℕ) (b : Bool) → ps ≡ qs → is_in m (nodes_in ps) ≡ b → is_in m (nodes_in qs) ≡ b
@@ -108,25 +107,25 @@ same-places lives es fs e = subst (KeepsPlaces lives es) (sym e) (record { frame
 
 pub marked-places : (lives : ℕ → Bool) (stops : ℕ → Bool) (e : Entry) (es : List Entry) → has es e.version ≡ false → is_frame e.state ≡ false → lives e.version ≡ true → KeepsPlaces lives es (placed (on_calls stops) e es)
 marked-places lives stops e es fresh f l = record {
-  frame = λ u k. sym (placed-at_other is_frame stops e es u (λ y. is_not_true _ (other u k) (equal_test e.version u (sym y)))) ∙ k;
-  order = λ u v b k hv. sym (placed-behind stops e es u v (other u k) (not_true _ (λ x. is_not_true _ fresh (subst (λ (w : ℕ). has es w ≡ true) (sym (same_number e.version v x)) hv)))) ∙ b;
+  frame = λ u k. sym (placed-at_other is_frame stops e es u (λ y. both_ways _ (other u k) (eq-eqb e.version u (sym y)))) ∙ k;
+  order = λ u v b k hv. sym (placed-behind stops e es u v (other u k) (false_from_ne_true _ (λ x. both_ways _ fresh (subst (λ (w : ℕ). has es w ≡ true) (sym (eqb-true e.version v x)) hv)))) ∙ b;
   entrant = λ v k. enters v (or_cases _ _ (sym (placed-has stops e es v) ∙ k));
   stays_in = λ u _ k. placed-has stops e es u ∙ or_right _ _ k;
 }
   where
     other : (u : ℕ) → at is_frame (placed (on_calls stops) e es) u ≡ true → (e.version == u) ≡ false
-    other u k = not_true _ (λ x. is_not_true _ f (sym (placed-at is_frame stops e es fresh) ∙ subst (λ (w : ℕ). at is_frame (placed (on_calls stops) e es) w ≡ true) (sym (same_number e.version u x)) k))
+    other u k = false_from_ne_true _ (λ x. both_ways _ f (sym (placed-at is_frame stops e es fresh) ∙ subst (λ (w : ℕ). at is_frame (placed (on_calls stops) e es) w ≡ true) (sym (eqb-true e.version u x)) k))
 
     enters : (v : ℕ) → ((e.version == v) ≡ true) ⊎ (has es v ≡ true) → (has es v ≡ true) ⊎ (lives v ≡ true)
-    enters v (inl x) = inr (subst (λ (w : ℕ). lives w ≡ true) (same_number e.version v x) l)
+    enters v (inl x) = inr (subst (λ (w : ℕ). lives w ≡ true) (eqb-true e.version v x) l)
     enters v (inr x) = inl x
 
 pub finished-places : (lives : ℕ → Bool) (t : ℕ) (x : State) (es : List Entry) → is_frame x ≡ false → KeepsPlaces lives es (with_state t x es)
 finished-places lives t x es f = record {
   frame = λ u k. let w = with_state-at is_frame t x es u in grind (arith, w, f, k);
   order = λ u v b k hv. sym (with_state-behind t x es u v) ∙ b;
-  entrant = λ v k. inl (sym (with_state-has t x es v) ∙ k);
-  stays_in = λ u _ k. with_state-has t x es u ∙ k;
+  entrant = λ v k. inl (sym (has-with_state t x es v) ∙ k);
+  stays_in = λ u _ k. has-with_state t x es u ∙ k;
 }
 
 pub at-all : (es : List Entry) (u : ℕ) → at (λ x. true) es u ≡ has es u
@@ -188,7 +187,7 @@ settled-stays graph s q h back places lives = record {
   where
     before : (u v m : ℕ) → behind (entries q m) u v ≡ true → IsSettled graph s v m ⊎ IsServed (entries q m) v → at is_frame (entries q m) u ≡ false
     before u v m b (inr x) = x.none_before u b
-    before u v m b (inl x) = not_true _ (λ f. is_not_true _ (h.settled_is_kept.none_before u v m x ((places m).order u v b f (old ((places m).entrant v (behind-has (entries q m) u v b).1)))) ((places m).frame u f))
+    before u v m b (inl x) = false_from_ne_true _ (λ f. both_ways _ (h.settled_is_kept.none_before u v m x ((places m).order u v b f (old ((places m).entrant v (behind-has (entries q m) u v b).1)))) ((places m).frame u f))
       where
         old : (has (entries s m) v ≡ true) ⊎ (live s v ≡ true) → has (entries s m) v ≡ true
         old (inl y) = y
@@ -196,7 +195,7 @@ settled-stays graph s q h back places lives = record {
 
     frame : (v m : ℕ) → IsSettled graph s v m ⊎ IsServed (entries q m) v → at is_frame (entries q m) v ≡ false
     frame v m (inr x) = x.no_frame
-    frame v m (inl x) = not_true _ (λ f. is_not_true _ (h.settled_is_kept.no_frame v m x) ((places m).frame v f))
+    frame v m (inl x) = false_from_ne_true _ (λ f. both_ways _ (h.settled_is_kept.no_frame v m x) ((places m).frame v f))
 
     entry : (u m : ℕ) → live q u ≡ true → IsSettled graph s u m ⊎ IsServed (entries q m) u → has (entries q m) u ≡ true
     entry u m l (inr x) = x.entry
@@ -204,6 +203,6 @@ settled-stays graph s q h back places lives = record {
 
 -- A live call with a settled entry executes.
 pub settled-executes : (graph : Graph) (s : Core) → IsLawful graph s → (v m : ℕ) → live s v ≡ true → IsSettled graph s v m → executes s v ≡ true
-settled-executes graph s h v m l k = not_false _ (λ e.
-    let f : is_framing s v ≡ true = and_make _ _ l (ap not e) in
-    is_not_true _ (no_states-none (entries s m) v (h.framing_comes_last.no_mark v m f) (h.settled_is_kept.no_frame v m k) (h.framing_comes_last.no_done v m f)) (h.settled_has_entry v m l k))
+settled-executes graph s h v m l k = true_from_ne_false _ (λ e.
+    let f : is_framing s v ≡ true = and_from _ _ l (ap not e) in
+    both_ways _ (no_states-none (entries s m) v (h.framing_comes_last.no_mark v m f) (h.settled_is_kept.no_frame v m k) (h.framing_comes_last.no_done v m f)) (h.settled_has_entry v m l k))

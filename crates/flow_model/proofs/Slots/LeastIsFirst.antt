@@ -28,7 +28,7 @@ least-presses graph s h t n lt = least-same (presses_by_slot s t n) (presses s t
 
 -- ---- the first call is the least
 
-abbrev Above : ℕ → Option ℕ → Type 0
+abbrev pub Above : ℕ → Option ℕ → Type 0
 Above v None = Unit {0}
 Above v (Some w) = v < w
 
@@ -48,7 +48,7 @@ least-above test v (c ∷ cs) h = go (test c) (least_version test cs) (least-abo
     go true o k = less o k
     go false o k = k
 
-own-lesser : (v : ℕ) (o : Option ℕ) → Above v o → lesser v o ≡ v
+pub own-lesser : (v : ℕ) (o : Option ℕ) → Above v o → lesser v o ≡ v
 own-lesser v None k = refl
 own-lesser v (Some w) k = pick (nat_lt w v) (below w v k)
   where

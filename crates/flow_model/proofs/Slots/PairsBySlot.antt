@@ -2,7 +2,9 @@
 use Rattle.std.proofs.Common.{◌≡◌, ℕ, Bool, true, false, not, ◌&&◌, ◌||◌, ◌==◌, ◌⊎◌, inl, inr, refl, sym, ap, arith, List, [], ◌∷◌, ◌++◌, if◌then◌else◌, ◌∙◌, subst, Option, Some, None}
 use Rattle.std.specs.Prelude.{is_some}
 use Rattle.std.specs.List.{list_any, AllByRecursion}
+use Rattle.std.specs.Cmp.{both_ways as same_truth}
 use Rattle.std.proofs.lemmas.List.{map-append}
+use Rattle.std.proofs.lemmas.Bool.{or_cases, or_left, or_right, and_parts, and_from, eqb-true, eq-eqb, false_from_ne_true, both_ways}
 use Rattle.signal_graph.specs.Graph.{Graph}
 use Rattle.order_graph.specs.declared.pair.Pair.{Pair}
 use Rattle.order_graph.specs.Order.{is_recorded, reaches, linked, retired}
@@ -16,7 +18,6 @@ use Rattle.flow_model.specs.Kept.Lawful.{IsLawful, HasSlot}
 use Rattle.flow_model.specs.Parts.SlotPairs.{renamed_pair, renamed, slot_of, slot_pairs, link_left_by_slot, link_right_by_slot, linked_at_by_slot, entry_lives, stops_by_slot}
 use Rattle.flow_model.proofs.OneStep.SameCallers.{step-stable, slot-stable}
 use Rattle.flow_model.proofs.Settled.EntriesAreThere.{step-EntriesAreKept}
-use Rattle.flow_model.proofs.General.Truths.{or_cases, or_left, or_right, and_both, and_make, same_number, equal_test, not_true, is_not_true, same_truth}
 
 -- ---- another number for each of some numbers
 
@@ -28,7 +29,7 @@ abbrev pub EndsPass : (ℕ → Bool) → List Pair → Type 0
 EndsPass test pairs = AllByRecursion (λ (p : Pair). (test p.from ≡ true) × (test p.to ≡ true)) pairs
 
 pub same-test : (test : ℕ → Bool) (f : ℕ → ℕ) → KeepsApart test f → (u v : ℕ) → test u ≡ true → test v ≡ true → (f u == f v) ≡ (u == v)
-same-test test f k u v a b = same_truth _ _ (λ e. equal_test u v (k u v a b (same_number (f u) (f v) e))) (λ e. equal_test (f u) (f v) (ap f (same_number u v e)))
+same-test test f k u v a b = same_truth _ _ (λ e. eq-eqb u v (k u v a b (eqb-true (f u) (f v) e))) (λ e. eq-eqb (f u) (f v) (ap f (eqb-true u v e)))
 
 renamed-is_recorded : (test : ℕ → Bool) (f : ℕ → ℕ) → KeepsApart test f → (pairs : List Pair) → EndsPass test pairs → (a b : ℕ) → test a ≡ true → test b ≡ true → is_recorded (renamed f pairs) (f a) (f b) ≡ is_recorded pairs a b
 renamed-is_recorded test f k [] h a b ta tb = refl
@@ -96,7 +97,7 @@ renamed-alike f g (p ∷ pairs) h = let r = renamed-alike f g pairs h.1 in let a
 -- Whatever a list says of each pair that it records is true of each of its pairs.
 each-recorded : (P : ℕ → ℕ → Type 0) (pairs : List Pair) → ((u v : ℕ) → is_recorded pairs u v ≡ true → P u v) → AllByRecursion (λ (p : Pair). P p.from p.to) pairs
 each-recorded P [] f = tt
-each-recorded P (p ∷ pairs) f = (f p.from p.to (or_left _ _ (and_make _ _ (equal_test p.from p.from refl) (equal_test p.to p.to refl))), each-recorded P pairs (λ u v k. f u v (or_right _ _ k)))
+each-recorded P (p ∷ pairs) f = (f p.from p.to (or_left _ _ (and_from _ _ (eq-eqb p.from p.from refl) (eq-eqb p.to p.to refl))), each-recorded P pairs (λ u v k. f u v (or_right _ _ k)))
 
 pub slots-apart : (graph : Graph) (s : Core) → IsLawful graph s → KeepsApart (live s) (slot_of s)
 slots-apart graph s h u v a b e = h.room_is_kept.slots_apart u v a b e
@@ -209,7 +210,7 @@ some-call (c ∷ cs) e h = go (c.version == e.version) refl (or_cases _ _ h) (so
     go : (b : Bool) → (c.version == e.version) ≡ b → (((c.slot == e.slot) && (c.version == e.version)) ≡ true) ⊎ (list_any (λ c. (c.slot == e.slot) && (c.version == e.version)) cs ≡ true)
         → (list_any (λ c. (c.slot == e.slot) && (c.version == e.version)) cs ≡ true → is_some (call_of cs e.version) ≡ true) → is_some (elim b as (λ _. Option LiveCall) [ true ↦ Some c | false ↦ call_of cs e.version ]) ≡ true
     go true k x further = refl
-    go false k (inl x) further = absurd (is_not_true _ k (and_both (c.slot == e.slot) (c.version == e.version) x).1)
+    go false k (inl x) further = absurd (both_ways _ k (and_parts (c.slot == e.slot) (c.version == e.version) x).1)
     go false k (inr x) further = further x
 
 call-there : (cs : List LiveCall) (e : Entry) → is_some (call_of cs e.version) ≡ true → e.slot ≡ (call_or (call_of cs e.version)).slot → list_any (λ c. (c.slot == e.slot) && (c.version == e.version)) cs ≡ true
@@ -219,7 +220,7 @@ call-there (c ∷ cs) e h k = go (c.version == e.version) refl h k (call-there c
     go : (b : Bool) → (c.version == e.version) ≡ b → is_some (elim b as (λ _. Option LiveCall) [ true ↦ Some c | false ↦ call_of cs e.version ]) ≡ true → e.slot ≡ (call_or (elim b as (λ _. Option LiveCall) [ true ↦ Some c | false ↦ call_of cs e.version ])).slot
         → (is_some (call_of cs e.version) ≡ true → e.slot ≡ (call_or (call_of cs e.version)).slot → list_any (λ c. (c.slot == e.slot) && (c.version == e.version)) cs ≡ true)
         → list_any (λ c. (c.slot == e.slot) && (c.version == e.version)) (c ∷ cs) ≡ true
-    go true j h k further = or_left _ _ (and_make _ _ (equal_test c.slot e.slot (sym k)) j)
+    go true j h k further = or_left _ _ (and_from _ _ (eq-eqb c.slot e.slot (sym k)) j)
     go false j h k further = or_right _ _ (further h k)
 
 -- An entry's call lives exactly where a live call has the entry's slot and version.
@@ -235,7 +236,7 @@ no_pair graph s h u v l = go s.pairs (ends-live graph s h) u v l
     go (p ∷ pairs) e u v l =
         let r1 = go pairs e.1 u v l in
         let r2 = go pairs e.1 p.to v l in
-        let ne : (p.to == v) ≡ false = not_true _ (λ k. is_not_true _ l (subst (λ (w : ℕ). live s w ≡ true) (same_number p.to v k) e.0.1)) in
+        let ne : (p.to == v) ≡ false = false_from_ne_true _ (λ k. both_ways _ l (subst (λ (w : ℕ). live s w ≡ true) (eqb-true p.to v k) e.0.1)) in
         never (reaches pairs u p.from) r1 r2 ne
       where
         never : (x : Bool) → reaches pairs u v ≡ false → reaches pairs p.to v ≡ false → (p.to == v) ≡ false → reaches (p ∷ pairs) u v ≡ false

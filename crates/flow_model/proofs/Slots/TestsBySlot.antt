@@ -1,7 +1,9 @@
 -- By slots it comes out the same which call stops another, precedes it, frames before it or wants its node.
 use Rattle.std.proofs.Common.{◌≡◌, ℕ, Bool, true, false, not, ◌&&◌, ◌||◌, ◌==◌, ◌⊎◌, inl, inr, refl, sym, ap, arith, List, [], ◌∷◌, ◌++◌, map, filter, if◌then◌else◌, true≢false, ◌∙◌, subst, Option, Some}
+use Rattle.std.proofs.lemmas.Bool.{or_cases, or_left, or_right, and_parts, and_from, eq-eqb}
 use Rattle.std.specs.Prelude.{is_some}
 use Rattle.std.specs.List.{list_any, AllByRecursion, cons_option}
+use Rattle.std.specs.Cmp.{both_ways}
 use Rattle.signal_graph.specs.Graph.{Graph, is_in}
 use Rattle.order_graph.specs.declared.pair.Pair.{Pair}
 use Rattle.order_graph.specs.Order.{is_recorded, reaches}
@@ -13,7 +15,6 @@ use Rattle.flow_model.specs.Machine.Changes.{stops}
 use Rattle.flow_model.specs.Machine.Steps.{any_before, any_framing_before, is_framing_before}
 use Rattle.flow_model.specs.Kept.Lawful.{IsLawful, AreDistinct, HasSlot}
 use Rattle.flow_model.specs.Parts.SlotPairs.{renamed, slot_of, slot_pairs, stops_by_slot, ended_by_slot, any_before_by_slot, recorded_by_slot, is_framing_before_by_slot, presses_by_slot}
-use Rattle.flow_model.proofs.General.Truths.{or_cases, or_left, or_right, and_both, and_make, equal_test, same_truth}
 use Rattle.flow_model.proofs.OneStep.VersionsStayFresh.{call-version, tail-distinct}
 use Rattle.flow_model.proofs.OneStep.BegunCalls.{calls-distinct, reads-in}
 use Rattle.flow_model.proofs.General.Pigeons.{read-tail}
@@ -66,7 +67,7 @@ own-calls [] all d f = tt
 own-calls (c ∷ cs) all d f = (f c.version (ap is_some own) ∙ own, own-calls cs all (tail-distinct c.version (map (λ (c : LiveCall). c.version) cs) d) (λ v k. let r = read-tail c cs v d k in f v (ap is_some r ∙ k) ∙ r))
   where
     own : call_of (c ∷ cs) c.version ≡ Some c
-    own = let e = equal_test c.version c.version refl in rw (e, call_of) refl
+    own = let e = eq-eqb c.version c.version refl in rw (e, call_of) refl
 
 pub calls-own : (graph : Graph) (s : Core) → IsLawful graph s → AllByRecursion (λ (c : LiveCall). call_of s.calls c.version ≡ Some c) s.calls
 calls-own graph s h = own-calls s.calls s.calls (calls-distinct s h.versions_are_fresh) (λ v k. refl)
@@ -113,7 +114,7 @@ recorded-leads [] u t h = h
 recorded-leads (p ∷ pairs) u t h = go (or_cases _ _ h) (recorded-leads pairs u t)
   where
     go : (((p.from == u) && (p.to == t)) ≡ true) ⊎ (is_recorded pairs u t ≡ true) → (is_recorded pairs u t ≡ true → list_any (λ (p : Pair). p.to == t) pairs ≡ true) → list_any (λ (p : Pair). p.to == t) (p ∷ pairs) ≡ true
-    go (inl k) further = or_left _ _ (and_both (p.from == u) (p.to == t) k).1
+    go (inl k) further = or_left _ _ (and_parts (p.from == u) (p.to == t) k).1
     go (inr k) further = or_right _ _ (further k)
 
 leads-recorded : (pairs : List Pair) (t : ℕ) → list_any (λ (p : Pair). p.to == t) pairs ≡ true → (u : ℕ) × (is_recorded pairs u t ≡ true)
@@ -121,7 +122,7 @@ leads-recorded [] t h = absurd (true≢false (sym h))
 leads-recorded (p ∷ pairs) t h = go (or_cases _ _ h) (leads-recorded pairs t)
   where
     go : ((p.to == t) ≡ true) ⊎ (list_any (λ (p : Pair). p.to == t) pairs ≡ true) → (list_any (λ (p : Pair). p.to == t) pairs ≡ true → (u : ℕ) × (is_recorded pairs u t ≡ true)) → (u : ℕ) × (is_recorded (p ∷ pairs) u t ≡ true)
-    go (inl k) further = (p.from, or_left _ _ (and_make (p.from == p.from) (p.to == t) (equal_test p.from p.from refl) k))
+    go (inl k) further = (p.from, or_left _ _ (and_from (p.from == p.from) (p.to == t) (eq-eqb p.from p.from refl) k))
     go (inr k) further = let r = further k in (r.0, or_right _ _ r.1)
 
 renamed-leads : (test : ℕ → Bool) (f : ℕ → ℕ) → KeepsApart test f → (pairs : List Pair) → EndsPass test pairs → (t : ℕ) → test t ≡ true → list_any (λ (p : Pair). p.to == f t) (renamed f pairs) ≡ list_any (λ (p : Pair). p.to == t) pairs
@@ -130,7 +131,7 @@ renamed-leads test f k (p ∷ pairs) h t passes = let a = same-test test f k p.t
 
 -- Whether a live call has a direct predecessor is told by slots.
 pub before-by_slot : (graph : Graph) (s : Core) → IsLawful graph s → (t : ℕ) → live s t ≡ true → any_before_by_slot s t ≡ any_before s t
-before-by_slot graph s h t lt = renamed-leads (live s) (slot_of s) (slots-apart graph s h) s.pairs (ends-live graph s h) t lt ∙ same_truth _ _ to from
+before-by_slot graph s h t lt = renamed-leads (live s) (slot_of s) (slots-apart graph s h) s.pairs (ends-live graph s h) t lt ∙ both_ways _ _ to from
   where
     to : list_any (λ (p : Pair). p.to == t) s.pairs ≡ true → any_before s t ≡ true
     to k =

@@ -1,10 +1,13 @@
 -- In a lawful state a live call with no live call before it goes on, and where any call lives there is such a one.
 use Rattle.std.proofs.Common.{◌≡◌, ℕ, ◌<◌, Bool, true, false, not, ◌==◌, ◌⊎◌, inl, inr, refl, sym, ap, arith, List, [], ◌∷◌, length, true≢false, ◌∙◌, subst, Option, Some, None}
+use Rattle.std.proofs.lemmas.Bool.{or_cases, or_left, and_from, eqb-true, eq-eqb, false_from_ne_true, both_ways, cases_Bool}
 use Rattle.std.specs.Prelude.{find, is_none}
 use Rattle.std.specs.List.{list_any}
 use Rattle.signal_graph.specs.Graph.{Graph, IsGraph, node_at, is_in, is_source, inputs_of}
 use Rattle.order_graph.specs.Order.{reaches, is_recorded}
+use Rattle.order_graph.proofs.Reaching.{recorded-reaches, reaches-join}
 use Rattle.node_versions.specs.Entries.{has, at, is_mark, is_frame, behind, first_open}
+use Rattle.node_versions.proofs.Places.{at-has}
 use Rattle.flow_model.specs.declared.step.Step.{Step}
 use Rattle.flow_model.specs.declared.step.Step.TheVariants as steps
 use Rattle.flow_model.specs.declared.step.Turn.{Turn}
@@ -13,16 +16,15 @@ use Rattle.flow_model.specs.declared.step.Cause.TheVariants.{OpenBefore, InputOp
 use Rattle.flow_model.specs.Machine.Lists.{is_empty}
 use Rattle.flow_model.specs.Machine.Sets.{least}
 use Rattle.std.specs.Prelude.{is_some}
+use Rattle.script_tree.proofs.Truths.{and_right}
 use Rattle.flow_model.specs.Machine.State.{Core, LiveCall, call, call_of, live, executes, opens, changes, entries, outs, precedes}
 use Rattle.flow_model.specs.Machine.Words.{deps, prior_picks, is_gathered, is_found, found_candidates, heads, presses, next_look}
 use Rattle.flow_model.specs.Machine.Steps.{allowed, is_framing_before, has_body_value, any_before}
 use Rattle.flow_model.specs.Machine.Next
 use Rattle.flow_model.specs.Kept.Lawful.{IsLawful}
-use Rattle.flow_model.proofs.General.Truths.{or_cases, or_left, and_make, same_number, equal_test, not_true, is_not_true, true_or_false}
-use Rattle.flow_model.proofs.OneStep.WhoMayStep.{and_right, opens-live}
-use Rattle.flow_model.proofs.OneList.StatesAndPlaces.{at-has, behind-total, first_open-frame, first_open-none}
+use Rattle.flow_model.proofs.OneStep.WhoMayStep.{opens-live}
+use Rattle.flow_model.proofs.OneList.StatesAndPlaces.{behind-total, first_open-frame, first_open-none}
 use Rattle.flow_model.proofs.OrderStays.OpenNodesHaveFrames.{entry-there}
-use Rattle.flow_model.proofs.OneList.Chains.{recorded-reaches, reaches-trans}
 use Rattle.flow_model.proofs.Opening.OpeningLists.{candidate-earlier}
 use Rattle.flow_model.proofs.Edges.EdgesFitCandidates.{candidate-listed}
 use Rattle.flow_model.proofs.Wants.FramedWith.{opens-frame, live-chain}
@@ -45,14 +47,14 @@ GoesOn graph s t turns.Ready = allowed graph s (steps.End t) ≡ true
 
 -- no Frame stands before an entry of the first call
 no_frame-first : (graph : Graph) (s : Core) → IsLawful graph s → (t : ℕ) → live s t ≡ true → IsFirst s t → (m v : ℕ) → behind (entries s m) v t ≡ true → at is_frame (entries s m) v ≡ true → ⊥
-no_frame-first graph s h t l first m v b f = is_not_true _ (first v (opens-live s v m (h.frames_are_open.opens_frames v m ∙ f))) (h.order_is_kept.lists m v t b l)
+no_frame-first graph s h t l first m v b f = both_ways _ (first v (opens-live s v m (h.frames_are_open.opens_frames v m ∙ f))) (h.order_is_kept.lists m v t b l)
 
 blocked-none : (graph : Graph) (s : Core) → IsLawful graph s → (t : ℕ) → live s t ≡ true → IsFirst s t → (m : ℕ) → Next.blocked (entries s m) t ≡ None
 blocked-none graph s h t l first m = go (first_open (entries s m)) refl
   where
     go : (o : Option ℕ) → first_open (entries s m) ≡ o → Next.blocked_by (entries s m) t o ≡ None
     go None e = refl
-    go (Some v) e = ap (λ (b : Bool). Next.kept_if b v) (not_true (behind (entries s m) v t) (λ b. no_frame-first graph s h t l first m v b (first_open-frame (entries s m) v (h.one_entry m) e)))
+    go (Some v) e = ap (λ (b : Bool). Next.kept_if b v) (false_from_ne_true (behind (entries s m) v t) (λ b. no_frame-first graph s h t l first m v b (first_open-frame (entries s m) v (h.one_entry m) e)))
 
 -- the first Frame of a node that is open for the first call is its own
 other-none : (graph : Graph) (s : Core) → IsLawful graph s → (t : ℕ) → live s t ≡ true → IsFirst s t → (n : ℕ) → opens s t n ≡ true → Next.other_than t (first_open (entries s n)) ≡ None
@@ -63,18 +65,18 @@ other-none graph s h t l first n o = go (first_open (entries s n)) refl
 
     same : (v : ℕ) → first_open (entries s n) ≡ Some v → ((v == t) ≡ true) ⊎ ((v == t) ≡ false) → Next.kept_if (not (v == t)) v ≡ None
     same v e (inl x) = ap (λ (b : Bool). Next.kept_if (not b) v) x
-    same v e (inr x) = absurd (cases (or_cases _ _ (behind-total (entries s n) v t (at-has is_frame (entries s n) v fv) (at-has is_frame (entries s n) t ft) (λ z. is_not_true _ x (equal_test v t z)))))
+    same v e (inr x) = absurd (cases (or_cases _ _ (behind-total (entries s n) v t (at-has is_frame (entries s n) v fv) (at-has is_frame (entries s n) t ft) (λ z. both_ways _ x (eq-eqb v t z)))))
       where
         fv : at is_frame (entries s n) v ≡ true
         fv = first_open-frame (entries s n) v (h.one_entry n) e
 
         cases : (behind (entries s n) v t ≡ true) ⊎ (behind (entries s n) t v ≡ true) → ⊥
         cases (inl b) = no_frame-first graph s h t l first n v b fv
-        cases (inr b) = is_not_true _ (first_open-none (entries s n) v t (h.one_entry n) e b) ft
+        cases (inr b) = both_ways _ (first_open-none (entries s n) v t (h.one_entry n) e b) ft
 
     go : (z : Option ℕ) → first_open (entries s n) ≡ z → Next.other_than t z ≡ None
     go None e = refl
-    go (Some v) e = same v e (true_or_false (v == t))
+    go (Some v) e = same v e (cases_Bool (v == t))
 
 -- ---- the work at a node
 
@@ -101,7 +103,7 @@ candidate-on graph s h t l first c closed step =
     let in_the_way : ℕ → Turn = λ v. turns.NotYet (OpenBefore c v) in
     let read : List (Option Turn) = Next.for_some (Next.blocked (entries s c) t) in_the_way ∷ here in
     when-holds (GoesOn graph s t) (not (has (entries s c) t)) (Next.entering graph s (entries s) (outs s) t c (steps.Mark t c)) (Next.when (opens s t c) (turns.NotYet (InputOpen c)) ∷ read) (λ e. tt) (λ e.
-    when-holds (GoesOn graph s t) (opens s t c) (turns.NotYet (InputOpen c)) read (λ o. is_not_true _ closed o) (λ o.
+    when-holds (GoesOn graph s t) (opens s t c) (turns.NotYet (InputOpen c)) read (λ o. both_ways _ closed o) (λ o.
     some-holds (GoesOn graph s t) (Next.blocked (entries s c) t) in_the_way here (λ v k. none-some _ v (blocked-none graph s h t l first c) k) (λ k. tt)))
 
 -- What is known at the node: none of its found candidates is open for the call.
@@ -145,7 +147,7 @@ points-on graph s h t l first n o closed =
 
 -- At the least open node no candidate is open, since candidates are earlier nodes.
 least-closed : (graph : Graph) → IsGraph graph → (s : Core) → IsLawful graph s → (t n : ℕ) → heads s t n ≡ true → least (call s t).open_nodes ≡ Some n → CandidatesClosed s t n
-least-closed graph g s h t n hd e c i = not_true (opens s t c) (λ o.
+least-closed graph g s h t n hd e c i = false_from_ne_true (opens s t c) (λ o.
     let a = least-below (call s t).open_nodes n c (h.sets_are_sets.open_nodes t) e o in
     let b = candidate-earlier graph g n c there (candidate-listed graph s h t n c hd i) in
     omega (arith, a, b))
@@ -157,7 +159,7 @@ least-closed graph g s h t n hd e c i = not_true (opens s t c) (λ o.
 
 -- no live call is recorded before the first one
 none_before : (graph : Graph) (s : Core) → IsLawful graph s → (t : ℕ) → IsFirst s t → (v : ℕ) → is_recorded s.pairs v t ≡ true → ⊥
-none_before graph s h t first v r = is_not_true _ (first v (h.entries_are_kept.pairs v t r).0) (or_left _ _ (recorded-reaches s.pairs v t r))
+none_before graph s h t first v r = both_ways _ (first v (h.entries_are_kept.pairs v t r).0) (or_left _ _ (recorded-reaches s.pairs v t r))
 
 pub any-passes : (test : LiveCall → Bool) (cs : List LiveCall) → list_any test cs ≡ true → (c : LiveCall) × (test c ≡ true)
 any-passes test [] k = absurd (true≢false (sym k))
@@ -168,7 +170,7 @@ any-passes test (c ∷ cs) k = go (or_cases _ _ k) (any-passes test cs)
     go (inr e) further = further e
 
 first-any_before : (graph : Graph) (s : Core) → IsLawful graph s → (t : ℕ) → IsFirst s t → any_before s t ≡ false
-first-any_before graph s h t first = not_true _ (λ k. let c = any-passes (λ c. is_recorded s.pairs c.version t) s.calls k in none_before graph s h t first c.0.version c.1)
+first-any_before graph s h t first = false_from_ne_true _ (λ k. let c = any-passes (λ c. is_recorded s.pairs c.version t) s.calls k in none_before graph s h t first c.0.version c.1)
 
 next-on : (graph : Graph) → IsGraph graph → (s : Core) → IsLawful graph s → (t : ℕ) → live s t ≡ true → IsFirst s t → GoesOn graph s t (Next.next graph s t)
 next-on graph g s h t l first =
@@ -190,7 +192,7 @@ next-on graph g s h t l first =
         points-on graph s h t l first n o (least-closed graph g s h t n hd e)
 
     ends : is_empty (call s t).wanted ≡ true → executes s t ≡ true → is_empty (call s t).open_nodes ≡ true → next_look s t ≡ None → allowed graph s (steps.End t) ≡ true
-    ends w x e k = and_make _ _ (and_make _ _ (and_make _ _ (and_make _ _ x w) e) (ap is_none k)) (ap not (first-any_before graph s h t first))
+    ends w x e k = and_from _ _ (and_from _ _ (and_from _ _ (and_from _ _ x w) e) (ap is_none k)) (ap not (first-any_before graph s h t first))
 
 -- An allowed step comes next, or nothing but an allowed end.
 abbrev pub HasNext : Graph → Core → ℕ → Type 0
@@ -216,11 +218,11 @@ call_of-cases : (c : LiveCall) (cs : List LiveCall) (v : ℕ) → is_some (call_
 call_of-cases c cs v h = go (c.version == v) refl h
   where
     go : (b : Bool) → (c.version == v) ≡ b → is_some (elim b as (λ _. Option LiveCall) [ true ↦ Some c | false ↦ call_of cs v ]) ≡ true → (c.version ≡ v) ⊎ (is_some (call_of cs v) ≡ true)
-    go true e k = inl (same_number c.version v e)
+    go true e k = inl (eqb-true c.version v e)
     go false e k = inr k
 
 pub head-some : (c : LiveCall) (cs : List LiveCall) → is_some (call_of (c ∷ cs) c.version) ≡ true
-head-some c cs = let e = equal_test c.version c.version refl in rw (e, call_of) refl
+head-some c cs = let e = eq-eqb c.version c.version refl in rw (e, call_of) refl
 
 tail-some : (c : LiveCall) (cs : List LiveCall) (v : ℕ) → is_some (call_of cs v) ≡ true → is_some (call_of (c ∷ cs) v) ≡ true
 tail-some c cs v h = go (c.version == v)
@@ -238,14 +240,14 @@ least-of before irr trans c [] = record { it = c.version; here = head-some c [];
 least-of before irr trans c (d ∷ ds) = go (least-of before irr trans d ds)
   where
     go : IsLeast before (d ∷ ds) → IsLeast before (c ∷ d ∷ ds)
-    go m = cases (true_or_false (before c.version m.it))
+    go m = cases (cases_Bool (before c.version m.it))
       where
         cases : (before c.version m.it ≡ true) ⊎ (before c.version m.it ≡ false) → IsLeast before (c ∷ d ∷ ds)
         cases (inl b) = record { it = c.version; here = head-some c (d ∷ ds); none = λ v k. mine v (call_of-cases c (d ∷ ds) v k) }
           where
             mine : (v : ℕ) → (c.version ≡ v) ⊎ (is_some (call_of (d ∷ ds) v) ≡ true) → before v c.version ≡ false
             mine v (inl e) = subst (λ (w : ℕ). before w c.version ≡ false) e (irr c.version)
-            mine v (inr k) = not_true _ (λ x. is_not_true _ (m.none v k) (trans v c.version m.it x b))
+            mine v (inr k) = false_from_ne_true _ (λ x. both_ways _ (m.none v k) (trans v c.version m.it x b))
         cases (inr b) = record { it = m.it; here = tail-some c (d ∷ ds) m.it m.here; none = λ v k. theirs v (call_of-cases c (d ∷ ds) v k) }
           where
             theirs : (v : ℕ) → (c.version ≡ v) ⊎ (is_some (call_of (d ∷ ds) v) ≡ true) → before v m.it ≡ false
@@ -259,6 +261,6 @@ some-first graph s h t l = go s.calls refl l
     go : (cs : List LiveCall) → s.calls ≡ cs → is_some (call_of cs t) ≡ true → (u : ℕ) × (live s u ≡ true) × IsFirst s u
     go [] e k = absurd (true≢false (sym k))
     go (c ∷ cs) e k =
-        let m = least-of (reaches s.pairs) h.order_is_kept.no_cycle (reaches-trans s.pairs) c cs in
+        let m = least-of (reaches s.pairs) h.order_is_kept.no_cycle (reaches-join s.pairs) c cs in
         let here : live s m.it ≡ true = ap (λ (xs : List LiveCall). is_some (call_of xs m.it)) e ∙ m.here in
-        (m.it, here, λ v lv. not_true _ (λ p. is_not_true _ (m.none v (sym (ap (λ (xs : List LiveCall). is_some (call_of xs v)) e) ∙ lv)) (live-chain s v m.it lv p)))
+        (m.it, here, λ v lv. false_from_ne_true _ (λ p. both_ways _ (m.none v (sym (ap (λ (xs : List LiveCall). is_some (call_of xs v)) e) ∙ lv)) (live-chain s v m.it lv p)))

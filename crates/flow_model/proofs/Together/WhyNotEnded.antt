@@ -1,5 +1,6 @@
 -- Of a live call of a lawful state no cause is named exactly where it can end.
 use Rattle.std.proofs.Common.{◌≡◌, ℕ, Bool, true, false, not, ◌&&◌, ◌||◌, ◌⊎◌, inl, inr, List, [], ◌∷◌, Option, Some, None, refl, sym, ap, ◌∙◌, subst, arith}
+use Rattle.std.proofs.lemmas.Bool.{or_cases, and_from, false_from_ne_true, both_ways, cases_Bool}
 use Rattle.std.specs.Prelude.{is_none, option_map}
 use Rattle.std.specs.List.{list_any}
 use Rattle.script_tree.specs.declared.value.Value.{Value}
@@ -16,7 +17,6 @@ use Rattle.flow_model.specs.Machine.Steps.{allowed, any_before, nodes_set}
 use Rattle.flow_model.specs.Machine.Next.{first_cause, least_version, lesser, why_not_ended}
 use Rattle.flow_model.specs.Kept.Runs.{framed}
 use Rattle.flow_model.specs.Kept.Lawful.{IsLawful}
-use Rattle.flow_model.proofs.General.Truths.{and_make, or_cases, not_true, is_not_true, true_or_false}
 use Rattle.flow_model.proofs.Ended.AfterEnd.{empty-none, framed-done}
 
 -- ---- the first of four causes
@@ -46,7 +46,7 @@ none-first : (xs : List ℕ) → is_none (least xs) ≡ is_empty xs
 none-first [] = refl
 none-first (x ∷ xs) = refl
 
-none-least : (test : LiveCall → Bool) (cs : List LiveCall) → is_none (least_version test cs) ≡ not (list_any test cs)
+pub none-least : (test : LiveCall → Bool) (cs : List LiveCall) → is_none (least_version test cs) ≡ not (list_any test cs)
 none-least test [] = refl
 none-least test (c ∷ cs) = go (test c) (none-least test cs)
   where
@@ -83,7 +83,7 @@ framing-unfinished : (graph : Graph) (s : Core) → IsLawful graph s → (t : �
 framing-unfinished graph s h t f l x w o = go (call s t).sets refl
   where
     go : (xs : List (ℕ × Value)) → (call s t).sets ≡ xs → ⊥
-    go [] e = is_not_true _ x ((h.calls_are_right t l).executing e)
+    go [] e = both_ways _ x ((h.calls_are_right t l).executing e)
     go (p ∷ ps) e = cases (or_cases _ _ spread)
       where
         set : is_in p.0 (nodes_set (call s t).sets) ≡ true
@@ -93,21 +93,21 @@ framing-unfinished graph s h t f l x w o = go (call s t).sets refl
         spread = h.changes_spread.set t p.0 l set
 
         cases : (framed s t p.0 ≡ true) ⊎ (wants s t p.0 ≡ true) → ⊥
-        cases (inl k) = is_not_true _ (h.framing_comes_last.no_done t p.0 f) (framed-done s t p.0 k closed)
+        cases (inl k) = both_ways _ (h.framing_comes_last.no_done t p.0 f) (framed-done s t p.0 k closed)
           where
             closed : at is_frame (entries s p.0) t ≡ false
             closed = sym (h.frames_are_open.opens_frames t p.0) ∙ empty-none (call s t).open_nodes p.0 o
-        cases (inr k) = is_not_true _ (empty-none (call s t).wanted p.0 w) k
+        cases (inr k) = both_ways _ (empty-none (call s t).wanted p.0 w) k
 
 pub end-live : (graph : Graph) (s : Core) → IsLawful graph s → (t : ℕ) → live s t ≡ true
     → allowed graph s (steps.End t) ≡ is_none (why_not_ended s t)
-end-live graph s h t l = go (true_or_false (executes s t))
+end-live graph s h t l = go (cases_Bool (executes s t))
   where
     go : (executes s t ≡ true) ⊎ (executes s t ≡ false) → allowed graph s (steps.End t) ≡ is_none (why_not_ended s t)
     go (inl x) = end-executing graph s t ∙ ap (λ (b : Bool). b && is_none (why_not_ended s t)) x
     go (inr x) = end-executing graph s t ∙ ap (λ (b : Bool). b && is_none (why_not_ended s t)) x
-        ∙ sym (not_true (is_none (why_not_ended s t)) (λ k. unfinished (sym (causes-are s t) ∙ k)))
+        ∙ sym (false_from_ne_true (is_none (why_not_ended s t)) (λ k. unfinished (sym (causes-are s t) ∙ k)))
       where
         unfinished : (((is_empty (call s t).wanted && is_empty (call s t).open_nodes) && is_none (next_look s t)) && not (any_before s t))
             ≡ true → ⊥
-        unfinished k = framing-unfinished graph s h t (and_make _ _ l (ap not x)) l x (grind (arith, k)) (grind (arith, k))
+        unfinished k = framing-unfinished graph s h t (and_from _ _ l (ap not x)) l x (grind (arith, k)) (grind (arith, k))

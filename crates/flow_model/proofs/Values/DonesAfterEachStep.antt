@@ -1,5 +1,6 @@
 -- After each step and each beginning all Dones are right, and calls count what they have changed and evaluated.
 use Rattle.std.proofs.Common.{◌≡◌, ℕ, suc, Bool, true, false, ◌&&◌, ◌||◌, not, ◌==◌, ◌⊎◌, inl, inr, refl, sym, ap, List, [], ◌∷◌, length, ◌∙◌, subst, Option, Some}
+use Rattle.std.proofs.lemmas.Bool.{false_from_ne_true, both_ways}
 use Rattle.std.specs.Prelude.{is_some}
 use Rattle.std.specs.Prelude.{filter}
 use Rattle.std.specs.List.{list_any}
@@ -10,13 +11,12 @@ use Rattle.signal_graph.specs.Graph.{Graph, IsGraph, is_in, node_at, numbers, is
 use Rattle.signal_graph.specs.Machine.{same}
 use Rattle.node_versions.specs.declared.entry.State.{State}
 use Rattle.node_versions.specs.Entries.{has, at, is_done, changed_of, done_at, value_before}
+use Rattle.node_versions.proofs.Places.{at-has}
 use Rattle.flow_model.specs.declared.step.Step.{Step}
 use Rattle.flow_model.specs.Machine.State.{Core, LiveCall, call, call_of, call_or, live, entries, changes}
 use Rattle.flow_model.specs.Machine.Words.{deps, touched, heads, is_found, set_value}
 use Rattle.flow_model.specs.Machine.Steps.{allowed, apply, begin, new_call}
 use Rattle.flow_model.specs.Kept.Lawful.{IsLawful, DonesAreRight, IsDoneRight, HasDone, value_for, has_evaluated}
-use Rattle.flow_model.proofs.General.Truths.{not_true, is_not_true}
-use Rattle.flow_model.proofs.OneList.StatesAndPlaces.{at-has}
 use Rattle.flow_model.proofs.OrderStays.AfterEachStep.{not_begun-entry}
 use Rattle.flow_model.proofs.OneStep.BegunCalls.{begin-call}
 use Rattle.flow_model.proofs.Values.NothingComesBefore.{head-unblocked}
@@ -63,11 +63,11 @@ module _ (graph : Graph) (g : IsGraph graph) (s : Core) (step : Step) (h : IsLaw
           shown : (b : Bool) → at is_done (entries s n) u ≡ b → at changed_of (entries s n) u ≡ at changed_of (entries (apply graph s step) n) u
           shown true d = sym (shown-kept graph g s step h a u n l d changed_of)
           shown false d =
-              not_true (at changed_of (entries s n) u) (λ k. is_not_true _ d (changed-done (entries s n) u k))
-              ∙ sym (not_true (at changed_of (entries (apply graph s step) n) u) (λ k. new (done-before graph s step h a u n (changed-done (entries (apply graph s step) n) u k))))
+              false_from_ne_true (at changed_of (entries s n) u) (λ k. both_ways _ d (changed-done (entries s n) u k))
+              ∙ sym (false_from_ne_true (at changed_of (entries (apply graph s step) n) u) (λ k. new (done-before graph s step h a u n (changed-done (entries (apply graph s step) n) u k))))
             where
               new : (at is_done (entries s n) u ≡ true) ⊎ Finishes step u n → ⊥
-              new (inl k) = is_not_true _ d k
+              new (inl k) = both_ways _ d k
               new (inr k) = x k
 
   pub step-DonesAreRight : DonesAreRight graph (apply graph s step)
@@ -103,7 +103,7 @@ module _ (graph : Graph) (s : Core) (caller : ℕ) (c : Call) (h : IsLawful grap
   no_entry u n e = subst (λ (j : ℕ). has (entries s n) j ≡ false) (sym e.0) (not_begun-entry graph s h n)
 
   none-at : (test : State → Bool) (u n : ℕ) → New u → at test (entries s n) u ≡ false
-  none-at test u n e = not_true _ (λ k. is_not_true _ (no_entry u n e) (at-has test (entries s n) u k))
+  none-at test u n e = false_from_ne_true _ (λ k. both_ways _ (no_entry u n e) (at-has test (entries s n) u k))
 
   -- A call with a Done is no new one.
   done-old : (u n : ℕ) → HasDone s u n → Old u
@@ -111,7 +111,7 @@ module _ (graph : Graph) (s : Core) (caller : ℕ) (c : Call) (h : IsLawful grap
     where
       go : Old u ⊎ New u → Old u
       go (inl e) = e
-      go (inr e) = absurd (is_not_true _ (none-at is_done u n e) d)
+      go (inr e) = absurd (both_ways _ (none-at is_done u n e) d)
 
   old-live : (u : ℕ) → Old u → live (begin graph s caller c) u ≡ true → live s u ≡ true
   old-live u e l = sym (ap is_some e) ∙ l
@@ -148,7 +148,7 @@ module _ (graph : Graph) (s : Core) (caller : ℕ) (c : Call) (h : IsLawful grap
       go (inr e) = ap (λ (o : Option LiveCall). (call_or o).evaluated) e.1 ∙ sym (nothing (has_evaluated graph (begin graph s caller c) u) (numbers graph) (λ n. none n))
         where
           no_head : (n : ℕ) → heads s u n ≡ false
-          no_head n = not_true _ (λ k. is_not_true _ (no_entry u n e) (head-unblocked graph s h u n k).entry)
+          no_head n = false_from_ne_true _ (λ k. both_ways _ (no_entry u n e) (head-unblocked graph s h u n k).entry)
 
           none : (n : ℕ) → has_evaluated graph (begin graph s caller c) u n ≡ false
           none n = ap (λ (b : Bool). (b && touched graph (begin graph s caller c) u n) || (heads s u n && is_found s n)) (none-at is_done u n e) ∙ ap (λ (b : Bool). b && is_found s n) (no_head n)

@@ -1,7 +1,10 @@
 -- After each step a call's number evaluated is the number of nodes that it has evaluated.
 use Rattle.std.proofs.Common.{◌≡◌, ℕ, suc, ◌+◌, ◌<◌, ◌≤◌, Bool, true, false, ◌&&◌, ◌||◌, not, ◌==◌, ◌⊎◌, inl, inr, refl, sym, ap, arith, List, [], ◌∷◌, ◌++◌, length, true≢false, ◌∙◌, subst, Option, Some}
+use Rattle.std.proofs.lemmas.Bool.{or_cases, or_left, or_right, and_parts, and_from, eqb-true, eq-eqb, eqb-false, false_from_ne_true, both_ways, cases_Bool, not-true}
 use Rattle.std.specs.Prelude.{filter, is_some, if◌then◌else◌}
 use Rattle.std.specs.List.{list_any}
+use Rattle.std.specs.Cmp.{both_ways as same_truth}
+use Rattle.script_tree.proofs.Truths.{and_left, and_right}
 use Rattle.signal_graph.specs.declared.node.Node.{Node}
 use Rattle.signal_graph.specs.Graph.{Graph, IsGraph, is_in, node_at, numbers, numbers_from, inputs_of, is_source}
 use Rattle.signal_graph.specs.Values.{nodes_in}
@@ -16,8 +19,7 @@ use Rattle.flow_model.specs.Machine.Changes.{finish, cleared, set_state}
 use Rattle.flow_model.specs.Machine.Steps.{allowed, apply, counted, gather, keep_found, keep_body, is_change}
 use Rattle.flow_model.specs.Kept.Runs.{was_due}
 use Rattle.flow_model.specs.Kept.Lawful.{IsLawful, has_evaluated}
-use Rattle.flow_model.proofs.General.Truths.{or_cases, or_left, or_right, and_both, and_make, same_number, equal_test, other_number, not_true, is_not_true, same_truth, true_or_false}
-use Rattle.flow_model.proofs.OneStep.WhoMayStep.{and_left, and_right, not_is, executes-live, at_front-executes, at_front-heads, can_work-at_front, skip-can_work, resolve-can_work, evaluate-at_front}
+use Rattle.flow_model.proofs.OneStep.WhoMayStep.{executes-live, at_front-executes, at_front-heads, can_work-at_front, skip-can_work, resolve-can_work, evaluate-at_front}
 use Rattle.flow_model.proofs.OneList.StatesAndPlaces.{first_open-frame}
 use Rattle.flow_model.proofs.OneList.CallsAndCells.{with_call-field}
 use Rattle.flow_model.proofs.OneList.Entering.{with_cell-cell}
@@ -51,7 +53,7 @@ first-some (e ∷ es) u h = go (is_frame e.state) refl (e.version == u) h (first
 
 pub filter-same : (p q : ℕ → Bool) (ns : List ℕ) → ((n : ℕ) → is_in n ns ≡ true → p n ≡ q n) → filter p ns ≡ filter q ns
 filter-same p q [] h = refl
-filter-same p q (n ∷ ns) h = go (p n) refl (h n (or_left _ _ (equal_test n n refl))) (filter-same p q ns (λ m k. h m (or_right _ _ k)))
+filter-same p q (n ∷ ns) h = go (p n) refl (h n (or_left _ _ (eq-eqb n n refl))) (filter-same p q ns (λ m k. h m (or_right _ _ k)))
   where
     go : (b : Bool) → p n ≡ b → p n ≡ q n → filter p ns ≡ filter q ns → (if p n then n ∷ filter p ns else filter p ns) ≡ (if q n then n ∷ filter q ns else filter q ns)
     go b x y r = ap (λ (c : Bool). if c then n ∷ filter p ns else filter p ns) y ∙ ap (λ (xs : List ℕ). if q n then n ∷ xs else xs) r
@@ -61,13 +63,13 @@ below-apart k [] n h = absurd (true≢false (sym h))
 below-apart k (x ∷ xs) n h = go (or_cases _ _ h) (below-apart (k + 1) xs n)
   where
     go : ((k == n) ≡ true) ⊎ (is_in n (numbers_from (k + 1) xs) ≡ true) → (is_in n (numbers_from (k + 1) xs) ≡ true → k + 1 ≤ n) → k ≤ n
-    go (inl e) further = let y = same_number k n e in omega (arith, y)
+    go (inl e) further = let y = eqb-true k n e in omega (arith, y)
     go (inr e) further = let y = further e in omega (arith, y)
 
 -- One number more passes.
 count-one : (p q : ℕ → Bool) (k : ℕ) (nodes : List Node) (n0 : ℕ) → k ≤ n0 → n0 < k + length nodes → ((n : ℕ) → (n == n0) ≡ false → q n ≡ p n) → p n0 ≡ false → q n0 ≡ true → length (filter q (numbers_from k nodes)) ≡ suc (length (filter p (numbers_from k nodes)))
 count-one p q k [] n0 a b same no_p yes_q = absurd (omega arith)
-count-one p q k (x ∷ xs) n0 a b same no_p yes_q = go (true_or_false (k == n0)) (λ (y : k + 1 ≤ n0). count-one p q (k + 1) xs n0 y (omega arith) same no_p yes_q)
+count-one p q k (x ∷ xs) n0 a b same no_p yes_q = go (cases_Bool (k == n0)) (λ (y : k + 1 ≤ n0). count-one p q (k + 1) xs n0 y (omega arith) same no_p yes_q)
   where
     ps : List ℕ
     ps = filter p (numbers_from (k + 1) xs)
@@ -77,13 +79,13 @@ count-one p q k (x ∷ xs) n0 a b same no_p yes_q = go (true_or_false (k == n0))
 
     go : ((k == n0) ≡ true) ⊎ ((k == n0) ≡ false) → (k + 1 ≤ n0 → length qs ≡ suc (length ps)) → length (if q k then k ∷ qs else qs) ≡ suc (length (if p k then k ∷ ps else ps))
     go (inl e) further =
-        let y = same_number k n0 e in
+        let y = eqb-true k n0 e in
         let pk : p k ≡ false = subst (λ (j : ℕ). p j ≡ false) (sym y) no_p in
         let qk : q k ≡ true = subst (λ (j : ℕ). q j ≡ true) (sym y) yes_q in
-        let rest = filter-same q p (numbers_from (k + 1) xs) (λ n i. same n (not_true (n == n0) (λ z. let m = below-apart (k + 1) xs n i in let w = same_number n n0 z in let f : ⊥ = absurd (omega (arith, m, w, y)) in f))) in
+        let rest = filter-same q p (numbers_from (k + 1) xs) (λ n i. same n (false_from_ne_true (n == n0) (λ z. let m = below-apart (k + 1) xs n i in let w = eqb-true n n0 z in let f : ⊥ = absurd (omega (arith, m, w, y)) in f))) in
         rw (qk, pk) (ap (λ (ms : List ℕ). suc (length ms)) rest)
     go (inr e) further =
-        let y : k + 1 ≤ n0 = other_le (other_number k n0 e) in
+        let y : k + 1 ≤ n0 = other_le (eqb-false k n0 e) in
         let r = further y in
         let s = same k e in
         cases (p k) refl s r
@@ -114,7 +116,7 @@ kept-found graph s (steps.Body t m) ne n nr = go (with_cell-cell s m (keep_body 
     go (inl e) = ap (λ (c : Cell). is_some c.found) e
     go (inr e) = ap (λ (c : Cell). is_some c.found) e.1
 kept-found graph s (steps.Resolve t m) ne n nr =
-    let e : (n == m) ≡ false = not_true (n == m) (λ k. nr (same_number n m k)) in
+    let e : (n == m) ≡ false = false_from_ne_true (n == m) (λ k. nr (eqb-true n m k)) in
     ap (λ (c : Cell). is_some c.found) (cell-other (finish s t m (value_now graph s t m) (is_change graph s t m) (found_picks s m)) m n cleared e ∙ cell-other s m n (set_state t (Done (value_now graph s t m) (is_change graph s t m) (found_picks s m))) e)
 kept-found graph s (steps.Discover t m i) ne n nr = ap (λ (o : Option Found). is_some o) (step-work graph s (steps.Discover t m i) (λ k. k) n).found
 kept-found graph s (steps.Drop t m i) ne n nr = ap (λ (o : Option Found). is_some o) (step-work graph s (steps.Drop t m i) (λ k. k) n).found
@@ -132,7 +134,7 @@ resolved-found graph s h t n a = ap (λ (c : Cell). is_some c.found) (cell-there
 -- ---- what a call has evaluated
 
 done-no_head : (es : List Entry) (u : ℕ) → IsUnique es → at is_done es u ≡ true → is_some_of (first_open es) u ≡ false
-done-no_head es u un d = not_true _ (λ k. is_not_true _ (done-no_frame es u d) (first_open-frame es u un (head-first es u k)))
+done-no_head es u un d = false_from_ne_true _ (λ k. both_ways _ (done-no_frame es u d) (first_open-frame es u un (head-first es u k)))
 
 module _ (graph : Graph) (g : IsGraph graph) (s : Core) (step : Step) (h : IsLawful graph s) (a : allowed graph s step ≡ true) (ne : IsEvaluate step → ⊥) (u : ℕ) (l : live (apply graph s step) u ≡ true) where
   -- where the call doesn't finish
@@ -142,34 +144,34 @@ module _ (graph : Graph) (g : IsGraph graph) (s : Core) (step : Step) (h : IsLaw
       go : (b : Bool) → at is_done (entries s n) u ≡ b → (at is_done (entries (apply graph s step) n) u && touched graph (apply graph s step) u n) ≡ (at is_done (entries s n) u && touched graph s u n)
       go true d = ap (λ (x : Bool). x && touched graph (apply graph s step) u n) (shown-kept graph g s step h a u n l d is_done) ∙ ap (λ (x : Bool). at is_done (entries s n) u && x) (touched-kept graph g s step h a u n l d)
       go false d =
-          let e : at is_done (entries (apply graph s step) n) u ≡ false = not_true _ (λ k. new (done-before graph s step h a u n k)) in
+          let e : at is_done (entries (apply graph s step) n) u ≡ false = false_from_ne_true _ (λ k. new (done-before graph s step h a u n k)) in
           ap (λ (x : Bool). x && touched graph (apply graph s step) u n) e ∙ sym (ap (λ (x : Bool). x && touched graph s u n) d)
         where
           new : (at is_done (entries s n) u ≡ true) ⊎ Finishes step u n → ⊥
-          new (inl k) = is_not_true _ d k
+          new (inl k) = both_ways _ d k
           new (inr k) = nf k
 
   found-same : (n : ℕ) → (Finishes step u n → ⊥) → (heads (apply graph s step) u n && is_found (apply graph s step) n) ≡ (heads s u n && is_found s n)
   found-same n nf = go (resolves-or step n)
     where
       forth : (Resolves step n → ⊥) → (heads (apply graph s step) u n && is_found (apply graph s step) n) ≡ true → (heads s u n && is_found s n) ≡ true
-      forth nr k = two (work-head graph s step h a u n (h.work_is_kept.finds n f) (and_both (heads (apply graph s step) u n) (is_found (apply graph s step) n) k).0)
+      forth nr k = two (work-head graph s step h a u n (h.work_is_kept.finds n f) (and_parts (heads (apply graph s step) u n) (is_found (apply graph s step) n) k).0)
         where
           f : is_found s n ≡ true
-          f = sym (kept-found graph s step ne n nr) ∙ (and_both (heads (apply graph s step) u n) (is_found (apply graph s step) n) k).1
+          f = sym (kept-found graph s step ne n nr) ∙ (and_parts (heads (apply graph s step) u n) (is_found (apply graph s step) n) k).1
 
           two : (heads s u n ≡ true) ⊎ Resolves step n → (heads s u n && is_found s n) ≡ true
-          two (inl x) = and_make _ _ x f
+          two (inl x) = and_from _ _ x f
           two (inr x) = absurd (nr x)
 
       back : (Resolves step n → ⊥) → (heads s u n && is_found s n) ≡ true → (heads (apply graph s step) u n && is_found (apply graph s step) n) ≡ true
-      back nr k = and_make _ _ (stays (open-stays graph s step h a u n (heads-opens graph s h u n hd))) (kept-found graph s step ne n nr ∙ f)
+      back nr k = and_from _ _ (stays (open-stays graph s step h a u n (heads-opens graph s h u n hd))) (kept-found graph s step ne n nr ∙ f)
         where
           hd : heads s u n ≡ true
-          hd = (and_both (heads s u n) (is_found s n) k).0
+          hd = (and_parts (heads s u n) (is_found s n) k).0
 
           f : is_found s n ≡ true
-          f = (and_both (heads s u n) (is_found s n) k).1
+          f = (and_parts (heads s u n) (is_found s n) k).1
 
           xu : executes s u ≡ true
           xu = let w = h.work_is_kept.finds n f in subst (λ (j : ℕ). executes s j ≡ true) (heads-same s u w.head n hd w.first) w.holds.executing
@@ -182,15 +184,15 @@ module _ (graph : Graph) (g : IsGraph graph) (s : Core) (step : Step) (h : IsLaw
               first (y, e) = same (head-step graph s step h a n u y hd xu head)
                 where
                   head : heads (apply graph s step) y n ≡ true
-                  head = rw e (equal_test y y refl)
+                  head = rw e (eq-eqb y y refl)
 
                   same : (y ≡ u) ⊎ Finishes step u n → heads (apply graph s step) u n ≡ true
                   same (inl z) = subst (λ (j : ℕ). heads (apply graph s step) j n ≡ true) z head
                   same (inr z) = absurd (nf z)
 
       resolved : (x : Step) → allowed graph s x ≡ true → (Finishes x u n → ⊥) → Resolves x n → (heads (apply graph s x) u n && is_found (apply graph s x) n) ≡ (heads s u n && is_found s n)
-      resolved (steps.Resolve t m) b nf r = not_true _ (λ k. is_not_true _ (subst (λ (j : ℕ). is_found (apply graph s (steps.Resolve t m)) j ≡ false) (sym r) (resolved-found graph s h t m b)) (and_both (heads (apply graph s (steps.Resolve t m)) u n) (is_found (apply graph s (steps.Resolve t m)) n) k).1)
-          ∙ sym (not_true _ (λ k. nf (heads-same s t u n (subst (λ (j : ℕ). heads s t j ≡ true) (sym r) (at_front-heads graph s t m (can_work-at_front graph s t m (resolve-can_work graph s t m b)))) (and_both (heads s u n) (is_found s n) k).0, r)))
+      resolved (steps.Resolve t m) b nf r = false_from_ne_true _ (λ k. both_ways _ (subst (λ (j : ℕ). is_found (apply graph s (steps.Resolve t m)) j ≡ false) (sym r) (resolved-found graph s h t m b)) (and_parts (heads (apply graph s (steps.Resolve t m)) u n) (is_found (apply graph s (steps.Resolve t m)) n) k).1)
+          ∙ sym (false_from_ne_true _ (λ k. nf (heads-same s t u n (subst (λ (j : ℕ). heads s t j ≡ true) (sym r) (at_front-heads graph s t m (can_work-at_front graph s t m (resolve-can_work graph s t m b)))) (and_parts (heads s u n) (is_found s n) k).0, r)))
       resolved (steps.Frame t m) b nf r = absurd r
       resolved (steps.Start t) b nf r = absurd r
       resolved (steps.Skip t m) b nf r = absurd r
@@ -210,7 +212,7 @@ module _ (graph : Graph) (g : IsGraph graph) (s : Core) (step : Step) (h : IsLaw
 
 -- where the call finishes
 frame-not_due : (graph : Graph) (s : Core) → IsLawful graph s → (t n : ℕ) → heads s t n ≡ true → was_due graph s t n ≡ false
-frame-not_due graph s h t n k = not_true _ (λ x. is_not_true _ (not_both (entries s n) t (opens-frame graph s h t n (heads-opens graph s h t n k))) (and_left _ _ x))
+frame-not_due graph s h t n k = false_from_ne_true _ (λ x. both_ways _ (not_both (entries s n) t (opens-frame graph s h t n (heads-opens graph s h t n k))) (and_left _ _ x))
 
 source-not_touched : (graph : Graph) (s : Core) (t n : ℕ) → is_source (node_at graph n) ≡ true → touched graph s t n ≡ false
 source-not_touched graph s t n e = ap (λ (b : Bool). not b && list_any (changes s t) (deps graph s t n)) e
@@ -232,14 +234,14 @@ resolve-sources graph s h t n a = go (is_source (node_at graph n)) refl
     hd = at_front-heads graph s t n (can_work-at_front graph s t n (resolve-can_work graph s t n a))
 
     go : (b : Bool) → is_source (node_at graph n) ≡ b → is_found s n ≡ touched graph s t n
-    go true e = not_true (is_found s n) (λ f. is_not_true _ (source-not_touched graph s t n e) (found-touched graph s h t n hd f)) ∙ sym (source-not_touched graph s t n e)
+    go true e = false_from_ne_true (is_found s n) (λ f. both_ways _ (source-not_touched graph s t n e) (found-touched graph s h t n hd f)) ∙ sym (source-not_touched graph s t n e)
     go false e = and_left _ _ (and_left _ _ (and_left _ _ (and_left _ _ (resolve-worked graph s t n a e)))) ∙ sym (resolve-due graph s t n a e)
 
 skip-found : (graph : Graph) (s : Core) → IsLawful graph s → (t n : ℕ) → allowed graph s (steps.Skip t n) ≡ true → is_found s n ≡ touched graph s t n
 skip-found graph s h t n a =
     let hd = at_front-heads graph s t n (can_work-at_front graph s t n (skip-can_work graph s t n a)) in
-    let e : touched graph s t n ≡ false = not_is _ (and_right _ _ (and_left _ _ a)) in
-    not_true (is_found s n) (λ f. is_not_true _ e (found-touched graph s h t n hd f)) ∙ sym e
+    let e : touched graph s t n ≡ false = not-true _ (and_right _ _ (and_left _ _ a)) in
+    false_from_ne_true (is_found s n) (λ f. both_ways _ e (found-touched graph s h t n hd f)) ∙ sym e
 
 -- What a step says of the Done by which a call finishes.
 pub step-finished : (graph : Graph) → IsGraph graph → (s : Core) (step : Step) → IsLawful graph s → allowed graph s step ≡ true → (u n : ℕ) → Finishes step u n → IsFinished graph s (apply graph s step) u n × (is_found s n ≡ touched graph s u n)
@@ -290,7 +292,7 @@ plain-counts graph g s step h a ne u l =
     same n (inr f) = ap (λ (b : Bool). b || (heads (apply graph s step) u n && is_found (apply graph s step) n)) (due-same graph g s step h a ne u l n f) ∙ ap (λ (b : Bool). was_due graph s u n || b) (found-same graph g s step h a ne u l n f)
 
 evaluate-counts : (graph : Graph) (s : Core) (t n0 : ℕ) → IsLawful graph s → allowed graph s (steps.Evaluate t n0) ≡ true → (u : ℕ) → live (apply graph s (steps.Evaluate t n0)) u ≡ true → Counts graph (apply graph s (steps.Evaluate t n0)) u
-evaluate-counts graph s t n0 h a u l = go (true_or_false (u == t)) (with_call-field (λ c. c.evaluated) (with_cell s n0 (keep_found (found_now graph s t n0))) t counted (λ c. refl) u lt)
+evaluate-counts graph s t n0 h a u l = go (cases_Bool (u == t)) (with_call-field (λ c. c.evaluated) (with_cell s n0 (keep_found (found_now graph s t n0))) t counted (λ c. refl) u lt)
   where
     front : at_front graph s t n0 ≡ true
     front = evaluate-at_front graph s t n0 a
@@ -329,14 +331,14 @@ evaluate-counts graph s t n0 h a u l = go (true_or_false (u == t)) (with_call-fi
         ∙ ap (λ (b : Bool). was_due graph s u n || (heads s u n && b)) (found_other n e)
 
     go : ((u == t) ≡ true) ⊎ ((u == t) ≡ false) → (call (apply graph s (steps.Evaluate t n0)) u).evaluated ≡ elim (u == t) as (λ _. ℕ) [ true ↦ suc (call s t).evaluated | false ↦ (call s u).evaluated ] → Counts graph (apply graph s (steps.Evaluate t n0)) u
-    go (inr e) w = rw e at w ∙ h.dones_are_right.evaluated u ls ∙ ap length (filter-same (has_evaluated graph s u) (has_evaluated graph (apply graph s (steps.Evaluate t n0)) u) (numbers graph) (λ n k. sym (same n (true_or_false (n == n0)))))
+    go (inr e) w = rw e at w ∙ h.dones_are_right.evaluated u ls ∙ ap length (filter-same (has_evaluated graph s u) (has_evaluated graph (apply graph s (steps.Evaluate t n0)) u) (numbers graph) (λ n k. sym (same n (cases_Bool (n == n0)))))
       where
         away : heads s u n0 ≡ false
-        away = not_true _ (λ k. is_not_true _ e (equal_test u t (heads-same s t u n0 hd k)))
+        away = false_from_ne_true _ (λ k. both_ways _ e (eq-eqb u t (heads-same s t u n0 hd k)))
 
         same : (n : ℕ) → ((n == n0) ≡ true) ⊎ ((n == n0) ≡ false) → has_evaluated graph (apply graph s (steps.Evaluate t n0)) u n ≡ has_evaluated graph s u n
         same n (inr k) = other n k
-        same n (inl k) = subst (λ (j : ℕ). has_evaluated graph (apply graph s (steps.Evaluate t n0)) u j ≡ has_evaluated graph s u j) (sym (same_number n n0 k))
+        same n (inl k) = subst (λ (j : ℕ). has_evaluated graph (apply graph s (steps.Evaluate t n0)) u j ≡ has_evaluated graph s u j) (sym (eqb-true n n0 k))
             (ap (λ (b : Bool). b || (heads (apply graph s (steps.Evaluate t n0)) u n0 && is_found (apply graph s (steps.Evaluate t n0)) n0)) (due n0)
             ∙ ap (λ (b : Bool). was_due graph s u n0 || (b && is_found (apply graph s (steps.Evaluate t n0)) n0)) (head n0 ∙ away)
             ∙ sym (ap (λ (b : Bool). was_due graph s u n0 || (b && is_found s n0)) away))
@@ -344,7 +346,7 @@ evaluate-counts graph s t n0 h a u l = go (true_or_false (u == t)) (with_call-fi
         ∙ sym (count-one (has_evaluated graph s u) (has_evaluated graph (apply graph s (steps.Evaluate t n0)) u) 0 graph.nodes n0 (omega arith) (let j = h.lists in omega (arith, j, inside)) other none some)
       where
         it : u ≡ t
-        it = same_number u t e
+        it = eqb-true u t e
 
         hu : heads s u n0 ≡ true
         hu = subst (λ (j : ℕ). heads s j n0 ≡ true) (sym it) hd
@@ -355,7 +357,7 @@ evaluate-counts graph s t n0 h a u l = go (true_or_false (u == t)) (with_call-fi
 
         some : has_evaluated graph (apply graph s (steps.Evaluate t n0)) u n0 ≡ true
         some = or_right (was_due graph (apply graph s (steps.Evaluate t n0)) u n0) (heads (apply graph s (steps.Evaluate t n0)) u n0 && is_found (apply graph s (steps.Evaluate t n0)) n0)
-            (and_make _ _ (head n0 ∙ hu) (ap (λ (c : Cell). is_some c.found) (cell-there s n0 (keep_found (found_now graph s t n0)) inside)))
+            (and_from _ _ (head n0 ∙ hu) (ap (λ (c : Cell). is_some c.found) (cell-there s n0 (keep_found (found_now graph s t n0)) inside)))
 
 pub step-evaluated : (graph : Graph) → IsGraph graph → (s : Core) (step : Step) → IsLawful graph s → allowed graph s step ≡ true → (u : ℕ) → live (apply graph s step) u ≡ true → (call (apply graph s step) u).evaluated ≡ length (filter (has_evaluated graph (apply graph s step) u) (numbers graph))
 step-evaluated graph g s (steps.Evaluate t n) h a u l = evaluate-counts graph s t n h a u l

@@ -1,77 +1,27 @@
 -- What a node finds, and the value of it, rest on what is read at its inputs and picks alone.
-use Rattle.std.proofs.Common.{◌≡◌, ℕ, ◌<◌, Bool, true, false, ◌||◌, ◌==◌, ◌⊎◌, inl, inr, refl, sym, ap, arith, List, [], ◌∷◌, length, map, true≢false, ◌∙◌, subst, Option, Some, None, Result, Ok, Err}
+use Rattle.std.proofs.Common.{◌≡◌, ℕ, ◌<◌, Bool, true, false, ◌||◌, ◌==◌, ◌⊎◌, inl, inr, refl, sym, ap, List, [], ◌∷◌, length, map, true≢false, ◌∙◌, subst, Option, Some, None, Result, Ok, Err}
 use Rattle.std.specs.Prelude.{if◌then◌else◌}
 use Rattle.std.specs.List.{AllByRecursion}
-use Rattle.std.proofs.lemmas.Bool.Decides.{Decides-int_eq}
+use Rattle.std.proofs.lemmas.Bool.{or_cases, or_left, or_right, eqb-true, eq-eqb}
 use Rattle.std.proofs.lemmas.List.Folds.{list_any-append}
 use Rattle.script_tree.specs.declared.value.Fault.{Fault}
-use Rattle.script_tree.specs.declared.value.Fault.TheVariants.{Overflow, ZeroDivisor, Kind, NoChoice}
+use Rattle.script_tree.specs.declared.value.Fault.TheVariants.{Kind}
 use Rattle.script_tree.specs.declared.value.Value.{Value}
-use Rattle.script_tree.specs.declared.value.Value.TheVariants.{Int, Bool as Truth, Fault as Faulty}
+use Rattle.script_tree.specs.declared.value.Value.TheVariants.{Fault as Faulty}
 use Rattle.script_tree.specs.Scripts.{Scripted}
-use Rattle.script_tree.specs.Eval.{eval_script, eval_body, same_truth}
+use Rattle.script_tree.specs.Eval.{eval_script, eval_body}
 use Rattle.signal_graph.specs.declared.node.Selector.{Selector}
 use Rattle.signal_graph.specs.declared.node.Node.{Node}
 use Rattle.signal_graph.specs.declared.node.Node.TheVariants.{Source, Signal, Fold, Choose}
 use Rattle.signal_graph.specs.Graph.{Graph, IsGraph, node_at, is_in, inputs_of, inputs_of_all, different_from, IsNode}
 use Rattle.signal_graph.specs.Values.{select, taken, nodes_in}
-use Rattle.signal_graph.specs.Machine.{same, same_fault}
+use Rattle.signal_graph.specs.Machine.{same}
+use Rattle.signal_graph.proofs.SameValues.{same-is, same-self}
+use Rattle.signal_graph.proofs.GraphNodes.{is_node_at}
 use Rattle.flow_model.specs.Machine.State.{Found, Gives, Selects}
 use Rattle.flow_model.specs.Machine.Words.{finds, run_over, pick_over, body_over, value_over, picks_of_found}
-use Rattle.flow_model.proofs.General.Truths.{or_cases, or_left, or_right, same_number, equal_test}
-use Rattle.flow_model.proofs.Opening.OpeningLists.{nodes-at}
 
 -- ---- equal values
-
-same_fault-is : (f g : Fault) → same_fault f g ≡ true → f ≡ g
-same_fault-is Overflow Overflow h = refl
-same_fault-is Overflow ZeroDivisor h = absurd (true≢false (sym h))
-same_fault-is Overflow Kind h = absurd (true≢false (sym h))
-same_fault-is Overflow NoChoice h = absurd (true≢false (sym h))
-same_fault-is ZeroDivisor Overflow h = absurd (true≢false (sym h))
-same_fault-is ZeroDivisor ZeroDivisor h = refl
-same_fault-is ZeroDivisor Kind h = absurd (true≢false (sym h))
-same_fault-is ZeroDivisor NoChoice h = absurd (true≢false (sym h))
-same_fault-is Kind Overflow h = absurd (true≢false (sym h))
-same_fault-is Kind ZeroDivisor h = absurd (true≢false (sym h))
-same_fault-is Kind Kind h = refl
-same_fault-is Kind NoChoice h = absurd (true≢false (sym h))
-same_fault-is NoChoice Overflow h = absurd (true≢false (sym h))
-same_fault-is NoChoice ZeroDivisor h = absurd (true≢false (sym h))
-same_fault-is NoChoice Kind h = absurd (true≢false (sym h))
-same_fault-is NoChoice NoChoice h = refl
-
-same_fault-self : (f : Fault) → same_fault f f ≡ true
-same_fault-self Overflow = refl
-same_fault-self ZeroDivisor = refl
-same_fault-self Kind = refl
-same_fault-self NoChoice = refl
-
-same_truth-is : (a b : Bool) → same_truth a b ≡ true → a ≡ b
-same_truth-is true b h = sym h
-same_truth-is false true h = absurd (true≢false (sym h))
-same_truth-is false false h = refl
-
-same_truth-self : (a : Bool) → same_truth a a ≡ true
-same_truth-self true = refl
-same_truth-self false = refl
-
--- Values that are the same are equal.
-pub same-is : (u v : Value) → same u v ≡ true → u ≡ v
-same-is (Int x) (Int y) h = ap Int ((Decides-int_eq x y).0 h)
-same-is (Int x) (Truth b) h = absurd (true≢false (sym h))
-same-is (Int x) (Faulty f) h = absurd (true≢false (sym h))
-same-is (Truth a) (Int y) h = absurd (true≢false (sym h))
-same-is (Truth a) (Truth b) h = ap Truth (same_truth-is a b h)
-same-is (Truth a) (Faulty f) h = absurd (true≢false (sym h))
-same-is (Faulty f) (Int y) h = absurd (true≢false (sym h))
-same-is (Faulty f) (Truth b) h = absurd (true≢false (sym h))
-same-is (Faulty f) (Faulty g) h = ap Faulty (same_fault-is f g h)
-
-pub same-self : (v : Value) → same v v ≡ true
-same-self (Int x) = (Decides-int_eq x x).1 refl
-same-self (Truth b) = same_truth-self b
-same-self (Faulty f) = same_fault-self f
 
 pub same-equal : (u v : Value) → u ≡ v → same u v ≡ true
 same-equal u v e = subst (λ (w : Value). same u w ≡ true) e (same-self u)
@@ -96,7 +46,7 @@ AgreeOn ns read other = (m : ℕ) → is_in m ns ≡ true → read m ≡ other m
 
 read-same : (ns : List ℕ) (read other : ℕ → Value) → AgreeOn ns read other → map read ns ≡ map other ns
 read-same [] read other e = refl
-read-same (n ∷ ns) read other e = ap (λ (v : Value). v ∷ map read ns) (e n (or_left _ _ (equal_test n n refl))) ∙ ap (λ (vs : List Value). other n ∷ vs) (read-same ns read other (λ m k. e m (or_right _ _ k)))
+read-same (n ∷ ns) read other e = ap (λ (v : Value). v ∷ map read ns) (e n (or_left _ _ (eq-eqb n n refl))) ∙ ap (λ (vs : List Value). other n ∷ vs) (read-same ns read other (λ m k. e m (or_right _ _ k)))
 
 kept-different : (m : ℕ) (seen ns : List ℕ) → is_in m ns ≡ true → (is_in m seen || is_in m (different_from seen ns)) ≡ true
 kept-different m seen [] h = absurd (true≢false (sym h))
@@ -104,7 +54,7 @@ kept-different m seen (n ∷ ns) h = go (is_in n seen) refl (or_cases _ _ h) (ke
   where
     go : (b : Bool) → is_in n seen ≡ b → ((n == m) ≡ true) ⊎ (is_in m ns ≡ true) → (is_in m ns ≡ true → (is_in m seen || is_in m (different_from seen ns)) ≡ true) → (is_in m ns ≡ true → (is_in m (n ∷ seen) || is_in m (different_from (n ∷ seen) ns)) ≡ true)
         → (is_in m seen || is_in m (if b then different_from seen ns else n ∷ different_from (n ∷ seen) ns)) ≡ true
-    go true e (inl k) f g = or_left _ _ (subst (λ (j : ℕ). is_in j seen ≡ true) (same_number n m k) e)
+    go true e (inl k) f g = or_left _ _ (subst (λ (j : ℕ). is_in j seen ≡ true) (eqb-true n m k) e)
     go true e (inr k) f g = f k
     go false e (inl k) f g = or_right (is_in m seen) (is_in m (n ∷ different_from (n ∷ seen) ns)) (or_left _ _ k)
     go false e (inr k) f g = turned (is_in m seen) (n == m) (is_in m (different_from (n ∷ seen) ns)) (g k)
@@ -139,16 +89,13 @@ node_finds-same names n (Signal script inputs) read other acc h e = ap (λ (vs :
 node_finds-same names n (Fold v script inputs) read other acc h e = ap (λ (vs : List Value). Gives (eval_script script.tree vs acc)) (read-same inputs read other e)
 node_finds-same names n (Choose selectors body inputs) read other acc h e = ap Selects (selections-same inputs selectors read other (selectors-inputs inputs selectors (λ m k. subst (λ (xs : List ℕ). is_in m xs ≡ true) (sym h.4) (kept-different m [] (inputs_of_all selectors) k))) e)
 
-is_node : (graph : Graph) → IsGraph graph → (n : ℕ) → n < length graph.nodes → IsNode graph.names n (node_at graph n)
-is_node graph g n h = subst (λ (j : ℕ). IsNode graph.names j (node_at graph n)) (omega arith) (nodes-at graph.names 0 graph.nodes n _ g.nodes h)
-
 pub finds-same : (graph : Graph) → IsGraph graph → (n : ℕ) → n < length graph.nodes → (read other : ℕ → Value) (acc : Value) → AgreeOn (inputs_of (node_at graph n)) read other → finds (node_at graph n) read acc ≡ finds (node_at graph n) other acc
-finds-same graph g n h read other acc e = node_finds-same graph.names n (node_at graph n) read other acc (is_node graph g n h) e
+finds-same graph g n h read other acc e = node_finds-same graph.names n (node_at graph n) read other acc (is_node_at graph g n h) e
 
 -- ---- the value of what is found
 
 pick-same : (read other : ℕ → Value) (r : Result ℕ Fault) → AgreeOn (nodes_in (taken r ∷ [])) read other → pick_over read r ≡ pick_over other r
-pick-same read other (Ok c) e = e c (or_left _ _ (equal_test c c refl))
+pick-same read other (Ok c) e = e c (or_left _ _ (eq-eqb c c refl))
 pick-same read other (Err f) e = refl
 
 head-picks : (r : Result ℕ Fault) (rest : List (Result ℕ Fault)) (m : ℕ) → is_in m (nodes_in (taken r ∷ [])) ≡ true → is_in m (nodes_in (map taken (r ∷ rest))) ≡ true

@@ -1,5 +1,6 @@
 -- A Done that Skip or Resolve makes is right: it has the value and picks before it, or what the scripts give over what is read.
 use Rattle.std.proofs.Common.{◌≡◌, ℕ, ◌<◌, Bool, true, false, ◌&&◌, ◌||◌, not, ◌==◌, refl, sym, ap, arith, List, [], ◌∷◌, ◌++◌, length, true≢false, ◌∙◌, subst, Option, Some, None}
+use Rattle.std.proofs.lemmas.Bool.{or_left, and_from, eqb-true, eq-eqb, false_from_ne_true, both_ways, not-true}
 use Rattle.std.specs.Prelude.{is_some, is_none}
 use Rattle.std.specs.List.{list_any}
 use Rattle.std.specs.Option.{option_or}
@@ -7,11 +8,13 @@ use Rattle.script_tree.specs.declared.value.Fault.TheVariants.{NoChoice}
 use Rattle.script_tree.specs.declared.value.Value.{Value}
 use Rattle.script_tree.specs.declared.value.Value.TheVariants.{Fault as Faulty}
 use Rattle.script_tree.specs.Scripts.{Scripted}
+use Rattle.script_tree.proofs.Truths.{and_left, and_right}
 use Rattle.signal_graph.specs.declared.node.Node.{Node}
 use Rattle.signal_graph.specs.declared.node.Node.TheVariants.{Source, Signal, Fold, Choose}
 use Rattle.signal_graph.specs.Graph.{Graph, IsGraph, is_in, node_at, inputs_of, is_source, body_of}
 use Rattle.signal_graph.specs.Values.{nodes_in}
 use Rattle.signal_graph.specs.Machine.{same}
+use Rattle.signal_graph.proofs.SameValues.{same-self}
 use Rattle.node_versions.specs.declared.entry.State.{State}
 use Rattle.node_versions.specs.declared.entry.State.TheVariants.{Done}
 use Rattle.node_versions.specs.declared.entry.Entry.{Entry}
@@ -26,8 +29,7 @@ use Rattle.flow_model.specs.Machine.Changes.{set_state, closed, finish, cleared}
 use Rattle.flow_model.specs.Machine.Steps.{allowed, apply, is_change, is_worked_out, has_body_value}
 use Rattle.flow_model.specs.Kept.Runs.{by_node}
 use Rattle.flow_model.specs.Kept.Lawful.{IsLawful, IsDoneRight, value_for, found_for}
-use Rattle.flow_model.proofs.General.Truths.{or_left, and_make, same_number, equal_test, not_true, is_not_true}
-use Rattle.flow_model.proofs.OneStep.WhoMayStep.{and_left, and_right, not_is, opens-live, executes-live, at_front-executes, at_front-heads, can_work-at_front, skip-can_work, resolve-can_work}
+use Rattle.flow_model.proofs.OneStep.WhoMayStep.{opens-live, executes-live, at_front-executes, at_front-heads, can_work-at_front, skip-can_work, resolve-can_work}
 use Rattle.flow_model.proofs.General.Sets.{in-put}
 use Rattle.flow_model.proofs.OneList.StatesAndPlaces.{with_state-at}
 use Rattle.flow_model.proofs.OneList.CallsAndCells.{with_call-keeps, with_call-field, with_call-live}
@@ -36,7 +38,7 @@ use Rattle.flow_model.proofs.OrderStays.OpenNodesHaveFrames.{entry-there, cell-t
 use Rattle.flow_model.proofs.Reactions.RunsThatHaveEnded.{not_both}
 use Rattle.flow_model.proofs.Wants.FramedWith.{opens-frame, heads-opens}
 use Rattle.flow_model.proofs.Values.NothingComesBefore.{head-unblocked}
-use Rattle.flow_model.proofs.Values.FoundByReads.{finds-same, value-same, same-self}
+use Rattle.flow_model.proofs.Values.FoundByReads.{finds-same, value-same}
 use Rattle.flow_model.proofs.General.AnyAndAll.{any-alike, any-none, all-in, any-false}
 use Rattle.flow_model.proofs.Ended.WhoEndsIsFirst.{changed-done}
 use Rattle.flow_model.proofs.Values.ReadsStay.{head-stays, settled-value}
@@ -94,13 +96,13 @@ module _ (graph : Graph) (s : Core) (step : Step) (h : IsLawful graph s) (a : al
   before-old = head-stays graph s step h a t n hd
 
   pub changed-new : at changed_of (entries (apply graph s step) n) t ≡ c
-  changed-new = ap (λ (es : List Entry). at changed_of es t) lists ∙ (let w = with_state-at changed_of t (Done v c ps) (entries s n) t in let e = equal_test t t refl in shown (has (entries s n) t) (at changed_of (entries s n) t) (rw e at w) there)
+  changed-new = ap (λ (es : List Entry). at changed_of es t) lists ∙ (let w = with_state-at changed_of t (Done v c ps) (entries s n) t in let e = eq-eqb t t refl in shown (has (entries s n) t) (at changed_of (entries s n) t) (rw e at w) there)
     where
       shown : (x y : Bool) → at changed_of (with_state t (Done v c ps) (entries s n)) t ≡ (x && c) → x ≡ true → at changed_of (with_state t (Done v c ps) (entries s n)) t ≡ c
       shown x y w e = w ∙ ap (λ (b : Bool). b && c) e
 
   pub done-new : at is_done (entries (apply graph s step) n) t ≡ true
-  done-new = ap (λ (es : List Entry). at is_done es t) lists ∙ (let w = with_state-at is_done t (Done v c ps) (entries s n) t in let e = equal_test t t refl in shown (has (entries s n) t) (at is_done (entries s n) t) (rw e at w) there)
+  done-new = ap (λ (es : List Entry). at is_done es t) lists ∙ (let w = with_state-at is_done t (Done v c ps) (entries s n) t in let e = eq-eqb t t refl in shown (has (entries s n) t) (at is_done (entries s n) t) (rw e at w) there)
     where
       shown : (x y : Bool) → at is_done (with_state t (Done v c ps) (entries s n)) t ≡ (x && true) → x ≡ true → at is_done (with_state t (Done v c ps) (entries s n)) t ≡ true
       shown x y w e = w ∙ ap (λ (b : Bool). b && true) e
@@ -110,7 +112,7 @@ module _ (graph : Graph) (s : Core) (step : Step) (h : IsLawful graph s) (a : al
 
   -- it has finished at what the node rests on
   dep-closed : (m : ℕ) → is_in m (deps graph s t n) ≡ true → opens s t m ≡ false
-  dep-closed m k = any-none (opens s t) (deps graph s t n) m (not_is _ (and_right _ _ (can_work-at_front graph s t n f))) k
+  dep-closed m k = any-none (opens s t) (deps graph s t n) m (not-true _ (and_right _ _ (can_work-at_front graph s t n f))) k
 
   pub no_open-new : list_any (λ m. opens (apply graph s step) t m || wants (apply graph s step) t m) (deps graph (apply graph s step) t n) ≡ false
   no_open-new = any-false (λ m. opens (apply graph s step) t m || wants (apply graph s step) t m) (deps graph (apply graph s step) t n) (λ m k. neither m (subst (λ (ms : List ℕ). is_in m ms ≡ true) deps-old k))
@@ -120,7 +122,7 @@ module _ (graph : Graph) (s : Core) (step : Step) (h : IsLawful graph s) (a : al
       empty (x ∷ xs) m e = absurd (true≢false (sym e))
 
       neither : (m : ℕ) → is_in m (deps graph s t n) ≡ true → (opens (apply graph s step) t m || wants (apply graph s step) t m) ≡ false
-      neither m k = ap (λ (b : Bool). b || wants (apply graph s step) t m) (not_true (opens (apply graph s step) t m) (λ o. is_not_true _ (dep-closed m k) (opens_less m o)))
+      neither m k = ap (λ (b : Bool). b || wants (apply graph s step) t m) (false_from_ne_true (opens (apply graph s step) t m) (λ o. both_ways _ (dep-closed m k) (opens_less m o)))
           ∙ wants_same m ∙ empty (call s t).wanted m (and_left _ _ f)
 
   -- whether it was due is as before
@@ -129,7 +131,7 @@ module _ (graph : Graph) (s : Core) (step : Step) (h : IsLawful graph s) (a : al
       (ap (list_any (changes (apply graph s step) t)) deps-old ∙ any-alike (changes (apply graph s step) t) (changes s t) (deps graph s t n) (λ m k. others m (apart m k)))
     where
       apart : (m : ℕ) → is_in m (deps graph s t n) ≡ true → (m == n) ≡ false
-      apart m k = not_true (m == n) (λ e. is_not_true _ (dep-closed m k) (subst (λ (j : ℕ). opens s t j ≡ true) (sym (same_number m n e)) (heads-opens graph s h t n hd)))
+      apart m k = false_from_ne_true (m == n) (λ e. both_ways _ (dep-closed m k) (subst (λ (j : ℕ). opens s t j ≡ true) (sym (eqb-true m n e)) (heads-opens graph s h t n hd)))
 
 -- ---- Skip
 
@@ -143,19 +145,19 @@ head-none : (graph : Graph) (s : Core) → IsLawful graph s → (t n : ℕ) → 
 head-none graph s h t n k =
     let o = heads-opens graph s h t n k in
     let fr = opens-frame graph s h t n o in
-    h.dones_are_right.changed t n (opens-live s t n o) ∙ not_true _ (λ c. is_not_true _ (not_both (entries s n) t fr) (changed-done (entries s n) t c))
+    h.dones_are_right.changed t n (opens-live s t n o) ∙ false_from_ne_true _ (λ c. both_ways _ (not_both (entries s n) t fr) (changed-done (entries s n) t c))
 
 pub skip-finished : (graph : Graph) (s : Core) (t n : ℕ) → IsLawful graph s → allowed graph s (steps.Skip t n) ≡ true → IsFinished graph s (apply graph s (steps.Skip t n)) t n
 skip-finished graph s t n h a = record {
   done = done-new graph s (steps.Skip t n) h a t n v false ps f lists less wants_kept others;
   due = due;
-  source = λ e. absurd (is_not_true _ (not_is _ (and_right _ _ (and_left _ _ (and_left _ _ a)))) e);
+  source = λ e. absurd (both_ways _ (not-true _ (and_right _ _ (and_left _ _ (and_left _ _ a)))) e);
   other = λ e. record {
     no_open = no_open-new graph s (steps.Skip t n) h a t n v false ps f lists less (λ m. wants_kept m) others;
     kept_value = λ k. ap value_of new ∙ ap value_of (sym old);
     kept_picks = λ k. ap picks_of new ∙ ap picks_of (sym old);
-    new_value = λ k. absurd (is_not_true _ (due ∙ skip-untouched graph s t n a) k);
-    new_picks = λ k. absurd (is_not_true _ (due ∙ skip-untouched graph s t n a) k);
+    new_value = λ k. absurd (both_ways _ (due ∙ skip-untouched graph s t n a) k);
+    new_picks = λ k. absurd (both_ways _ (due ∙ skip-untouched graph s t n a) k);
   };
   flag = ap changed_of new ∙ sym (ap not (ap (λ (x : State). same (value_of x) (value_before (entries (apply graph s (steps.Skip t n)) n) t)) new ∙ ap (λ (x : State). same v (value_of x)) old ∙ same-self v));
   changed = with_call-keeps (λ x. is_in n x.changed) (with_cell s n (set_state t (Done v false ps))) t (closed n false) (λ x. refl) (λ x. refl) t ∙ head-none graph s h t n head ∙ sym (changed-new graph s (steps.Skip t n) h a t n v false ps f lists less wants_kept others);
@@ -228,7 +230,7 @@ module _ (graph : Graph) (g : IsGraph graph) (s : Core) (step : Step) (h : IsLaw
     where
       go : (o : Option Value) → gathered_of m (cell s n).gathered ≡ o → is_some o ≡ true → value_or (gathered_of m (cell s n).gathered) ≡ value_for (apply graph s step) t m
       go None x y = absurd (true≢false (sym y))
-      go (Some v) x y = ap value_or x ∙ h.values_are_read.gathered t n m v k x ∙ sym (settled-value graph s step h a t m lives (by_node n (or_left _ _ (or_left _ _ (and_make _ _ k e)))))
+      go (Some v) x y = ap value_or x ∙ h.values_are_read.gathered t n m v k x ∙ sym (settled-value graph s step h a t m lives (by_node n (or_left _ _ (or_left _ _ (and_from _ _ k e)))))
 
   pub found-read : fd ≡ found_for graph (apply graph s step) t n
   found-read = h.values_are_read.found t n fd k is
@@ -269,8 +271,8 @@ resolve-finished graph g s t n h a = record {
   source = λ e. ap value_of new ∙ ap (λ (b : Bool). elim b as (λ _. Value) [ true ↦ set_value n (Faulty NoChoice) (call s t).sets | false ↦ value_by s n (body_of (node_at graph n)) ]) e ∙ ap (set_value n (Faulty NoChoice)) (sym sets);
   other = λ e. record {
     no_open = no_open-new graph s (steps.Resolve t n) h a t n (value_now graph s t n) (is_change graph s t n) (found_picks s n) f lists less wants_kept others;
-    kept_value = λ k. absurd (is_not_true _ (sym due ∙ k) (touched_it e));
-    kept_picks = λ k. absurd (is_not_true _ (sym due ∙ k) (touched_it e));
+    kept_value = λ k. absurd (both_ways _ (sym due ∙ k) (touched_it e));
+    kept_picks = λ k. absurd (both_ways _ (sym due ∙ k) (touched_it e));
     new_value = λ k. ap value_of new ∙ ap (λ (b : Bool). elim b as (λ _. Value) [ true ↦ set_value n (Faulty NoChoice) (call s t).sets | false ↦ value_by s n (body_of (node_at graph n)) ]) e
         ∙ value-read graph g s (steps.Resolve t n) h a t n head (worked e) (found e).0 (found e).1 old;
     new_picks = λ k. ap picks_of new ∙ ap picks_of_found (found e).1 ∙ ap (λ (x : Found). picks_of_found (Some x)) (found-read graph g s (steps.Resolve t n) h a t n head (worked e) (found e).0 (found e).1 old);
@@ -306,7 +308,7 @@ resolve-finished graph g s t n h a = record {
     still = ap (λ (l : ℕ → Bool). l t) (with_call-live (with_cell s n (set_state t (Done (value_now graph s t n) (is_change graph s t n) (found_picks s n)))) t (closed n (is_change graph s t n)) (λ x. refl)) ∙ live_it
 
     others : (m : ℕ) → (m == n) ≡ false → changes (apply graph s (steps.Resolve t n)) t m ≡ changes s t m
-    others m e = changes-kept graph s (steps.Resolve t n) a t m still (λ x. is_not_true _ e (equal_test m n x.1))
+    others m e = changes-kept graph s (steps.Resolve t n) a t m still (λ x. both_ways _ e (eq-eqb m n x.1))
 
     new : done_at (entries (apply graph s (steps.Resolve t n)) n) t ≡ Done (value_now graph s t n) (is_change graph s t n) (found_picks s n)
     new = at-new graph s (steps.Resolve t n) h a t n (value_now graph s t n) (is_change graph s t n) (found_picks s n) f lists less wants_kept others
@@ -334,8 +336,8 @@ resolve-finished graph g s t n h a = record {
       | true ↦ is_in n (elim b as (λ _. List ℕ) [ true ↦ put n (call s t).changed | false ↦ (call s t).changed ])
       | false ↦ is_in n (call s t).changed
     ] → changes (apply graph s (steps.Resolve t n)) t n ≡ b
-    shown b w = rw (equal_test t t refl) at w ∙ cases b
+    shown b w = rw (eq-eqb t t refl) at w ∙ cases b
       where
         cases : (b : Bool) → is_in n (elim b as (λ _. List ℕ) [ true ↦ put n (call s t).changed | false ↦ (call s t).changed ]) ≡ b
-        cases true = in-put n n (call s t).changed ∙ or_left _ _ (equal_test n n refl)
+        cases true = in-put n n (call s t).changed ∙ or_left _ _ (eq-eqb n n refl)
         cases false = head-none graph s h t n head

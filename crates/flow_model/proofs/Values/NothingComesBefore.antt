@@ -4,21 +4,22 @@ use Rattle.std.specs.Prelude.{filter, if◌then◌else◌}
 use Rattle.std.specs.List.{cons_option}
 use Rattle.std.specs.Option.{option_or}
 use Rattle.std.proofs.lemmas.Bool.Decides.{eqb_tells}
+use Rattle.std.proofs.lemmas.Bool.{or_cases, or_left, or_right, eqb-true, eq-eqb, false_from_ne_true, both_ways}
 use Rattle.signal_graph.specs.Graph.{Graph}
 use Rattle.node_versions.specs.declared.entry.State.{State}
 use Rattle.node_versions.specs.declared.entry.State.TheVariants.{Mark, Frame, Done}
 use Rattle.node_versions.specs.declared.entry.Entry.{Entry}
 use Rattle.node_versions.specs.Entries.{has, at, behind, before, up_to, is_frame, is_mark, is_done, front, rest, with_state, last_done, only_done, collected}
+use Rattle.node_versions.proofs.Collecting.{last_is_done}
+use Rattle.node_versions.proofs.Places.{at-has}
 use Rattle.flow_model.specs.Machine.State.{Core, live, entries}
 use Rattle.flow_model.specs.Machine.Words.{heads}
 use Rattle.flow_model.specs.Machine.Changes.{stops, stops_call, new_entry}
 use Rattle.flow_model.specs.Kept.Runs.{IsSettled}
 use Rattle.flow_model.specs.Kept.Lawful.{IsLawful}
-use Rattle.flow_model.proofs.General.Truths.{or_cases, or_left, or_right, same_number, equal_test, not_true, is_not_true}
 use Rattle.flow_model.proofs.OneStep.WhoMayStep.{at_front-heads}
 use Rattle.flow_model.proofs.OneList.InOrder.{on_calls, front-rest, filter-has, last_done-has, Ascends, Each}
-use Rattle.flow_model.proofs.OneList.OneEntryACall.{last_done-done}
-use Rattle.flow_model.proofs.OneList.StatesAndPlaces.{at-has, first_open-none, first_open-frame}
+use Rattle.flow_model.proofs.OneList.StatesAndPlaces.{first_open-none, first_open-frame}
 use Rattle.flow_model.proofs.OrderStays.NoFrameBeforeDones.{head-first}
 use Rattle.flow_model.proofs.Reactions.WhereRunsBegin.{or-or, or-none}
 use Rattle.flow_model.proofs.Reactions.RunsThatHaveEnded.{not_both}
@@ -41,11 +42,11 @@ head-unblocked graph s h u n k = record {
 pub done-unblocked : (graph : Graph) (s : Core) → IsLawful graph s → (u n : ℕ) → at is_done (entries s n) u ≡ true → IsUnblocked (entries s n) u
 done-unblocked graph s h u n d = record {
   entry = at-has is_done (entries s n) u d;
-  none_before = λ v b. not_true _ (λ f. is_not_true _ (h.frames_are_open.behind_dones n v u b f) d);
+  none_before = λ v b. false_from_ne_true _ (λ f. both_ways _ (h.frames_are_open.behind_dones n v u b f) d);
 }
 
 pub done-no_frame : (es : List Entry) (u : ℕ) → at is_done es u ≡ true → at is_frame es u ≡ false
-done-no_frame es u d = not_true _ (λ f. is_not_true _ (not_both es u f) d)
+done-no_frame es u d = false_from_ne_true _ (λ f. both_ways _ (not_both es u f) d)
 
 pub settled-unblocked : (graph : Graph) (s : Core) → IsLawful graph s → (u m : ℕ) → live s u ≡ true → IsSettled graph s u m → IsUnblocked (entries s m) u
 settled-unblocked graph s h u m l k = record {
@@ -142,14 +143,14 @@ filter-up_to p (e ∷ es) u k = let r = filter-up_to p es u k in grind (arith, e
 
 pub none-filter : (p : ℕ → Bool) (es : List Entry) → Each (λ v. p v ≡ false) es → filter (on_calls p) es ≡ []
 none-filter p [] h = refl
-none-filter p (e ∷ es) h = let a = h e.version (or_left _ _ (equal_test e.version e.version refl)) in let r = none-filter p es (λ v k. h v (or_right _ _ k)) in grind (arith, a, r)
+none-filter p (e ∷ es) h = let a = h e.version (or_left _ _ (eq-eqb e.version e.version refl)) in let r = none-filter p es (λ v k. h v (or_right _ _ k)) in grind (arith, a, r)
 
 -- whoever passes stands before all that don't
 abbrev pub Firsts : (ℕ → Bool) → List Entry → Type 0
 Firsts p es = Ascends (λ u v. p v ≡ true → p u ≡ true) es
 
 none-behind : (p : ℕ → Bool) (e : Entry) (es : List Entry) → Firsts p (e ∷ es) → p e.version ≡ false → Each (λ v. p v ≡ false) es
-none-behind p e es h k v j = not_true _ (λ w. is_not_true _ k (h.0 v j w))
+none-behind p e es h k v j = false_from_ne_true _ (λ w. both_ways _ k (h.0 v j w))
 
 -- All that passes stands before a call that doesn't.
 first-before : (p : ℕ → Bool) (es : List Entry) (u : ℕ) → Firsts p es → p u ≡ false → filter (on_calls p) (before es u) ≡ filter (on_calls p) es
@@ -160,10 +161,10 @@ first-before p (e ∷ es) u h k = go (e.version == u) refl (p e.version) refl (f
     go true x c y r = sym (none-filter p (e ∷ es) (λ v j. cases v (or_cases _ _ j)))
       where
         here : p e.version ≡ false
-        here = subst (λ (w : ℕ). p w ≡ false) (sym (same_number e.version u x)) k
+        here = subst (λ (w : ℕ). p w ≡ false) (sym (eqb-true e.version u x)) k
 
         cases : (v : ℕ) → ((e.version == v) ≡ true) ⊎ (has es v ≡ true) → p v ≡ false
-        cases v (inl w) = subst (λ (z : ℕ). p z ≡ false) (same_number e.version v w) here
+        cases v (inl w) = subst (λ (z : ℕ). p z ≡ false) (eqb-true e.version v w) here
         cases v (inr w) = none-behind p e es h here v w
     go false x true y r = rw y (ap (λ (xs : List Entry). e ∷ xs) r)
     go false x false y r = rw y r
@@ -176,7 +177,7 @@ first-up_to p (e ∷ es) u h k = go (e.version == u) refl (p e.version) refl (fi
     go true x c y r = rw here (sym (none-filter p es (none-behind p e es h here)))
       where
         here : p e.version ≡ false
-        here = subst (λ (w : ℕ). p w ≡ false) (sym (same_number e.version u x)) k
+        here = subst (λ (w : ℕ). p w ≡ false) (sym (eqb-true e.version u x)) k
     go false x true y r = rw y (ap (λ (xs : List Entry). e ∷ xs) r)
     go false x false y r = rw y r
 
@@ -190,7 +191,7 @@ last-parts p (e ∷ es) h = go (p e.version) refl (last-parts p es h.1)
 
     all_left : (es : List Entry) → Each (λ v. p v ≡ false) es → filter (on_calls (λ v. not (p v))) es ≡ es
     all_left [] k = refl
-    all_left (x ∷ xs) k = let a = k x.version (or_left _ _ (equal_test x.version x.version refl)) in let r = all_left xs (λ v j. k v (or_right _ _ j)) in grind (arith, a, r)
+    all_left (x ∷ xs) k = let a = k x.version (or_left _ _ (eq-eqb x.version x.version refl)) in let r = all_left xs (λ v j. k v (or_right _ _ j)) in grind (arith, a, r)
 
     go : (b : Bool) → p e.version ≡ b → last_done es ≡ option_or (last_done rest_of) (last_done (filter (on_calls p) es))
         → option_or (last_done es) (only_done e) ≡ option_or (last_done (if not b then e ∷ rest_of else rest_of)) (last_done (if b then e ∷ filter (on_calls p) es else filter (on_calls p) es))
@@ -240,8 +241,8 @@ collected-before p es u h k = go (last_done (filter (on_calls p) es)) refl
     go None e = sym (parts ∙ ap (option_or (last_done (before others u))) e ∙ or-none (last_done (before others u)))
     go (Some x) e =
         let passes = (filter-has p es x.version (last_done-has (filter (on_calls p) es) x e)).1 in
-        let ne : (x.version == u) ≡ false = not_true _ (λ w. is_not_true _ k (subst (λ (z : ℕ). p z ≡ true) (same_number x.version u w) passes)) in
-        let d = last_done-done (filter (on_calls p) es) x e in
+        let ne : (x.version == u) ≡ false = false_from_ne_true _ (λ w. both_ways _ k (subst (λ (z : ℕ). p z ≡ true) (eqb-true x.version u w) passes)) in
+        let d = last_is_done (filter (on_calls p) es) x e in
         let only : only_done x ≡ Some x = rw (d, only_done) refl in
         rw (ne, before) (ap (option_or (last_done (before others u))) (only ∙ sym e) ∙ sym parts)
 
@@ -260,8 +261,8 @@ collected-up_to p es u h k = go (last_done (filter (on_calls p) es)) refl
     go None e = sym (parts ∙ ap (option_or (last_done (up_to others u))) e ∙ or-none (last_done (up_to others u)))
     go (Some x) e =
         let passes = (filter-has p es x.version (last_done-has (filter (on_calls p) es) x e)).1 in
-        let ne : (x.version == u) ≡ false = not_true _ (λ w. is_not_true _ k (subst (λ (z : ℕ). p z ≡ true) (same_number x.version u w) passes)) in
-        let d = last_done-done (filter (on_calls p) es) x e in
+        let ne : (x.version == u) ≡ false = false_from_ne_true _ (λ w. both_ways _ k (subst (λ (z : ℕ). p z ≡ true) (eqb-true x.version u w) passes)) in
+        let d = last_is_done (filter (on_calls p) es) x e in
         let only : only_done x ≡ Some x = rw (d, only_done) refl in
         rw (ne, up_to) (ap (option_or (last_done (up_to others u))) (only ∙ sym e) ∙ sym parts)
 
@@ -276,11 +277,11 @@ ended-Firsts graph s h n = Ascends-from (λ u v. not (live s v) ≡ true → not
 -- ---- the step
 
 other_version : (t u : ℕ) (es : List Entry) → has es t ≡ false → has es u ≡ true → (t == u) ≡ false
-other_version t u es a b = not_true _ (λ k. is_not_true _ a (subst (λ (w : ℕ). has es w ≡ true) (sym (same_number t u k)) b))
+other_version t u es a b = false_from_ne_true _ (λ k. both_ways _ a (subst (λ (w : ℕ). has es w ≡ true) (sym (eqb-true t u k)) b))
 
 -- The first open call doesn't stand before an entry with no Frame before it.
 finisher-not_before : (graph : Graph) (s : Core) → IsLawful graph s → (t n u : ℕ) → heads s t n ≡ true → IsUnblocked (entries s n) u → behind (entries s n) t u ≡ false
-finisher-not_before graph s h t n u hd k = not_true _ (λ b. is_not_true _ (k.none_before t b) (first_open-frame (entries s n) t (h.one_entry n) (head-first (entries s n) t hd)))
+finisher-not_before graph s h t n u hd k = false_from_ne_true _ (λ b. both_ways _ (k.none_before t b) (first_open-frame (entries s n) t (h.one_entry n) (head-first (entries s n) t hd)))
 
 pub kept-before : (graph : Graph) (s : Core) → IsLawful graph s → (n u : ℕ) → live s u ≡ true → IsUnblocked (entries s n) u → (es : List Entry) → ListStep graph s n es → last_done (before es u) ≡ last_done (before (entries s n) u)
 kept-before graph s h n u l k es (stays e) = ap (λ (xs : List Entry). last_done (before xs u)) e
@@ -307,6 +308,6 @@ kept-up_to graph s h n u l k nf es (raises t w m e) = ap (λ (xs : List Entry). 
 kept-up_to graph s h n u l k nf es (finishes t v c ps f e) =
     let hd = at_front-heads graph s t n f in
     let fr = first_open-frame (entries s n) t (h.one_entry n) (head-first (entries s n) t hd) in
-    let ne : (t == u) ≡ false = not_true _ (λ x. is_not_true _ nf (subst (λ (w : ℕ). at is_frame (entries s n) w ≡ true) (same_number t u x) fr)) in
+    let ne : (t == u) ≡ false = false_from_ne_true _ (λ x. both_ways _ nf (subst (λ (w : ℕ). at is_frame (entries s n) w ≡ true) (eqb-true t u x) fr)) in
     ap (λ (xs : List Entry). last_done (up_to xs u)) e ∙ ap last_done (with_state-up_to_same t (Done v c ps) (entries s n) u k.entry ne (finisher-not_before graph s h t n u hd k))
 kept-up_to graph s h n u l k nf es (collects e) = ap (λ (xs : List Entry). last_done (up_to xs u)) e ∙ collected-up_to (λ v. not (live s v)) (entries s n) u (ended-Firsts graph s h n) (ap not l)

@@ -1,7 +1,9 @@
 -- After each step what is gathered, found, evaluated as a body and looked at is what calls read.
 use Rattle.std.proofs.Common.{◌≡◌, ℕ, suc, ◌<◌, true, false, ◌&&◌, not, ◌==◌, ◌⊎◌, inl, inr, refl, sym, ap, List, [], ◌∷◌, ◌∙◌, subst, Option, Some, None}
+use Rattle.std.proofs.lemmas.Bool.{eqb-true, eq-eqb, both_ways, cases_Bool, not-true}
 use Rattle.std.specs.Prelude.{is_some, is_none, slice_get}
 use Rattle.script_tree.specs.declared.value.Value.{Value}
+use Rattle.script_tree.proofs.Truths.{and_right}
 use Rattle.signal_graph.specs.declared.call.Call.{Call}
 use Rattle.signal_graph.specs.Graph.{Graph, IsGraph, is_in, node_at, inputs_of, body_of}
 use Rattle.node_versions.specs.declared.entry.State.TheVariants.{Done}
@@ -14,8 +16,7 @@ use Rattle.flow_model.specs.Machine.Words.{heads, at_front, gathered_of, is_gath
 use Rattle.flow_model.specs.Machine.Changes.{finish, cleared, set_state}
 use Rattle.flow_model.specs.Machine.Steps.{allowed, apply, begin, new_call, gather, keep_found, keep_body, is_change, all_gathered}
 use Rattle.flow_model.specs.Kept.Lawful.{IsLawful, ValuesAreRead, value_for}
-use Rattle.flow_model.proofs.General.Truths.{same_number, equal_test, is_not_true, true_or_false}
-use Rattle.flow_model.proofs.OneStep.WhoMayStep.{and_right, not_is, at_front-heads, can_work-at_front, due-can_work, gather-due, evaluate-at_front, body-at_front, resolve-can_work}
+use Rattle.flow_model.proofs.OneStep.WhoMayStep.{at_front-heads, can_work-at_front, due-can_work, gather-due, evaluate-at_front, body-at_front, resolve-can_work}
 use Rattle.flow_model.proofs.OneStep.ChangesOfOneList.{same_cell}
 use Rattle.flow_model.proofs.OrderStays.OpenNodesHaveFrames.{cell-there, cell-other}
 use Rattle.flow_model.proofs.OneStep.SameLengths.{change_at-length}
@@ -36,23 +37,23 @@ at_one : (graph : Graph) (s : Core) (step : Step) → IsLawful graph s → allow
     → ((v : Value) → (cell (apply graph s step) n0).body ≡ Some v → v ≡ body_now graph (apply graph s step) n0)
     → LooksAreRead (apply graph s step) → ValuesAreRead graph (apply graph s step)
 at_one graph s step h a n0 others ne gathered found body looks = record {
-  gathered = λ u n m v. gathered_at u n m v (true_or_false (n == n0));
+  gathered = λ u n m v. gathered_at u n m v (cases_Bool (n == n0));
   looked = looks;
-  found = λ u n f. found_at u n f (true_or_false (n == n0));
-  body = λ n v. body_at n v (true_or_false (n == n0));
+  found = λ u n f. found_at u n f (cases_Bool (n == n0));
+  body = λ n v. body_at n v (cases_Bool (n == n0));
 }
   where
     gathered_at : (u n m : ℕ) (v : Value) → ((n == n0) ≡ true) ⊎ ((n == n0) ≡ false) → heads (apply graph s step) u n ≡ true → gathered_of m (cell (apply graph s step) n).gathered ≡ Some v → v ≡ value_for (apply graph s step) u m
     gathered_at u n m v (inr e) k j = same-gathered graph s step h a n (ne n e) (others n e) u m v k j
-    gathered_at u n m v (inl e) k j = gathered u m v (subst (λ (i : ℕ). heads (apply graph s step) u i ≡ true) (same_number n n0 e) k) (subst (λ (i : ℕ). gathered_of m (cell (apply graph s step) i).gathered ≡ Some v) (same_number n n0 e) j)
+    gathered_at u n m v (inl e) k j = gathered u m v (subst (λ (i : ℕ). heads (apply graph s step) u i ≡ true) (eqb-true n n0 e) k) (subst (λ (i : ℕ). gathered_of m (cell (apply graph s step) i).gathered ≡ Some v) (eqb-true n n0 e) j)
 
     found_at : (u n : ℕ) (f : Found) → ((n == n0) ≡ true) ⊎ ((n == n0) ≡ false) → heads (apply graph s step) u n ≡ true → (cell (apply graph s step) n).found ≡ Some f → f ≡ found_now graph (apply graph s step) u n
     found_at u n f (inr e) k j = same-found graph s step h a n (ne n e) (others n e) u f k j
-    found_at u n f (inl e) k j = subst (λ (i : ℕ). f ≡ found_now graph (apply graph s step) u i) (sym (same_number n n0 e)) (found u f (subst (λ (i : ℕ). heads (apply graph s step) u i ≡ true) (same_number n n0 e) k) (subst (λ (i : ℕ). (cell (apply graph s step) i).found ≡ Some f) (same_number n n0 e) j))
+    found_at u n f (inl e) k j = subst (λ (i : ℕ). f ≡ found_now graph (apply graph s step) u i) (sym (eqb-true n n0 e)) (found u f (subst (λ (i : ℕ). heads (apply graph s step) u i ≡ true) (eqb-true n n0 e) k) (subst (λ (i : ℕ). (cell (apply graph s step) i).found ≡ Some f) (eqb-true n n0 e) j))
 
     body_at : (n : ℕ) (v : Value) → ((n == n0) ≡ true) ⊎ ((n == n0) ≡ false) → (cell (apply graph s step) n).body ≡ Some v → v ≡ body_now graph (apply graph s step) n
     body_at n v (inr e) j = same-body graph s step h a n (ne n e) (others n e) v j
-    body_at n v (inl e) j = subst (λ (i : ℕ). v ≡ body_now graph (apply graph s step) i) (sym (same_number n n0 e)) (body v (subst (λ (i : ℕ). (cell (apply graph s step) i).body ≡ Some v) (same_number n n0 e) j))
+    body_at n v (inl e) j = subst (λ (i : ℕ). v ≡ body_now graph (apply graph s step) i) (sym (eqb-true n n0 e)) (body v (subst (λ (i : ℕ). (cell (apply graph s step) i).body ≡ Some v) (eqb-true n n0 e) j))
 
 body-found : (graph : Graph) (s : Core) → IsLawful graph s → (n : ℕ) (v : Value) → (cell s n).body ≡ Some v → is_none (cell s n).body ≡ false
 body-found graph s h n v e = ap is_none e
@@ -142,7 +143,7 @@ evaluate-read graph s t n0 h a = at_one graph s (steps.Evaluate t n0) h a n0 oth
     body : (v : Value) → (cell (apply graph s (steps.Evaluate t n0)) n0).body ≡ Some v → v ≡ body_now graph (apply graph s (steps.Evaluate t n0)) n0
     body v e =
         let before : (cell s n0).body ≡ Some v = sym (ap (λ (c : Cell). c.body) here) ∙ e in
-        absurd (is_not_true (is_found s n0) (not_is (is_found s n0) (and_right ((at_front graph s t n0 && touched graph s t n0) && all_gathered s n0 (inputs_of (node_at graph n0))) (not (is_found s n0)) a)) (h.work_is_kept.bodies n0 (body-found graph s h n0 v before)).0)
+        absurd (both_ways (is_found s n0) (not-true (is_found s n0) (and_right ((at_front graph s t n0 && touched graph s t n0) && all_gathered s n0 (inputs_of (node_at graph n0))) (not (is_found s n0)) a)) (h.work_is_kept.bodies n0 (body-found graph s h n0 v before)).0)
 
 -- ---- Body
 
@@ -176,7 +177,7 @@ body-read graph s t n0 h a = at_one graph s (steps.Body t n0) h a n0 (λ n e. ot
 -- ---- Resolve
 
 resolve-read : (graph : Graph) (s : Core) (t n0 : ℕ) → IsLawful graph s → allowed graph s (steps.Resolve t n0) ≡ true → ValuesAreRead graph (apply graph s (steps.Resolve t n0))
-resolve-read graph s t n0 h a = at_one graph s (steps.Resolve t n0) h a n0 others (λ n e k. is_not_true (n == n0) e (equal_test n n0 k)) gathered found body (plain-looked graph s (steps.Resolve t n0) h a (λ k. k))
+resolve-read graph s t n0 h a = at_one graph s (steps.Resolve t n0) h a n0 others (λ n e k. both_ways (n == n0) e (eq-eqb n n0 k)) gathered found body (plain-looked graph s (steps.Resolve t n0) h a (λ k. k))
   where
     hd : heads s t n0 ≡ true
     hd = at_front-heads graph s t n0 (can_work-at_front graph s t n0 (resolve-can_work graph s t n0 a))

@@ -1,5 +1,6 @@
 -- After each step what is looked at is what calls read, and so is what is kept at nodes, where the step does not work there.
 use Rattle.std.proofs.Common.{◌≡◌, ℕ, zero, suc, true, false, ◌==◌, ◌⊎◌, inl, inr, refl, sym, ap, List, [], ◌∷◌, ◌++◌, length, ◌∙◌, subst, Option, Some}
+use Rattle.std.proofs.lemmas.Bool.{eqb-true, eqb-false, cases_Bool}
 use Rattle.std.specs.Prelude.{slice_get}
 use Rattle.script_tree.specs.declared.value.Value.{Value}
 use Rattle.signal_graph.specs.Graph.{Graph, node_at, body_of}
@@ -10,7 +11,6 @@ use Rattle.flow_model.specs.Machine.State.{Core, LiveCall, Cell, Found, call, ca
 use Rattle.flow_model.specs.Machine.Words.{heads, gathered_of, value_gathered, value_or, finds, found_now, body_now, body_over, selections_of, next_look}
 use Rattle.flow_model.specs.Machine.Steps.{allowed, apply, with_look, look_value}
 use Rattle.flow_model.specs.Kept.Lawful.{IsLawful, ValuesAreRead, value_for}
-use Rattle.flow_model.proofs.General.Truths.{same_number, other_number, true_or_false}
 use Rattle.flow_model.proofs.OneStep.WhoLivesAndFrames.{step-phases}
 use Rattle.flow_model.proofs.OneStep.SameCallers.{phase-live}
 use Rattle.flow_model.proofs.OneList.CallsAndCells.{with_call-field, change_call-other}
@@ -45,7 +45,7 @@ get-last (y ∷ ys) x (suc k) v h = go (get-last ys x k v h)
     go (inr e) = inr (ap suc e.0, e.1)
 
 pub look-looked : (graph : Graph) (s : Core) (t : ℕ) → IsLawful graph s → allowed graph s (steps.Look t) ≡ true → LooksAreRead (apply graph s (steps.Look t))
-look-looked graph s t h a u k m v l e f = go (true_or_false (u == t))
+look-looked graph s t h a u k m v l e f = go (cases_Bool (u == t))
   where
     q : Core
     q = apply graph s (steps.Look t)
@@ -66,11 +66,11 @@ look-looked graph s t h a u k m v l e f = go (true_or_false (u == t))
     go (inr n) = old (sym (ap (λ (xs : List Value). slice_get xs k) (other n)) ∙ f)
       where
         other : (u == t) ≡ false → (call (apply graph s (steps.Look t)) u).looked ≡ (call s u).looked
-        other n = ap (λ (o : Option LiveCall). (call_or o).looked) (change_call-other t u (with_look x) (λ c. refl) s.calls (other_number u t n))
+        other n = ap (λ (o : Option LiveCall). (call_or o).looked) (change_call-other t u (with_look x) (λ c. refl) s.calls (eqb-false u t n))
     go (inl n) = two (get-last (call s t).looked x k v (sym (ap (λ (xs : List Value). slice_get xs k) mine) ∙ f))
       where
         it : u ≡ t
-        it = same_number u t n
+        it = eqb-true u t n
 
         mine : (call (apply graph s (steps.Look t)) u).looked ≡ (call s t).looked ++ x ∷ []
         mine = with_call-field (λ c. c.looked) s t (with_look x) (λ c. refl) u (subst (λ (j : ℕ). live s j ≡ true) it ls) ∙ rw n refl

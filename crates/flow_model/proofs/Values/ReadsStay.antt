@@ -1,7 +1,10 @@
 -- What calls have read stays what they read, under every step.
 use Rattle.std.proofs.Common.{◌≡◌, ℕ, ◌<◌, Bool, true, false, ◌==◌, ◌⊎◌, inl, inr, refl, sym, ap, arith, List, [], ◌∷◌, ◌++◌, length, true≢false, ◌∙◌, subst, Option, Some, None}
+use Rattle.std.proofs.lemmas.Bool.{or_left, and_from, eqb-true, eq-eqb, both_ways, cases_Bool, not-true}
+use Rattle.std.proofs.lemmas.Option.{slice_get_within}
 use Rattle.std.specs.Prelude.{map, is_some, slice_get}
 use Rattle.script_tree.specs.declared.value.Value.{Value}
+use Rattle.script_tree.proofs.Truths.{and_left, and_right}
 use Rattle.signal_graph.specs.Graph.{Graph, node_at}
 use Rattle.signal_graph.specs.Values.{nodes_in, taken}
 use Rattle.node_versions.specs.declared.entry.State.{State}
@@ -13,14 +16,13 @@ use Rattle.flow_model.specs.Machine.Words.{heads, gathered_of, is_gathered, valu
 use Rattle.flow_model.specs.Machine.Steps.{allowed, apply}
 use Rattle.flow_model.specs.Kept.Runs.{IsSettled, by_node, by_look}
 use Rattle.flow_model.specs.Kept.Lawful.{IsLawful, IsWorking, SomeHead, value_for}
-use Rattle.flow_model.proofs.General.Truths.{or_left, and_make, same_number, equal_test, is_not_true, true_or_false}
-use Rattle.flow_model.proofs.OneStep.WhoMayStep.{and_left, and_right, not_is, opens-live}
+use Rattle.flow_model.proofs.OneStep.WhoMayStep.{opens-live}
 use Rattle.flow_model.proofs.Wants.FramedWith.{heads-opens}
 use Rattle.flow_model.proofs.OneStep.ChangesOfOneList.{step-list}
 use Rattle.flow_model.proofs.OrderStays.OpenNodesHaveFrames.{entry-there}
 use Rattle.flow_model.proofs.Values.NothingComesBefore.{head-unblocked, settled-unblocked, kept-before, kept-up_to}
 use Rattle.flow_model.proofs.Values.WorkersStayFirst.{Finishes, head-step}
-use Rattle.flow_model.proofs.General.AnyAndAll.{get-take, get-within}
+use Rattle.flow_model.proofs.General.AnyAndAll.{get-take}
 
 -- ---- what is gathered
 
@@ -41,7 +43,7 @@ gathered-last m i v w [] h = go (i == m) refl h
     some e = cc
 
     go : (b : Bool) → (i == m) ≡ b → elim b as (λ _. Option Value) [ true ↦ Some w | false ↦ None ] ≡ Some v → (gathered_of m [] ≡ Some v) ⊎ ((i ≡ m) × (w ≡ v))
-    go true e k = inr (same_number i m e, some k)
+    go true e k = inr (eqb-true i m e, some k)
     go false e k = inl k
 gathered-last m i v w (x ∷ xs) h = go (x.0 == m) h (gathered-last m i v w xs)
   where
@@ -64,11 +66,11 @@ Resolves (steps.Resolve t n) m = m ≡ n
 Resolves step m = ⊥
 
 pub resolves-or : (step : Step) (n : ℕ) → Resolves step n ⊎ (Resolves step n → ⊥)
-resolves-or (steps.Resolve t m) n = go (true_or_false (n == m))
+resolves-or (steps.Resolve t m) n = go (cases_Bool (n == m))
   where
     go : ((n == m) ≡ true) ⊎ ((n == m) ≡ false) → (n ≡ m) ⊎ (n ≡ m → ⊥)
-    go (inl x) = inl (same_number n m x)
-    go (inr x) = inr (λ k. is_not_true _ x (equal_test n m k))
+    go (inl x) = inl (eqb-true n m x)
+    go (inr x) = inr (λ k. both_ways _ x (eq-eqb n m k))
 resolves-or (steps.Frame t m) n = inr (λ k. k)
 resolves-or (steps.Start t) n = inr (λ k. k)
 resolves-or (steps.Skip t m) n = inr (λ k. k)
@@ -102,7 +104,7 @@ module _ (graph : Graph) (s : Core) (step : Step) (h : IsLawful graph s) (a : al
   work-head u n w k = go (head-step graph s step h a n w.head u w.first w.holds.executing k)
     where
       done : (x : Step) → allowed graph s x ≡ true → Finishes x w.head n → Resolves x n
-      done (steps.Skip t m) b f = absurd (is_not_true (touched graph s t m) (not_is _ (and_right _ _ (and_left _ _ b))) (subst (λ (j : ℕ). touched graph s t j ≡ true) f.1 (subst (λ (j : ℕ). touched graph s j n ≡ true) f.0 w.holds.changed)))
+      done (steps.Skip t m) b f = absurd (both_ways (touched graph s t m) (not-true _ (and_right _ _ (and_left _ _ b))) (subst (λ (j : ℕ). touched graph s t j ≡ true) f.1 (subst (λ (j : ℕ). touched graph s j n ≡ true) f.0 w.holds.changed)))
       done (steps.Resolve t m) b f = f.1
       done (steps.Frame t m) b f = f
       done (steps.Start t) b f = f
@@ -131,7 +133,7 @@ module _ (graph : Graph) (s : Core) (step : Step) (h : IsLawful graph s) (a : al
       go (inr x) = absurd (ne x)
       go (inl x) =
           let l = opens-live s u n (heads-opens graph s h u n x) in
-          h.values_are_read.gathered u n m v x e ∙ sym (settled-value u m l (by_node n (or_left _ _ (or_left _ _ (and_make _ _ x is)))))
+          h.values_are_read.gathered u n m v x e ∙ sym (settled-value u m l (by_node n (or_left _ _ (or_left _ _ (and_from _ _ x is)))))
 
   -- What was found follows from what was gathered.
   pub old-found : (u n : ℕ) (f : Found) → (Resolves step n → ⊥) → heads (apply graph s step) u n ≡ true → (cell s n).found ≡ Some f → (heads s u n ≡ true) × (f ≡ finds (node_at graph n) (value_gathered s n) (value_before (entries (apply graph s step) n) u))
@@ -144,4 +146,4 @@ module _ (graph : Graph) (s : Core) (step : Step) (h : IsLawful graph s) (a : al
   -- What was looked at is what the call reads there.
   pub old-looked : (u k m : ℕ) (v : Value) → live s u ≡ true → slice_get (call s u).looks k ≡ Some m → slice_get (call s u).looked k ≡ Some v → v ≡ value_for (apply graph s step) u m
   old-looked u k m v l e f = h.values_are_read.looked u k m v l e f
-      ∙ sym (settled-value u m l (by_look (get-take (call s u).looks k (length (call s u).looked) m e (get-within (call s u).looked k v f))))
+      ∙ sym (settled-value u m l (by_look (get-take (call s u).looks k (length (call s u).looked) m e (slice_get_within (call s u).looked k v f))))

@@ -1,8 +1,10 @@
 -- A Done that is right stays right under every step.
 use Rattle.std.proofs.Common.{◌≡◌, ℕ, ◌<◌, Bool, true, false, ◌&&◌, ◌||◌, not, ◌==◌, ◌⊎◌, inl, inr, refl, sym, ap, arith, List, [], ◌∷◌, ◌++◌, length, true≢false, ◌∙◌, subst, Option, Some}
+use Rattle.std.proofs.lemmas.Bool.{or_left, or_right, and_from, eqb-true, false_from_ne_true, both_ways, cases_Bool}
 use Rattle.std.specs.List.{list_any}
 use Rattle.script_tree.specs.declared.value.Fault.TheVariants.{NoChoice}
 use Rattle.script_tree.specs.declared.value.Value.TheVariants.{Fault as Faulty}
+use Rattle.script_tree.proofs.Truths.{and_left}
 use Rattle.signal_graph.specs.Graph.{Graph, IsGraph, is_in, node_at, inputs_of, is_source, body_of}
 use Rattle.signal_graph.specs.Values.{nodes_in}
 use Rattle.signal_graph.specs.Machine.{same}
@@ -10,6 +12,7 @@ use Rattle.node_versions.specs.declared.entry.State.{State}
 use Rattle.node_versions.specs.declared.entry.State.TheVariants.{Mark, Frame, Done}
 use Rattle.node_versions.specs.declared.entry.Entry.{Entry}
 use Rattle.node_versions.specs.Entries.{has, at, is_mark, is_done, changed_of, done_at, done_before, state_of, value_of, picks_of, value_before}
+use Rattle.node_versions.proofs.Places.{at-has}
 use Rattle.flow_model.specs.declared.step.Step.{Step}
 use Rattle.flow_model.specs.declared.step.Step.TheVariants as steps
 use Rattle.flow_model.specs.Machine.State.{Core, Found, call, live, entries, opens, wants, changes, with_cell}
@@ -19,11 +22,10 @@ use Rattle.flow_model.specs.Machine.Sets.{put}
 use Rattle.flow_model.specs.Machine.Steps.{allowed, apply, is_change}
 use Rattle.flow_model.specs.Kept.Runs.{by_node, was_due, picks_it}
 use Rattle.flow_model.specs.Kept.Lawful.{IsLawful, IsDoneRight, value_for, found_for}
-use Rattle.flow_model.proofs.General.Truths.{or_left, or_right, and_make, same_number, not_true, is_not_true, true_or_false}
-use Rattle.flow_model.proofs.OneStep.WhoMayStep.{and_left, executes-live, at_front-executes, at_front-heads, can_work-at_front, resolve-can_work}
+use Rattle.flow_model.proofs.OneStep.WhoMayStep.{executes-live, at_front-executes, at_front-heads, can_work-at_front, resolve-can_work}
 use Rattle.flow_model.proofs.General.Sets.{in-put}
 use Rattle.flow_model.proofs.OneList.OneEntryACall.{placed-at_other, collected-at_live}
-use Rattle.flow_model.proofs.OneList.StatesAndPlaces.{at-has, with_state-at}
+use Rattle.flow_model.proofs.OneList.StatesAndPlaces.{with_state-at}
 use Rattle.flow_model.proofs.OneList.CallsAndCells.{with_call-field}
 use Rattle.flow_model.proofs.OneStep.ChangesOfOneList.{ListStep, stays, marks, frames, raises, finishes, collects, step-list}
 use Rattle.flow_model.proofs.OrderStays.OpenNodesHaveFrames.{entry-there}
@@ -56,36 +58,36 @@ not_mark (e ∷ es) u d m = go (e.version == u) d m (not_mark es u)
 done-shown : (graph : Graph) (s : Core) → IsLawful graph s → (test : State → Bool) (n u : ℕ) → live s u ≡ true → at is_done (entries s n) u ≡ true → (es : List Entry) → ListStep graph s n es → at test es u ≡ at test (entries s n) u
 done-shown graph s h test n u l d es (stays e) = ap (λ (xs : List Entry). at test xs u) e
 done-shown graph s h test n u l d es (marks t x fresh r e) = ap (λ (xs : List Entry). at test xs u) e
-    ∙ placed-at_other test (stops_call s t) (new_entry s t Mark) (entries s n) u (λ k. is_not_true _ fresh (subst (λ (j : ℕ). has (entries s n) j ≡ true) k (at-has is_done (entries s n) u d)))
+    ∙ placed-at_other test (stops_call s t) (new_entry s t Mark) (entries s n) u (λ k. both_ways _ fresh (subst (λ (j : ℕ). has (entries s n) j ≡ true) k (at-has is_done (entries s n) u d)))
 done-shown graph s h test n u l d es (frames t w fresh r e) = ap (λ (xs : List Entry). at test xs u) e
-    ∙ placed-at_other test (stops_call s t) (new_entry s t Frame) (entries s n) u (λ k. is_not_true _ fresh (subst (λ (j : ℕ). has (entries s n) j ≡ true) k (at-has is_done (entries s n) u d)))
+    ∙ placed-at_other test (stops_call s t) (new_entry s t Frame) (entries s n) u (λ k. both_ways _ fresh (subst (λ (j : ℕ). has (entries s n) j ≡ true) k (at-has is_done (entries s n) u d)))
 done-shown graph s h test n u l d es (raises t w m e) =
-    let ne : (u == t) ≡ false = not_true _ (λ k. not_mark (entries s n) u d (subst (λ (j : ℕ). at is_mark (entries s n) j ≡ true) (sym (same_number u t k)) m)) in
+    let ne : (u == t) ≡ false = false_from_ne_true _ (λ k. not_mark (entries s n) u d (subst (λ (j : ℕ). at is_mark (entries s n) j ≡ true) (sym (eqb-true u t k)) m)) in
     ap (λ (xs : List Entry). at test xs u) e ∙ rw ne at (with_state-at test t Frame (entries s n) u)
 done-shown graph s h test n u l d es (finishes t v c ps f e) =
     let ft = opens-frame graph s h t n (heads-opens graph s h t n (at_front-heads graph s t n f)) in
-    let ne : (u == t) ≡ false = not_true _ (λ k. is_not_true _ (not_both (entries s n) t ft) (subst (λ (j : ℕ). at is_done (entries s n) j ≡ true) (same_number u t k) d)) in
+    let ne : (u == t) ≡ false = false_from_ne_true _ (λ k. both_ways _ (not_both (entries s n) t ft) (subst (λ (j : ℕ). at is_done (entries s n) j ≡ true) (eqb-true u t k) d)) in
     ap (λ (xs : List Entry). at test xs u) e ∙ rw ne at (with_state-at test t (Done v c ps) (entries s n) u)
 done-shown graph s h test n u l d es (collects e) = ap (λ (xs : List Entry). at test xs u) e ∙ collected-at_live test (λ v. not (live s v)) (entries s n) u (ap not l)
 
 -- ---- what calls have changed
 
 resolved-changes : (graph : Graph) (s : Core) (t n : ℕ) (u m : ℕ) → allowed graph s (steps.Resolve t n) ≡ true → ((u ≡ t) × (m ≡ n) → ⊥) → changes (apply graph s (steps.Resolve t n)) u m ≡ changes s u m
-resolved-changes graph s t n u m a ne = go (true_or_false (u == t)) (with_call-field (λ c. is_in m c.changed) (with_cell s n (set_state t (Done (value_now graph s t n) (is_change graph s t n) (found_picks s n)))) t (closed n (is_change graph s t n)) (λ c. refl) u lt)
+resolved-changes graph s t n u m a ne = go (cases_Bool (u == t)) (with_call-field (λ c. is_in m c.changed) (with_cell s n (set_state t (Done (value_now graph s t n) (is_change graph s t n) (found_picks s n)))) t (closed n (is_change graph s t n)) (λ c. refl) u lt)
   where
     lt : live s t ≡ true
     lt = executes-live s t (at_front-executes graph s t n (can_work-at_front graph s t n (resolve-can_work graph s t n a)))
 
     added : u ≡ t → (b : Bool) → is_in m (elim b as (λ _. List ℕ) [ true ↦ put n (call s t).changed | false ↦ (call s t).changed ]) ≡ is_in m (call s t).changed
     added e false = refl
-    added e true = let p = in-put m n (call s t).changed in let k : (m == n) ≡ false = not_true _ (λ x. ne (e, same_number m n x)) in grind (arith, p, k)
+    added e true = let p = in-put m n (call s t).changed in let k : (m == n) ≡ false = false_from_ne_true _ (λ x. ne (e, eqb-true m n x)) in grind (arith, p, k)
 
     go : ((u == t) ≡ true) ⊎ ((u == t) ≡ false) → changes (apply graph s (steps.Resolve t n)) u m ≡ elim (u == t) as (λ _. Bool) [
       | true ↦ is_in m (closed n (is_change graph s t n) (call s t)).changed
       | false ↦ changes s u m
     ] → changes (apply graph s (steps.Resolve t n)) u m ≡ changes s u m
     go (inr k) w = rw k at w
-    go (inl k) w = rw k at w ∙ added (same_number u t k) (is_change graph s t n) ∙ ap (λ (j : ℕ). changes s j m) (sym (same_number u t k))
+    go (inl k) w = rw k at w ∙ added (eqb-true u t k) (is_change graph s t n) ∙ ap (λ (j : ℕ). changes s j m) (sym (eqb-true u t k))
 
 -- A step changes what a call has changed only where the call finishes.
 pub changes-kept : (graph : Graph) (s : Core) (step : Step) → allowed graph s step ≡ true → (u m : ℕ) → live (apply graph s step) u ≡ true → (Finishes step u m → ⊥) → changes (apply graph s step) u m ≡ changes s u m
@@ -141,14 +143,14 @@ module _ (graph : Graph) (g : IsGraph graph) (s : Core) (step : Step) (h : IsLaw
   deps-kept = ap (λ (x : State). inputs_of (node_at graph n) ++ nodes_in (picks_of x)) before-kept
 
   unopened : (m : ℕ) → is_source (node_at graph n) ≡ false → is_in m (deps graph s u n) ≡ true → opens s u m ≡ false
-  unopened m ns k = not_true (opens s u m) (λ x. is_not_true _ (any-none (λ j. opens s u j || wants s u j) (deps graph s u n) m (h.dones_are_right.other u n ls d ns).no_open k) (or_left _ _ x))
+  unopened m ns k = false_from_ne_true (opens s u m) (λ x. both_ways _ (any-none (λ j. opens s u j || wants s u j) (deps graph s u n) m (h.dones_are_right.other u n ls d ns).no_open k) (or_left _ _ x))
 
   pub touched-kept : touched graph (apply graph s step) u n ≡ touched graph s u n
   touched-kept = go (is_source (node_at graph n)) refl
     where
       same_any : is_source (node_at graph n) ≡ false → list_any (changes (apply graph s step) u) (deps graph (apply graph s step) u n) ≡ list_any (changes s u) (deps graph s u n)
       same_any ns = ap (list_any (changes (apply graph s step) u)) deps-kept
-          ∙ any-alike (changes (apply graph s step) u) (changes s u) (deps graph s u n) (λ m k. changes-kept graph s step a u m l (λ f. is_not_true _ (unopened m ns k) (finishes-opens graph s step h a u m f)))
+          ∙ any-alike (changes (apply graph s step) u) (changes s u) (deps graph s u n) (λ m k. changes-kept graph s step a u m l (λ f. both_ways _ (unopened m ns k) (finishes-opens graph s step h a u m f)))
 
       go : (b : Bool) → is_source (node_at graph n) ≡ b → (not (is_source (node_at graph n)) && list_any (changes (apply graph s step) u) (deps graph (apply graph s step) u n)) ≡ (not (is_source (node_at graph n)) && list_any (changes s u) (deps graph s u n))
       go true e = rw e refl
@@ -175,10 +177,10 @@ module _ (graph : Graph) (g : IsGraph graph) (s : Core) (step : Step) (h : IsLaw
       there = let e = entry-there s n u (at-has is_done (entries s n) u d) in let j = h.lists in omega (arith, e, j)
 
       due : touched graph s u n ≡ true → was_due graph s u n ≡ true
-      due e = and_make _ _ d e
+      due e = and_from _ _ d e
 
       settled : (m : ℕ) → touched graph s u n ≡ true → (is_in m (inputs_of (node_at graph n)) || picks_it s u n m) ≡ true → value_for s u m ≡ value_for (apply graph s step) u m
-      settled m e k = sym (settled-value graph s step h a u m ls (by_node n (or_right _ _ (and_make _ _ (due e) k))))
+      settled m e k = sym (settled-value graph s step h a u m ls (by_node n (or_right _ _ (and_from _ _ (due e) k))))
 
       found : touched graph s u n ≡ true → found_for graph s u n ≡ found_for graph (apply graph s step) u n
       found e = finds-same graph g n there (value_for s u) (value_for (apply graph s step) u) (value_before (entries s n) u) (λ m k. settled m e (or_left _ _ k))

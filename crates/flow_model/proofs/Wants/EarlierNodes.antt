@@ -3,6 +3,7 @@ use Rattle.std.proofs.Common.{◌≡◌, ℕ, ◌<◌, Bool, true, false, ◌||�
 use Rattle.std.specs.List.{AllByRecursion, AllZip}
 use Rattle.std.specs.Option.{option_or}
 use Rattle.std.proofs.lemmas.List.Folds.{list_any-append}
+use Rattle.std.proofs.lemmas.Bool.{or_cases, or_left, or_right, eqb-true, eq-eqb, false_from_ne_true, both_ways, cases_Bool}
 use Rattle.signal_graph.specs.declared.node.Selector.{Selector}
 use Rattle.signal_graph.specs.declared.node.Node.{Node}
 use Rattle.signal_graph.specs.declared.node.Node.TheVariants.{Source, Signal, Fold, Choose}
@@ -10,13 +11,13 @@ use Rattle.signal_graph.specs.Graph.{Graph, IsGraph, IsNode, IsSelector, node_at
 use Rattle.signal_graph.specs.Values.{nodes_in}
 use Rattle.node_versions.specs.declared.entry.Entry.{Entry}
 use Rattle.node_versions.specs.Entries.{IsUnique, is_done, has, at, before, up_to, last_done, only_done, state_of, picks_of, picks_at}
+use Rattle.node_versions.proofs.Collecting.{last_is_done}
 use Rattle.flow_model.specs.Machine.State.{Core, entries}
 use Rattle.flow_model.specs.Machine.Words.{deps, prior_picks, is_prior}
 use Rattle.flow_model.specs.Kept.Lawful.{IsLawful, IsPickOf, lists_candidate}
-use Rattle.flow_model.proofs.General.Truths.{or_cases, or_left, or_right, same_number, equal_test, not_true, is_not_true, true_or_false}
 use Rattle.flow_model.proofs.Opening.OpeningLists.{in-below, nodes-at, candidate-earlier, picked-listed}
 use Rattle.flow_model.proofs.OneList.InOrder.{last_done-has}
-use Rattle.flow_model.proofs.OneList.OneEntryACall.{only_done-is, last_done-done, last_done-at}
+use Rattle.flow_model.proofs.OneList.OneEntryACall.{only_done-is, last_done-at}
 
 in-different : (m : ℕ) (seen ns : List ℕ) → is_in m (different_from seen ns) ≡ true → is_in m ns ≡ true
 in-different m seen [] h = h
@@ -59,7 +60,7 @@ before-unique (e ∷ es) t q = go (e.version == t) (before-unique es t q.1)
   where
     go : (b : Bool) → IsUnique (before es t) → IsUnique (elim b as (λ _. List Entry) [ true ↦ [] | false ↦ e ∷ before es t ])
     go true r = tt
-    go false r = (not_true _ (λ k. is_not_true _ q.0 (before-has es t e.version k)), r)
+    go false r = (false_from_ne_true _ (λ k. both_ways _ q.0 (before-has es t e.version k)), r)
 
 pub before-at : (test : _ → Bool) (es : List Entry) (t u : ℕ) → IsUnique es → has (before es t) u ≡ true → at test (before es t) u ≡ at test es u
 before-at test [] t u q h = refl
@@ -73,21 +74,21 @@ own-done (e ∷ es) x q h = go (last_done es) refl h (own-done es x q.1)
     go : (o : Option Entry) → last_done es ≡ o → option_or o (only_done e) ≡ Some x → (last_done es ≡ Some x → last_done (up_to es x.version) ≡ Some x) → last_done (up_to (e ∷ es) x.version) ≡ Some x
     go None k j further =
         let s = only_done-is e x j in
-        let w : (e.version == x.version) ≡ true = equal_test e.version x.version (ap (λ (y : Entry). y.version) (sym s.0)) in
+        let w : (e.version == x.version) ≡ true = eq-eqb e.version x.version (ap (λ (y : Entry). y.version) (sym s.0)) in
         rw (w, up_to) j
     go (Some y) k j further =
         let hx = last_done-has es x (k ∙ j) in
-        let ne : (e.version == x.version) ≡ false = not_true _ (λ w. is_not_true _ q.0 (subst (λ (v : ℕ). has es v ≡ true) (sym (same_number e.version x.version w)) hx)) in
+        let ne : (e.version == x.version) ≡ false = false_from_ne_true _ (λ w. both_ways _ q.0 (subst (λ (v : ℕ). has es v ≡ true) (sym (eqb-true e.version x.version w)) hx)) in
         rw (ne, up_to) (ap (λ (o : Option Entry). option_or o (only_done e)) (further (k ∙ j)))
 
 -- of a list that begins another, the last Done up to its own entry is the same in both
 pub before-up_to : (es : List Entry) (t u : ℕ) → has (before es t) u ≡ true → up_to (before es t) u ≡ up_to es u
 before-up_to [] t u h = refl
-before-up_to (e ∷ es) t u h = go (true_or_false (e.version == t)) (before-up_to es t u)
+before-up_to (e ∷ es) t u h = go (cases_Bool (e.version == t)) (before-up_to es t u)
   where
     go : ((e.version == t) ≡ true) ⊎ ((e.version == t) ≡ false) → (has (before es t) u ≡ true → up_to (before es t) u ≡ up_to es u) → up_to (before (e ∷ es) t) u ≡ up_to (e ∷ es) u
     go (inl w) further = let k : has [] u ≡ true = rw (w, before) at h in absurd (true≢false (sym k))
-    go (inr w) further = rw (w, before) (cases (true_or_false (e.version == u)))
+    go (inr w) further = rw (w, before) (cases (cases_Bool (e.version == u)))
       where
         cases : ((e.version == u) ≡ true) ⊎ ((e.version == u) ≡ false) → up_to (e ∷ before es t) u ≡ up_to (e ∷ es) u
         cases (inl v) = rw (v, up_to) refl
@@ -106,7 +107,7 @@ prior-listed graph s h t n m p = go (last_done (before (entries s n) t)) refl p
         let b = before (entries s n) t in
         let q = before-unique (entries s n) t (h.one_entry n) in
         let hx = last_done-has b x e in
-        let d : at is_done (entries s n) x.version ≡ true = sym (before-at is_done (entries s n) t x.version (h.one_entry n) hx) ∙ last_done-at is_done b x q e ∙ last_done-done b x e in
+        let d : at is_done (entries s n) x.version ≡ true = sym (before-at is_done (entries s n) t x.version (h.one_entry n) hx) ∙ last_done-at is_done b x q e ∙ last_is_done b x e in
         let own : picks_at (entries s n) x.version ≡ picks_of x.state = ap (λ (es : List Entry). picks_of (state_of (last_done es))) (sym (before-up_to (entries s n) t x.version hx)) ∙ ap (λ (o : Option Entry). picks_of (state_of o)) (own-done b x q e) in
         picked-listed (selectors_of (node_at graph n)) (picks_of x.state) m (subst (AllZip IsPickOf (selectors_of (node_at graph n))) own (h.picks_fit x.version n d)) k
 

@@ -2,21 +2,22 @@
 use Rattle.std.proofs.Common.{◌≡◌, ℕ, Bool, true, false, ◌==◌, ◌⊎◌, inl, inr, refl, sym, ap, arith, List, [], ◌∷◌, ◌++◌, true≢false, ◌∙◌, subst, Option, Some, None}
 use Rattle.std.specs.List.{list_any}
 use Rattle.std.proofs.lemmas.Bool.Decides.{eqb_tells}
+use Rattle.std.proofs.lemmas.Bool.{or_cases, or_left, or_right, and_from, eqb-true, eq-eqb, false_from_ne_true, both_ways, cases_Bool, true_from_ne_false}
 use Rattle.std.proofs.lemmas.List.Folds.{list_any-append}
 use Rattle.signal_graph.specs.Graph.{Graph, is_in, static_outs}
 use Rattle.signal_graph.specs.Values.{nodes_in}
 use Rattle.order_graph.specs.Order.{reaches}
+use Rattle.order_graph.proofs.Reaching.{reaches-join}
 use Rattle.node_versions.specs.declared.entry.Entry.{Entry}
 use Rattle.node_versions.specs.Entries.{OutEdge, has, at, is_frame, is_done, behind, first_open, is_active, has_out, has_node, active_nodes, picks_at, picks_before}
+use Rattle.node_versions.proofs.Places.{at-has}
 use Rattle.flow_model.specs.Machine.State.{Core, live, executes, is_framing, entries, outs, opens, wants, precedes}
 use Rattle.flow_model.specs.Machine.Words.{heads}
 use Rattle.flow_model.specs.Kept.Runs.{Run, Reading, read_all, nothing_read, last_run, dropper, discovered, runs, is_from, covers, reacts, was_due, settles, by_node}
 use Rattle.flow_model.specs.Kept.Lawful.{IsLawful, IsRunEdge, IsNewEdge, IsKeyOf, last_run_of}
-use Rattle.flow_model.proofs.General.Truths.{or_cases, or_left, or_right, and_make, same_number, equal_test, not_true, not_false, is_not_true, true_or_false}
 use Rattle.flow_model.proofs.OneStep.WhoMayStep.{opens-live}
-use Rattle.flow_model.proofs.OneList.Chains.{reaches-trans}
 use Rattle.flow_model.proofs.OrderStays.AfterEachStep.{recorded-live}
-use Rattle.flow_model.proofs.OneList.StatesAndPlaces.{at-has, behind-has, behind-total, first_open-frame}
+use Rattle.flow_model.proofs.OneList.StatesAndPlaces.{behind-has, behind-total, first_open-frame}
 use Rattle.flow_model.proofs.OrderStays.NoFrameBeforeDones.{head-first}
 use Rattle.flow_model.proofs.Reactions.WhereRunsBegin.{BeginsRun, run-begins}
 
@@ -37,24 +38,24 @@ heads-opens graph s h u n k = h.frames_are_open.opens_frames u n ∙ first_open-
 
 -- Such a call keeps this one from a Done.
 pub open_before-no_done : (graph : Graph) (s : Core) → IsLawful graph s → (t n : ℕ) → IsOpenBefore s t n → at is_done (entries s n) t ≡ false
-open_before-no_done graph s h t n b = not_true _ (λ d. go d (or_cases _ _ (behind-total (entries s n) b.opener t (at-has is_frame (entries s n) b.opener frame) (at-has is_done (entries s n) t d) (λ e. is_not_true _ b.other (equal_test t b.opener (sym e))))))
+open_before-no_done graph s h t n b = false_from_ne_true _ (λ d. go d (or_cases _ _ (behind-total (entries s n) b.opener t (at-has is_frame (entries s n) b.opener frame) (at-has is_done (entries s n) t d) (λ e. both_ways _ b.other (eq-eqb t b.opener (sym e))))))
   where
     frame : at is_frame (entries s n) b.opener ≡ true
     frame = opens-frame graph s h b.opener n b.opened
 
     go : at is_done (entries s n) t ≡ true → (behind (entries s n) b.opener t ≡ true) ⊎ (behind (entries s n) t b.opener ≡ true) → ⊥
-    go d (inl k) = is_not_true _ (h.frames_are_open.behind_dones n b.opener t k frame) d
-    go d (inr k) = is_not_true _ b.not_after (h.order_is_kept.lists n t b.opener k (opens-live s b.opener n b.opened))
+    go d (inl k) = both_ways _ (h.frames_are_open.behind_dones n b.opener t k frame) d
+    go d (inr k) = both_ways _ b.not_after (h.order_is_kept.lists n t b.opener k (opens-live s b.opener n b.opened))
 
 -- A chain of pairs goes one way.
 chain-one_way : (graph : Graph) (s : Core) → IsLawful graph s → (w t : ℕ) → reaches s.pairs w t ≡ true → (precedes s t w ≡ false) × ((t == w) ≡ false)
-chain-one_way graph s h w t r = (not_true _ back, not_true _ (λ e. is_not_true _ (h.order_is_kept.no_cycle t) (subst (λ (x : ℕ). reaches s.pairs x t ≡ true) (sym (same_number t w e)) r)))
+chain-one_way graph s h w t r = (false_from_ne_true _ back, false_from_ne_true _ (λ e. both_ways _ (h.order_is_kept.no_cycle t) (subst (λ (x : ℕ). reaches s.pairs x t ≡ true) (sym (eqb-true t w e)) r)))
   where
     back : precedes s t w ≡ true → ⊥
     back p =
         let l = recorded-live graph s h w t r in
         let c = h.order_is_kept.no_cycle t in
-        let tr = reaches-trans s.pairs t w t in
+        let tr = reaches-join s.pairs t w t in
         grind (arith, p, l, c, tr, r)
 
 pub live-chain : (s : Core) (u v : ℕ) → live s u ≡ true → precedes s u v ≡ true → reaches s.pairs u v ≡ true
@@ -62,9 +63,9 @@ live-chain s u v l p = grind (arith, l, p)
 
 -- A call that is before another one is not after it.
 pub before-not_after : (graph : Graph) (s : Core) → IsLawful graph s → (u v : ℕ) → precedes s u v ≡ true → precedes s v u ≡ false
-before-not_after graph s h u v p = not_true _ (λ k.
+before-not_after graph s h u v p = false_from_ne_true _ (λ k.
     let c = h.order_is_kept.no_cycle u in
-    let tr = reaches-trans s.pairs u v u in
+    let tr = reaches-join s.pairs u v u in
     let a = λ (x : reaches s.pairs u v ≡ true). recorded-live graph s h u v x in
     let b = λ (x : reaches s.pairs v u ≡ true). recorded-live graph s h v u x in
     grind (arith, p, k, c, tr, a, b))
@@ -90,12 +91,12 @@ reaction-chained graph s h t v m n xt p o r = go (or_cases _ _ (h.frames_spread 
     chain = live-chain s v t lv p
 
     runs_it : executes s v ≡ true
-    runs_it = not_false _ (λ e. is_not_true _ (h.framing_comes_last.before v t (let f : is_framing s v ≡ true = grind (arith, e, lv) in f) xt) p)
+    runs_it = true_from_ne_false _ (λ e. both_ways _ (h.framing_comes_last.before v t (let f : is_framing s v ≡ true = grind (arith, e, lv) in f) xt) p)
 
     go : (opens s v n ≡ true) ⊎ (wants s v n ≡ true) → IsChained s t n
     go (inl x) = record { opener = v; opened = x; chain = chain }
     go (inr x) = let c = h.wants_are_covered v n runs_it x in
-        record { opener = c.by.0; opened = c.by.2; chain = reaches-trans s.pairs c.by.0 v t (live-chain s c.by.0 v (opens-live s c.by.0 n c.by.2) c.by.1) chain }
+        record { opener = c.by.0; opened = c.by.2; chain = reaches-join s.pairs c.by.0 v t (live-chain s c.by.0 v (opens-live s c.by.0 n c.by.2) c.by.1) chain }
 
 -- ---- the out-edges of the node
 
@@ -117,7 +118,7 @@ active-edge es (edge ∷ os) t n h = go (is_active es edge.1 t) refl h (λ k. ac
     go true e k further = cases (or_cases _ _ k)
       where
         cases : ((edge.0 == n) ≡ true) ⊎ (is_in n (active_nodes es os t) ≡ true) → HasActive es (edge ∷ os) t n
-        cases (inl x) = record { since = edge.1; stands = or_left _ _ (and_make _ _ x (equal_test edge.1 edge.1 refl)); active = e }
+        cases (inl x) = record { since = edge.1; stands = or_left _ _ (and_from _ _ x (eq-eqb edge.1 edge.1 refl)); active = e }
         cases (inr x) = later (further x)
 
 pub out-node : (os : List OutEdge) (n since : ℕ) → has_out os n since ≡ true → has_node os n ≡ true
@@ -134,7 +135,7 @@ pub covered-reacts : (graph : Graph) (s : Core) (v m n : ℕ) → list_any (cove
 covered-reacts graph s v m n k = or_right _ _ k
 
 run-covers : (s : Core) (v m : ℕ) (begins : Option ℕ) → has (entries s m) v ≡ true → is_from s m begins v ≡ true → covers s m v (record { begins = begins; ends = None }) ≡ true
-run-covers s v m begins h f = and_make _ _ (and_make _ _ h f) refl
+run-covers s v m begins h f = and_from _ _ (and_from _ _ h f) refl
 
 -- the last run, where the candidate has an out-edge
 pub last-covers : (graph : Graph) (s : Core) (v m n : ℕ) (r : Run) → has (entries s m) v ≡ true → last_run_of s n m ≡ Some r → has_node (outs s m) n ≡ true → is_from s m r.begins v ≡ true → reacts graph s v m n ≡ true
@@ -182,13 +183,13 @@ no_frame-before graph s h v m n r b o e k j = go (h.entries_are_kept.new_picks b
     w = run-begins m (entries s n) r b (h.one_entry n) e k
 
     lb : live s b ≡ true
-    lb = not_false _ (λ x. is_not_true _ (h.ended_is_prefix.prefix m v b j x) (opens-live s v m o))
+    lb = true_from_ne_false _ (λ x. both_ways _ (h.ended_is_prefix.prefix m v b j x) (opens-live s v m o))
 
     go : (was_due graph s b n ≡ true) ⊎ (picks_at (entries s n) b ≡ picks_before (entries s n) b) → ⊥
-    go (inr x) = is_not_true _ w.prior (ap (λ (ps : List (Option ℕ)). is_in m (nodes_in ps)) (sym x) ∙ w.now)
+    go (inr x) = both_ways _ w.prior (ap (λ (ps : List (Option ℕ)). is_in m (nodes_in ps)) (sym x) ∙ w.now)
     go (inl x) =
-        let settled : settles graph s b m n ≡ true = or_right _ _ (and_make _ _ x (or_right _ _ w.now)) in
-        is_not_true _ (h.settled_is_kept.none_before v b m (by_node n settled) j) (opens-frame graph s h v m o)
+        let settled : settles graph s b m n ≡ true = or_right _ _ (and_from _ _ x (or_right _ _ w.now)) in
+        both_ways _ (h.settled_is_kept.none_before v b m (by_node n settled) j) (opens-frame graph s h v m o)
 
 -- ---- what is framed with a node
 
@@ -200,7 +201,7 @@ pub record IsEdgeOpen (s : Core) (m n since : ℕ) : Type 0 where
 -- The node of an edge is open for a call before this one, or for the edge's call, which has an entry at the candidate.
 pub edge-reached : (graph : Graph) (s : Core) → IsLawful graph s → (t v m n since : ℕ) → executes s t ≡ true → precedes s v t ≡ true → opens s v m ≡ true → opens s t n ≡ false
     → has_out (outs s m) n since ≡ true → IsChained s t n ⊎ IsEdgeOpen s m n since
-edge-reached graph s h t v m n since xt p o closed e = go (true_or_false (is_active (entries s m) since v)) (h.edges_are_kept.stands n m since e)
+edge-reached graph s h t v m n since xt p o closed e = go (cases_Bool (is_active (entries s m) since v)) (h.edges_are_kept.stands n m since e)
   where
     hv : has (entries s m) v ≡ true
     hv = at-has is_frame (entries s m) v (opens-frame graph s h v m o)
@@ -212,7 +213,7 @@ edge-reached graph s h t v m n since xt p o closed e = go (true_or_false (is_act
     first k = head-first (entries s n) since k
 
     not_ended : live s since ≡ false → behind (entries s m) v since ≡ true → ⊥
-    not_ended x b = is_not_true _ (h.ended_is_prefix.prefix m v since b x) (opens-live s v m o)
+    not_ended x b = both_ways _ (h.ended_is_prefix.prefix m v since b x) (opens-live s v m o)
 
     -- the run in which the list ends
     ends_in : (c : Option Run) → last_run_of s n m ≡ c → IsKeyOf s since c → (is_active (entries s m) since v ≡ true) ⊎ (is_active (entries s m) since v ≡ false) → IsChained s t n ⊎ IsEdgeOpen s m n since
@@ -239,7 +240,7 @@ edge-open graph s h t v m n since xt p o closed e place = go (edge-reached graph
     go (inr k) = record { opener = since; opened = k.opened; not_after = place k.entry other; other = other }
       where
         other : (t == since) ≡ false
-        other = not_true _ (λ x. is_not_true _ closed (subst (λ (z : ℕ). opens s z n ≡ true) (sym (same_number t since x)) k.opened))
+        other = false_from_ne_true _ (λ x. both_ways _ closed (subst (λ (z : ℕ). opens s z n ≡ true) (sym (eqb-true t since x)) k.opened))
 
 pub static-chained : (graph : Graph) (s : Core) → IsLawful graph s → (t v m n : ℕ) → executes s t ≡ true → precedes s v t ≡ true → opens s v m ≡ true → is_in n (static_outs graph m) ≡ true → IsChained s t n
 static-chained graph s h t v m n xt p o k = reaction-chained graph s h t v m n xt p o (or_left _ _ k)

@@ -1,13 +1,17 @@
 -- What an executing call wants is open for a call before it, after each step.
 use Rattle.std.proofs.Common.{◌≡◌, ℕ, ◌<◌, suc, Bool, true, false, ◌&&◌, ◌||◌, not, ◌==◌, ◌⊎◌, inl, inr, refl, sym, ap, arith, List, [], ◌∷◌, length, true≢false, ◌∙◌, subst, Option, Some, None}
 use Rattle.std.proofs.lemmas.List.Folds.{list_any-append}
+use Rattle.std.proofs.lemmas.Bool.{or_cases, or_left, or_right, and_from, eqb-true, eq-eqb, false_from_ne_true, both_ways, cases_Bool, not-true}
 use Rattle.script_tree.specs.declared.value.Value.{Value}
+use Rattle.script_tree.proofs.Truths.{and_left, and_right}
 use Rattle.signal_graph.specs.declared.call.Call.{Call}
 use Rattle.signal_graph.specs.Graph.{Graph, is_in, static_outs}
 use Rattle.order_graph.specs.Order.{reaches, is_recorded}
 use Rattle.node_versions.specs.declared.entry.State.TheVariants.{Mark, Frame, Done}
 use Rattle.node_versions.specs.declared.entry.Entry.{Entry}
 use Rattle.node_versions.specs.Entries.{OutEdge, has, at, is_mark, up_to, has_out, active_nodes, front, rest, value_before, picks_before, with_state, placed}
+use Rattle.node_versions.proofs.KeptLemmas.{has-with_state}
+use Rattle.node_versions.proofs.Places.{at-has}
 use Rattle.flow_model.specs.declared.step.Step.{Step}
 use Rattle.flow_model.specs.declared.step.Step.TheVariants as steps
 use Rattle.flow_model.specs.Machine.Lists.{is_empty}
@@ -17,8 +21,7 @@ use Rattle.flow_model.specs.Machine.Words.{active_outs, at_front, found_now, val
 use Rattle.flow_model.specs.Machine.Changes.{stops, linked_at, first_version, last_version, link_left, place_entry, set_state, enter, raise, ensure_mark, opened, closed, finish, tell_call, add_edge, stops_call, new_entry}
 use Rattle.flow_model.specs.Machine.Steps.{allowed, apply, begin, can_begin, new_call, open_node, frame, started, counted, with_look, look_value, keep_found, is_change, any_before, nodes_set, sets_in}
 use Rattle.flow_model.specs.Kept.Lawful.{IsLawful, IsCovered, WantsAreCovered, OrderIsKept, ended_before}
-use Rattle.flow_model.proofs.General.Truths.{or_cases, or_left, or_right, same_number, equal_test, not_true, is_not_true, true_or_false, and_make}
-use Rattle.flow_model.proofs.OneStep.WhoMayStep.{and_left, and_right, not_is, executes-live, wants-live, opens-live, frame-wants, start-is_framing, mark-executes, end-idle, idle-executes, discover-due, due-can_work, drop-due, can_work-at_front, at_front-executes, at_front-heads, skip-can_work, resolve-can_work, is_framing-live}
+use Rattle.flow_model.proofs.OneStep.WhoMayStep.{executes-live, wants-live, opens-live, frame-wants, start-is_framing, mark-executes, end-idle, idle-executes, discover-due, due-can_work, drop-due, can_work-at_front, at_front-executes, at_front-heads, skip-can_work, resolve-can_work, is_framing-live}
 use Rattle.flow_model.proofs.OneList.Chains.{reaches-retire}
 use Rattle.flow_model.proofs.OrderStays.AfterEachStep.{lawful-Standing, step-OrderIsKept}
 use Rattle.flow_model.proofs.OneList.Entering.{left-Grows, right-Grows}
@@ -30,9 +33,7 @@ use Rattle.flow_model.proofs.OrderStays.OpenNodesHaveFrames.{cell-there, opened-
 use Rattle.flow_model.proofs.OneList.ActiveEdges.{active-behind}
 use Rattle.flow_model.proofs.Wants.FramedWith.{IsChained, IsEdgeOpen, HasActive, active-edge, edge-reached, static-chained, heads-opens}
 use Rattle.flow_model.proofs.Wants.WantsAreFree.{opened-wants, new_or_old, at_front-live, tell-wants, IsTold, step-WantsAreFree, begin-WantsAreFree}
-use Rattle.flow_model.proofs.OneList.InOrder.{with_state-has}
 use Rattle.flow_model.proofs.OneList.OneEntryACall.{placed-has}
-use Rattle.flow_model.proofs.OneList.StatesAndPlaces.{at-has}
 use Rattle.flow_model.proofs.FramesSpread.AfterOtherSteps.{same_outs}
 use Rattle.flow_model.proofs.OneStep.VersionsStayFresh.{not_begun-live}
 
@@ -58,7 +59,7 @@ start-empty : (graph : Graph) (s : Core) (t : ℕ) → allowed graph s (steps.St
 start-empty graph s t a = and_right _ _ (and_left _ _ a)
 
 end-first : (graph : Graph) (s : Core) (t : ℕ) → allowed graph s (steps.End t) ≡ true → any_before s t ≡ false
-end-first graph s t a = not_is _ (and_right _ _ a)
+end-first graph s t a = not-true _ (and_right _ _ a)
 
 end-closed : (graph : Graph) (s : Core) (t : ℕ) → allowed graph s (steps.End t) ≡ true → is_empty (call s t).open_nodes ≡ true
 end-closed graph s t a = and_right _ _ (end-idle graph s t a)
@@ -83,7 +84,7 @@ opened-preceded : (graph : Graph) (s : Core) → IsLawful graph s → (t m0 : �
     → ((u v : ℕ) → reaches s.pairs u v ≡ true → reaches q.pairs u v ≡ true) → outs q m0 ≡ outs s m0 → has (entries q m0) t ≡ true → ((u : ℕ) → has (entries s m0) u ≡ true → has (entries q m0) u ≡ true)
     → OrderIsKept (open_node graph q t m0) → live (open_node graph q t m0) t ≡ true
     → (u n : ℕ) → executes s u ≡ true → wants (open_node graph q t m0) u n ≡ true → IsPreceded (open_node graph q t m0) u n
-opened-preceded graph s h t m0 w q ws os lq grows edges entry stays_in order la u n x k = go (true_or_false (u == t)) (opened-wants q t m0 xs u n lq)
+opened-preceded graph s h t m0 w q ws os lq grows edges entry stays_in order la u n x k = go (cases_Bool (u == t)) (opened-wants q t m0 xs u n lq)
   where
     xs : List ℕ
     xs = active_outs graph q t m0
@@ -103,7 +104,7 @@ opened-preceded graph s h t m0 w q ws os lq grows edges entry stays_in order la 
     edge : (e : HasActive (entries q m0) (outs q m0) t n) → opens s t n ≡ false → IsChained s t n ⊎ IsEdgeOpen s m0 n e.since → IsPreceded after t n
     edge e closed (inl c) = chained c
     edge e closed (inr c) =
-        let other : (t == e.since) ≡ false = not_true _ (λ y. is_not_true _ closed (subst (λ (z : ℕ). opens s z n ≡ true) (sym (same_number t e.since y)) c.opened)) in
+        let other : (t == e.since) ≡ false = false_from_ne_true _ (λ y. both_ways _ closed (subst (λ (z : ℕ). opens s z n ≡ true) (sym (eqb-true t e.since y)) c.opened)) in
         let hs = stays_in e.since c.entry in
         let a = e.active in
         record { opener = e.since; before = order.lists m0 e.since t (active-behind (entries q m0) e.since t hs entry (shown (has (entries q m0) e.since) (has (up_to (entries q m0) t) e.since) hs a) other) la; opened = open_still e.since n c.opened }
@@ -129,7 +130,7 @@ opened-preceded graph s h t m0 w q ws os lq grows edges entry stays_in order la 
     go (inr e) y = let j : wants q u n ≡ true = grind (arith, y, e, k) in old u x j
     go (inl e) y =
         let j : ((is_in n xs && not ((n == m0) || opens q t n)) || (wants q t n && not (n == m0))) ≡ true = grind (arith, y, e, k) in
-        let z = same_number u t e in
+        let z = eqb-true u t e in
         subst (λ (v : ℕ). IsPreceded after v n) (sym z) (mine (subst (λ (v : ℕ). executes s v ≡ true) z x) (new_or_old (is_in n xs) (n == m0) (opens q t n) (wants q t n) j))
 
 framed-preceded : (graph : Graph) (s : Core) → IsLawful graph s → (t m0 : ℕ) → allowed graph s (steps.Frame t m0) ≡ true → (u n : ℕ) → executes (frame graph s t m0) u ≡ true → wants (frame graph s t m0) u n ≡ true → IsPreceded (frame graph s t m0) u n
@@ -158,13 +159,13 @@ framed-preceded graph s h t m0 a u n = go (at is_mark (entries s m0) t) refl (st
         let q = raise s t m0 in
         let list : entries q m0 ≡ with_state t Frame (entries s m0) = ap (λ (c : Cell). c.entries) (cell-there s m0 (set_state t Frame) there) in
         opened-preceded graph s h t m0 w q (λ u n. refl) (λ u n. refl) lt (λ u v r. r) (same_outs s m0 (set_state t Frame) (λ c. refl) m0)
-        (ap (λ (es : List Entry). has es t) list ∙ with_state-has t Frame (entries s m0) t ∙ at-has is_mark (entries s m0) t e)
-        (λ v hv. ap (λ (es : List Entry). has es v) list ∙ with_state-has t Frame (entries s m0) v ∙ hv) order (still_live q lt) u n (sym (runs q) ∙ x) k
+        (ap (λ (es : List Entry). has es t) list ∙ has-with_state t Frame (entries s m0) t ∙ at-has is_mark (entries s m0) t e)
+        (λ v hv. ap (λ (es : List Entry). has es v) list ∙ has-with_state t Frame (entries s m0) v ∙ hv) order (still_live q lt) u n (sym (runs q) ∙ x) k
     go false e order x k =
         let q = enter s t m0 Frame in
         let list : entries q m0 ≡ placed (stops s t) (new_entry s t Frame) (entries s m0) = ap (λ (c : Cell). c.entries) (cell-there s m0 (place_entry s t Frame) there) in
         opened-preceded graph s h t m0 w q (λ u n. refl) (λ u n. refl) lt (λ u v r. entered-reaches s t m0 u v lt r) (same_outs s m0 (place_entry s t Frame) (λ c. refl) m0)
-        (ap (λ (es : List Entry). has es t) list ∙ placed-has (stops_call s t) (new_entry s t Frame) (entries s m0) t ∙ or_left _ _ (equal_test t t refl))
+        (ap (λ (es : List Entry). has es t) list ∙ placed-has (stops_call s t) (new_entry s t Frame) (entries s m0) t ∙ or_left _ _ (eq-eqb t t refl))
         (λ v hv. ap (λ (es : List Entry). has es v) list ∙ placed-has (stops_call s t) (new_entry s t Frame) (entries s m0) v ∙ or_right (t == v) (has (entries s m0) v) hv) order (still_live q lt) u n (sym (runs q) ∙ x) k
 
 -- ---- Discover
@@ -235,20 +236,20 @@ finished-preceded graph s h t n0 v b ps lt none u n x w = kept-preceded graph s 
     ws = sym (with_call-keeps (λ c. is_in n c.wanted) q t (closed n0 b) (λ c. refl) (λ c. refl) u) ∙ w
 
     still : (y : ℕ) → reaches s.pairs y u ≡ true → opens s y n ≡ true → opens after y n ≡ true
-    still y r o = closed-opens q t n0 b y n lt ∙ and_make (opens s y n) (not ((y == t) && (n == n0))) o (cases (true_or_false ((y == t) && (n == n0))))
+    still y r o = closed-opens q t n0 b y n lt ∙ and_from (opens s y n) (not ((y == t) && (n == n0))) o (cases (cases_Bool ((y == t) && (n == n0))))
       where
         cases : (((y == t) && (n == n0)) ≡ true) ⊎ (((y == t) && (n == n0)) ≡ false) → not ((y == t) && (n == n0)) ≡ true
         cases (inr z) = ap not z
         cases (inl z) =
-            let e = same_number y t (and_left (y == t) (n == n0) z) in
-            let f = same_number n n0 (and_right (y == t) (n == n0) z) in
+            let e = eqb-true y t (and_left (y == t) (n == n0) z) in
+            let f = eqb-true n n0 (and_right (y == t) (n == n0) z) in
             absurd (pressed-none s t n0 u none xs (subst (λ (j : ℕ). wants s u j ≡ true) f ws) (or_left (reaches s.pairs t u) (not (live s t) && live s u) (subst (λ (j : ℕ). reaches s.pairs j u ≡ true) e r)))
 
 skip-unpressed : (graph : Graph) (s : Core) (t n : ℕ) → allowed graph s (steps.Skip t n) ≡ true → pressed s t n ≡ false
-skip-unpressed graph s t n a = not_is _ (and_right _ _ a)
+skip-unpressed graph s t n a = not-true _ (and_right _ _ a)
 
 resolve-unpressed : (graph : Graph) (s : Core) (t n : ℕ) → allowed graph s (steps.Resolve t n) ≡ true → pressed s t n ≡ false
-resolve-unpressed graph s t n a = not_is _ (and_right _ _ (and_left _ _ a))
+resolve-unpressed graph s t n a = not-true _ (and_right _ _ (and_left _ _ a))
 
 resolved-preceded : (graph : Graph) (s : Core) → IsLawful graph s → (t n0 : ℕ) → allowed graph s (steps.Resolve t n0) ≡ true → (u n : ℕ) → executes (apply graph s (steps.Resolve t n0)) u ≡ true → wants (apply graph s (steps.Resolve t n0)) u n ≡ true → IsPreceded (apply graph s (steps.Resolve t n0)) u n
 resolved-preceded graph s h t n0 a u n x w =
@@ -263,7 +264,7 @@ same-preceded graph s h q u n grows xs ws os x w = kept-preceded graph s h q u n
 
 -- A call that starts wants nothing.
 started-preceded : (graph : Graph) (s : Core) → IsLawful graph s → (t : ℕ) → allowed graph s (steps.Start t) ≡ true → (u n : ℕ) → executes (apply graph s (steps.Start t)) u ≡ true → wants (apply graph s (steps.Start t)) u n ≡ true → IsPreceded (apply graph s (steps.Start t)) u n
-started-preceded graph s h t a u n x w = go (true_or_false (u == t))
+started-preceded graph s h t a u n x w = go (cases_Bool (u == t))
   where
     q : Core
     q = apply graph s (steps.Start t)
@@ -279,14 +280,14 @@ started-preceded graph s h t a u n x w = go (true_or_false (u == t))
     empty = start-empty graph s t a
 
     go : ((u == t) ≡ true) ⊎ ((u == t) ≡ false) → IsPreceded q u n
-    go (inl e) = absurd (none (call s t).wanted empty (subst (λ (v : ℕ). wants s v n ≡ true) (same_number u t e) ws))
+    go (inl e) = absurd (none (call s t).wanted empty (subst (λ (v : ℕ). wants s v n ≡ true) (eqb-true u t e) ws))
     go (inr e) = kept-preceded graph s h q u n (let r = started-executes t s.calls u (is_framing-live s t (start-is_framing graph s t a)) in other (u == t) (executes s u) (executes q u) r e x) ws (λ v r o. (r, same_opens s t started (λ c. refl) (λ c. refl) v n ∙ o))
       where
         other : (a b c : Bool) → c ≡ (a || b) → a ≡ false → c ≡ true → b ≡ true
         other a b c i j k = grind (arith, i, j, k)
 
 ended-preceded : (graph : Graph) (s : Core) → IsLawful graph s → (t : ℕ) → allowed graph s (steps.End t) ≡ true → (u n : ℕ) → executes (apply graph s (steps.End t)) u ≡ true → wants (apply graph s (steps.End t)) u n ≡ true → IsPreceded (apply graph s (steps.End t)) u n
-ended-preceded graph s h t a u n x w = go (true_or_false (u == t))
+ended-preceded graph s h t a u n x w = go (cases_Bool (u == t))
   where
     q : Core
     q = apply graph s (steps.End t)
@@ -303,16 +304,16 @@ ended-preceded graph s h t a u n x w = go (true_or_false (u == t))
 
     -- the one that ends has nothing open
     apart : (v : ℕ) → opens s v n ≡ true → (v == t) ≡ false
-    apart v o = not_true _ (λ e. none (call s t).open_nodes (end-closed graph s t a) (subst (λ (j : ℕ). opens s j n ≡ true) (same_number v t e) o))
+    apart v o = false_from_ne_true _ (λ e. none (call s t).open_nodes (end-closed graph s t a) (subst (λ (j : ℕ). opens s j n ≡ true) (eqb-true v t e) o))
 
     go : ((u == t) ≡ true) ⊎ ((u == t) ≡ false) → IsPreceded q u n
-    go (inl e) = absurd (true≢false (sym (subst (λ (v : ℕ). wants q v n ≡ true) (same_number u t e) w) ∙ ap (λ (o : Option LiveCall). is_in n (call_or o).wanted) (without_call-same t s.calls)))
+    go (inl e) = absurd (true≢false (sym (subst (λ (v : ℕ). wants q v n ≡ true) (eqb-true u t e) w) ∙ ap (λ (o : Option LiveCall). is_in n (call_or o).wanted) (without_call-same t s.calls)))
     go (inr e) =
-        let k = without_call-other t u s.calls (λ y. is_not_true _ e (equal_test u t y)) in
+        let k = without_call-other t u s.calls (λ y. both_ways _ e (eq-eqb u t y)) in
         kept-preceded graph s h q u n (sym (ap (λ (o : Option LiveCall). (call_or o).executing) k) ∙ x) (sym (ap (λ (o : Option LiveCall). is_in n (call_or o).wanted) k) ∙ w)
         (λ v r o. (
-          reaches-retire s.pairs t v u first ∙ and_make (not (v == t)) (reaches s.pairs v u) (ap not (apart v o)) r,
-          ap (λ (c : Option LiveCall). is_in n (call_or c).open_nodes) (without_call-other t v s.calls (λ y. is_not_true _ (apart v o) (equal_test v t y))) ∙ o,
+          reaches-retire s.pairs t v u first ∙ and_from (not (v == t)) (reaches s.pairs v u) (ap not (apart v o)) r,
+          ap (λ (c : Option LiveCall). is_in n (call_or c).open_nodes) (without_call-other t v s.calls (λ y. both_ways _ (apart v o) (eq-eqb v t y))) ∙ o,
         ))
 
 step-preceded : (graph : Graph) (s : Core) (step : Step) → IsLawful graph s → allowed graph s step ≡ true → (u n : ℕ) → executes (apply graph s step) u ≡ true → wants (apply graph s step) u n ≡ true → IsPreceded (apply graph s step) u n
@@ -360,7 +361,7 @@ begin-WantsAreCovered graph s caller c h a u n x w = go (begin-call graph s h ca
       where
         cases : ((call_of q.calls v ≡ call_of s.calls v) × ((suc s.begun == v) ≡ false)) ⊎ ((v ≡ suc s.begun) × (call_of q.calls v ≡ Some (new_call graph s caller c))) → opens q v n ≡ true
         cases (inl e) = ap (λ (o : Option LiveCall). is_in n (call_or o).open_nodes) e.0 ∙ o
-        cases (inr e) = absurd (is_not_true _ (not_begun-live s h.versions_are_fresh) (subst (λ (j : ℕ). live s j ≡ true) e.0 (opens-live s v n o)))
+        cases (inr e) = absurd (both_ways _ (not_begun-live s h.versions_are_fresh) (subst (λ (j : ℕ). live s j ≡ true) e.0 (opens-live s v n o)))
 
     go : ((call_of q.calls u ≡ call_of s.calls u) × ((suc s.begun == u) ≡ false)) ⊎ ((u ≡ suc s.begun) × (call_of q.calls u ≡ Some (new_call graph s caller c))) → IsCovered q u n
     go (inl e) =

@@ -4,10 +4,12 @@ use Rattle.std.specs.Prelude.{is_some}
 use Rattle.std.specs.Prelude.{filter, if◌then◌else◌, nat_lt}
 use Rattle.std.specs.List.{AllByRecursion}
 use Rattle.std.proofs.lemmas.Bool.Decides.{eqb_tells}
+use Rattle.std.proofs.lemmas.Bool.{or_cases, eqb-true, eq-eqb, false_from_ne_true, both_ways, cases_Bool, not-true}
 use Rattle.std.proofs.lemmas.List.Folds.{list_any-append}
 use Rattle.script_tree.specs.declared.value.Value.{Value}
 use Rattle.script_tree.specs.declared.value.Value.TheVariants.{Fault as Faulty}
 use Rattle.script_tree.specs.declared.value.Fault.TheVariants.{Kind}
+use Rattle.script_tree.proofs.Truths.{and_left, and_right}
 use Rattle.signal_graph.specs.declared.node.Node.{Node}
 use Rattle.signal_graph.specs.declared.node.Node.TheVariants.{Source}
 use Rattle.signal_graph.specs.declared.call.Call.{Call}
@@ -17,6 +19,7 @@ use Rattle.node_versions.specs.declared.entry.State.{State}
 use Rattle.node_versions.specs.declared.entry.State.TheVariants.{Mark, Frame, Done}
 use Rattle.node_versions.specs.declared.entry.Entry.{Entry}
 use Rattle.node_versions.specs.Entries.{OutEdge, has, at, is_mark, is_done, placed, with_state, has_out, active_nodes, is_active, is_frame, behind, front, rest, value_before, picks_before}
+use Rattle.node_versions.proofs.Places.{at-has}
 use Rattle.flow_model.specs.Machine.State.{Core, LiveCall, Cell, call, cell, live, executes, is_framing, entries, outs, opens, wants, precedes, with_call, with_cell, call_of, call_or}
 use Rattle.flow_model.specs.declared.step.Step.{Step}
 use Rattle.flow_model.specs.declared.step.Step.TheVariants as steps
@@ -25,10 +28,9 @@ use Rattle.flow_model.specs.Machine.Steps.{allowed, apply, open_node, frame, beg
 use Rattle.flow_model.specs.Machine.Sets.{put, take_out, put_all, without}
 use Rattle.flow_model.specs.Machine.Changes.{stops, stops_call, new_entry, place_entry, set_state, enter, raise, opened, ensure_mark, finish, closed, tell, tell_call, is_told, add_edge}
 use Rattle.flow_model.specs.Kept.Lawful.{IsLawful, IsFree, WantsAreFree, lists_candidate, ended_before}
-use Rattle.flow_model.proofs.General.Truths.{or_cases, same_number, equal_test, not_true, is_not_true, true_or_false}
-use Rattle.flow_model.proofs.OneStep.WhoMayStep.{executes-live, wants-live, frame-wants, at_front-heads, and_left, and_right, not_is, at_front-executes, can_work-at_front, due-can_work, discover-due, skip-can_work, resolve-can_work}
+use Rattle.flow_model.proofs.OneStep.WhoMayStep.{executes-live, wants-live, frame-wants, at_front-heads, at_front-executes, can_work-at_front, due-can_work, discover-due, skip-can_work, resolve-can_work}
 use Rattle.flow_model.proofs.General.Sets.{in-put, in-take_out, in-put_all, in-without}
-use Rattle.flow_model.proofs.OneList.StatesAndPlaces.{with_state-at, at-has, more-behind_it}
+use Rattle.flow_model.proofs.OneList.StatesAndPlaces.{with_state-at, more-behind_it}
 use Rattle.flow_model.proofs.OneList.OneEntryACall.{placed-at_other, placed-at, collected-at}
 use Rattle.flow_model.proofs.OneList.CallsAndCells.{with_call-field, with_call-keeps, map_call-keeps, map_call-reads, option_call, without_call-other, without_call-same}
 use Rattle.flow_model.proofs.OneList.Entering.{with_cell-cell}
@@ -52,7 +54,7 @@ input-node graph m n h = go graph.nodes n h
     go (x ∷ xs) zero k = omega arith
     go (x ∷ xs) (suc n) k = let r = go xs n k in omega (arith, r)
 
-candidate-node : (graph : Graph) (m n : ℕ) → lists_candidate m (selectors_of (node_at graph n)) ≡ true → n < length graph.nodes
+pub candidate-node : (graph : Graph) (m n : ℕ) → lists_candidate m (selectors_of (node_at graph n)) ≡ true → n < length graph.nodes
 candidate-node graph m n h = go graph.nodes n h
   where
     go : (nodes : List Node) (n : ℕ) → lists_candidate m (selectors_of (slice_index_or nodes n (Source (Faulty Kind)))) ≡ true → n < length nodes
@@ -69,7 +71,7 @@ filtered-passes test (x ∷ xs) n h = go (test x) refl h (filtered-passes test x
     go true e k further = cases (or_cases _ _ k)
       where
         cases : ((x == n) ≡ true) ⊎ (is_in n (filter test xs) ≡ true) → test n ≡ true
-        cases (inl w) = subst (λ (j : ℕ). test j ≡ true) (same_number x n w) e
+        cases (inl w) = subst (λ (j : ℕ). test j ≡ true) (eqb-true x n w) e
         cases (inr w) = further w
 
 static-node : (graph : Graph) (m n : ℕ) → is_in n (static_outs graph m) ≡ true → n < length graph.nodes
@@ -78,11 +80,11 @@ static-node graph m n h = input-node graph m n (filtered-passes (λ k. is_in m (
 -- ---- no new Dones where nothing is open
 
 placed-no_done : (s : Core) (n u t : ℕ) (x : State) → has (entries s n) t ≡ false → is_done x ≡ false → at is_done (entries s n) u ≡ false → at is_done (placed (stops s t) (new_entry s t x) (entries s n)) u ≡ false
-placed-no_done s n u t x fresh no_done none = go (true_or_false (u == t))
+placed-no_done s n u t x fresh no_done none = go (cases_Bool (u == t))
   where
     go : ((u == t) ≡ true) ⊎ ((u == t) ≡ false) → at is_done (placed (stops s t) (new_entry s t x) (entries s n)) u ≡ false
-    go (inl k) = subst (λ (v : ℕ). at is_done (placed (stops s t) (new_entry s t x) (entries s n)) v ≡ false) (sym (same_number u t k)) (placed-at is_done (stops_call s t) (new_entry s t x) (entries s n) fresh ∙ no_done)
-    go (inr k) = placed-at_other is_done (stops_call s t) (new_entry s t x) (entries s n) u (λ w. is_not_true _ k (equal_test u t w)) ∙ none
+    go (inl k) = subst (λ (v : ℕ). at is_done (placed (stops s t) (new_entry s t x) (entries s n)) v ≡ false) (sym (eqb-true u t k)) (placed-at is_done (stops_call s t) (new_entry s t x) (entries s n) fresh ∙ no_done)
+    go (inr k) = placed-at_other is_done (stops_call s t) (new_entry s t x) (entries s n) u (λ w. both_ways _ k (eq-eqb u t w)) ∙ none
 
 -- A node that is not open for the call gets no Done of it.
 pub list-no_done : (graph : Graph) (s : Core) → IsLawful graph s → (n u : ℕ) → opens s u n ≡ false → at is_done (entries s n) u ≡ false → (es : List Entry) → ListStep graph s n es → at is_done es u ≡ false
@@ -90,12 +92,12 @@ list-no_done graph s h n u closed none es (stays e) = subst (λ (xs : List Entry
 list-no_done graph s h n u closed none es (marks t x fresh r e) = subst (λ (xs : List Entry). at is_done xs u ≡ false) (sym e) (placed-no_done s n u t Mark fresh refl none)
 list-no_done graph s h n u closed none es (frames t w fresh r e) = subst (λ (xs : List Entry). at is_done xs u ≡ false) (sym e) (placed-no_done s n u t Frame fresh refl none)
 list-no_done graph s h n u closed none es (raises t w m e) = subst (λ (xs : List Entry). at is_done xs u ≡ false) (sym e) (let k = with_state-at is_done t Frame (entries s n) u in grind (arith, k, none))
-list-no_done graph s h n u closed none es (finishes t v c ps f e) = subst (λ (xs : List Entry). at is_done xs u ≡ false) (sym e) (go (true_or_false (u == t)) (with_state-at is_done t (Done v c ps) (entries s n) u))
+list-no_done graph s h n u closed none es (finishes t v c ps f e) = subst (λ (xs : List Entry). at is_done xs u ≡ false) (sym e) (go (cases_Bool (u == t)) (with_state-at is_done t (Done v c ps) (entries s n) u))
   where
     go : ((u == t) ≡ true) ⊎ ((u == t) ≡ false) → at is_done (with_state t (Done v c ps) (entries s n)) u ≡ elim (u == t) as (λ _. Bool) [ true ↦ has (entries s n) t && true | false ↦ at is_done (entries s n) u ] → at is_done (with_state t (Done v c ps) (entries s n)) u ≡ false
-    go (inl k) w = absurd (is_not_true _ closed (subst (λ (z : ℕ). opens s z n ≡ true) (sym (same_number u t k)) (heads-opens graph s h t n (at_front-heads graph s t n f))))
+    go (inl k) w = absurd (both_ways _ closed (subst (λ (z : ℕ). opens s z n ≡ true) (sym (eqb-true u t k)) (heads-opens graph s h t n (at_front-heads graph s t n f))))
     go (inr k) w = grind (arith, k, w, none)
-list-no_done graph s h n u closed none es (collects e) = subst (λ (xs : List Entry). at is_done xs u ≡ false) (sym e) (not_true _ (λ d. is_not_true _ none (collected-at is_done (λ v. not (live s v)) (entries s n) u (h.one_entry n) d)))
+list-no_done graph s h n u closed none es (collects e) = subst (λ (xs : List Entry). at is_done xs u ≡ false) (sym e) (false_from_ne_true _ (λ d. both_ways _ none (collected-at is_done (λ v. not (live s v)) (entries s n) u (h.one_entry n) d)))
 
 -- ---- framing a node
 
@@ -129,7 +131,7 @@ not_opened a p x y h e k = grind (arith, h, e, k)
 
 opened-wanting : (graph : Graph) (s : Core) → IsLawful graph s → (q : Core) (t m : ℕ) → ((u n : ℕ) → wants q u n ≡ wants s u n) → ((u n : ℕ) → opens q u n ≡ opens s u n) → live q t ≡ true
     → ((n : ℕ) → is_in n (active_outs graph q t m) ≡ true → opens s t n ≡ false → IsFree graph s t n) → (u n : ℕ) → wants (open_node graph q t m) u n ≡ true → IsWanting graph s (open_node graph q t m) u n
-opened-wanting graph s h q t m ws os lt free u n w = go (true_or_false (u == t)) (opened-wants q t m (active_outs graph q t m) u n lt)
+opened-wanting graph s h q t m ws os lt free u n w = go (cases_Bool (u == t)) (opened-wants q t m (active_outs graph q t m) u n lt)
   where
     after : Core
     after = open_node graph q t m
@@ -151,7 +153,7 @@ opened-wanting graph s h q t m ws os lt free u n w = go (true_or_false (u == t))
     go (inr e) k = let j : wants q u n ≡ true = grind (arith, k, e, w) in record { free = old u j; opened = unopened u (grind (arith, e)) }
     go (inl e) k =
         let j : ((is_in n (active_outs graph q t m) && not ((n == m) || opens q t n)) || (wants q t n && not (n == m))) ≡ true = grind (arith, k, e, w) in
-        let z = same_number u t e in
+        let z = eqb-true u t e in
         subst (λ (v : ℕ). IsWanting graph s after v n) (sym z) (mine (subst (λ (v : ℕ). wants after v n ≡ true) z w) (new_or_old (is_in n (active_outs graph q t m)) (n == m) (opens q t n) (wants q t n) j))
 
 -- What is framed with a node that the call wants is free for it.
@@ -162,7 +164,7 @@ framed-free graph s h t m w q same place n k closed = go (or_cases _ _ (sym (lis
   where
     -- a framing call has no Dones; before an executing one another call has the node open
     not_done : (executes s t ≡ true → IsOpenBefore s t n) → at is_done (entries s n) t ≡ false
-    not_done f = cases (true_or_false (executes s t))
+    not_done f = cases (cases_Bool (executes s t))
       where
         cases : (executes s t ≡ true) ⊎ (executes s t ≡ false) → at is_done (entries s n) t ≡ false
         cases (inl x) = open_before-no_done graph s h t n (f x)
@@ -232,9 +234,9 @@ tell-wants s c t n u m h = go (call_of s.calls u) refl (sym (ap (λ (o : Option 
         cases (inl w) = inl (ap (λ (o : Option LiveCall). is_in m (call_or o).wanted) e ∙ w)
         cases (inr w) =
             let told = and_right _ _ w in
-            let closed : opens s u n ≡ false = ap (λ (o : Option LiveCall). is_in n (call_or o).open_nodes) e ∙ not_is _ (and_right _ _ told) in
+            let closed : opens s u n ≡ false = ap (λ (o : Option LiveCall). is_in n (call_or o).open_nodes) e ∙ not-true _ (and_right _ _ told) in
             inr (record {
-              it = same_number m n (and_left _ _ w);
+              it = eqb-true m n (and_left _ _ w);
               stands = subst (λ (v : ℕ). behind (entries s c) t v ≡ true) (call_of-version s.calls u x e) (and_left _ _ (and_left _ _ told));
               closed = closed;
               lives = ap is_some e;
@@ -251,10 +253,10 @@ behind-not_before graph s h t c u xt lu b = go (has (entries s c) t) refl b
     stood k = before-not_after graph s h t u (h.order_is_kept.lists c t u k lu)
 
     entered : has (entries s c) t ≡ false → behind (placed (stops s t) (new_entry s t Mark) (entries s c)) t u ≡ true → precedes s u t ≡ false
-    entered fresh k = not_true _ (λ p.
+    entered fresh k = false_from_ne_true _ (λ p.
         let xs = front (stops s t) (entries s c) in
         let ys = rest (stops s t) (entries s c) in
-        let none : has xs t ≡ false = not_true _ (λ j. is_not_true _ fresh (front-has (stops_call s t) (entries s c) t j)) in
+        let none : has xs t ≡ false = false_from_ne_true _ (λ j. both_ways _ fresh (front-has (stops_call s t) (entries s c) t j)) in
         let r : has ys u ≡ true = sym (more-behind_it xs ys (new_entry s t Mark) u none) ∙ k in
         (executing-part s (ended_before s.log) (lawful-Standing graph s h) t c u lt lu xt p u r).other refl)
 
@@ -305,7 +307,7 @@ discovered-wanting graph s h t m c a u n w = record { free = go (tell-wants q c 
             opener = t;
             opened = ot;
             not_after = behind-not_before graph s h t c u (at_front-executes graph s t m front_it) lu (subst (λ (es : List Entry). behind es t u ≡ true) lists-same k.stands);
-            other = not_true _ (λ x. is_not_true _ closed (subst (λ (v : ℕ). opens s v m ≡ true) (sym (same_number u t x)) ot));
+            other = false_from_ne_true _ (λ x. both_ways _ closed (subst (λ (v : ℕ). opens s v m ≡ true) (sym (eqb-true u t x)) ot));
           });
         }
 
@@ -334,12 +336,12 @@ at_front-live graph s t n f = executes-live s t (at_front-executes graph s t n f
 
 -- a call that ends wants nothing
 ended-wanting : (graph : Graph) (s : Core) → IsLawful graph s → (t u n : ℕ) → wants (apply graph s (steps.End t)) u n ≡ true → IsWanting graph s (apply graph s (steps.End t)) u n
-ended-wanting graph s h t u n w = go (true_or_false (u == t))
+ended-wanting graph s h t u n w = go (cases_Bool (u == t))
   where
     go : ((u == t) ≡ true) ⊎ ((u == t) ≡ false) → IsWanting graph s (apply graph s (steps.End t)) u n
-    go (inl e) = absurd (true≢false (sym (subst (λ (v : ℕ). wants (apply graph s (steps.End t)) v n ≡ true) (same_number u t e) w) ∙ ap (λ (o : Option LiveCall). is_in n (call_or o).wanted) (without_call-same t s.calls)))
+    go (inl e) = absurd (true≢false (sym (subst (λ (v : ℕ). wants (apply graph s (steps.End t)) v n ≡ true) (eqb-true u t e) w) ∙ ap (λ (o : Option LiveCall). is_in n (call_or o).wanted) (without_call-same t s.calls)))
     go (inr e) =
-        let k = without_call-other t u s.calls (λ x. is_not_true _ e (equal_test u t x)) in
+        let k = without_call-other t u s.calls (λ x. both_ways _ e (eq-eqb u t x)) in
         kept-wanting graph s h (apply graph s (steps.End t)) u n (ap (λ (o : Option LiveCall). is_in n (call_or o).wanted) k) (ap (λ (o : Option LiveCall). is_in n (call_or o).open_nodes) k) w
 
 step-wanting : (graph : Graph) (s : Core) (step : Step) → IsLawful graph s → allowed graph s step ≡ true → (u n : ℕ) → wants (apply graph s step) u n ≡ true → IsWanting graph s (apply graph s step) u n
@@ -368,7 +370,7 @@ step-WantsAreFree graph s step h a u n w =
     let k = step-wanting graph s step h a u n w in
     record {
       node = k.free.node;
-      not_open = not_true _ (λ o. is_not_true _ k.free.not_open (k.opened o));
+      not_open = false_from_ne_true _ (λ o. both_ways _ k.free.not_open (k.opened o));
       not_done = list-no_done graph s h n u k.free.not_open k.free.not_done (entries (apply graph s step) n) (step-list graph s step h a n);
     }
 
@@ -390,7 +392,7 @@ named-nodes graph (set ∷ sets) a n h = go (or_cases _ _ h) (named-nodes graph 
 
     go : ((number_of graph set.0 == n) ≡ true) ⊎ (is_in n (nodes_set (map (λ (set : List ℕ × Value). (number_of graph set.0, set.1)) sets)) ≡ true)
         → (is_in n (nodes_set (map (λ (set : List ℕ × Value). (number_of graph set.0, set.1)) sets)) ≡ true → n < length graph.nodes) → n < length graph.nodes
-    go (inl e) further = subst (λ (k : ℕ). k < length graph.nodes) (same_number (number_of graph set.0) n e) (below (number_of graph set.0) (length graph.nodes) (and_left _ _ a.0))
+    go (inl e) further = subst (λ (k : ℕ). k < length graph.nodes) (eqb-true (number_of graph set.0) n e) (below (number_of graph set.0) (length graph.nodes) (and_left _ _ a.0))
     go (inr e) further = further e
 
 pub begin-WantsAreFree : (graph : Graph) (s : Core) (caller : ℕ) (c : Call) → IsLawful graph s → can_begin graph s caller c ≡ true → WantsAreFree graph (begin graph s caller c)
@@ -410,5 +412,5 @@ begin-WantsAreFree graph s caller c h a u n w = go (begin-call graph s h caller 
         record {
           node = named-nodes graph (sets_of c) (all-right 1 (map (λ (set : List ℕ × Value). names_source graph set.0) (sets_of c)) (map (names_node graph) (looks_of c)) (begin-well_named graph s caller c a)) n set;
           not_open = ap (λ (o : Option LiveCall). is_in n (call_or o).open_nodes) e.1;
-          not_done = subst (λ (v : ℕ). at is_done (entries s n) v ≡ false) (sym e.0) (not_true _ (λ d. is_not_true _ (not_begun-entry graph s h n) (at-has is_done (entries s n) (suc s.begun) d)));
+          not_done = subst (λ (v : ℕ). at is_done (entries s n) v ≡ false) (sym e.0) (false_from_ne_true _ (λ d. both_ways _ (not_begun-entry graph s h n) (at-has is_done (entries s n) (suc s.begun) d)));
         }

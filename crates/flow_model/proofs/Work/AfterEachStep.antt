@@ -1,18 +1,18 @@
 -- After each step and each beginning, what is gathered, found and evaluated is of first open calls that work, and comes in its order.
 use Rattle.std.proofs.Common.{◌≡◌, ℕ, suc, true, false, ◌&&◌, ◌||◌, not, ◌==◌, ◌⊎◌, inl, inr, refl, sym, ap, [], ◌∙◌, subst, Option, Some, None}
+use Rattle.std.proofs.lemmas.Bool.{both_ways}
 use Rattle.std.specs.List.{list_any}
 use Rattle.signal_graph.specs.declared.call.Call.{Call}
 use Rattle.signal_graph.specs.Graph.{Graph, is_in, is_source, node_at, inputs_of}
 use Rattle.node_versions.specs.Entries.{has, is_frame, value_at}
+use Rattle.node_versions.proofs.Places.{at-has}
 use Rattle.flow_model.specs.declared.step.Step.{Step}
 use Rattle.flow_model.specs.declared.step.Step.TheVariants as steps
 use Rattle.flow_model.specs.Machine.State.{Core, LiveCall, cell, call_of, call_or, entries, with_cell}
 use Rattle.flow_model.specs.Machine.Words.{heads, touched, due, at_front, deps, is_found, is_candidate, found_candidates, found_now, body_now}
 use Rattle.flow_model.specs.Machine.Steps.{allowed, apply, begin, new_call, all_gathered, gather, keep_found, keep_body}
 use Rattle.flow_model.specs.Kept.Lawful.{IsLawful, IsWorking, SomeHead, WorkIsKept}
-use Rattle.flow_model.proofs.General.Truths.{is_not_true}
 use Rattle.flow_model.proofs.OneStep.WhoMayStep.{gather-due, evaluate-at_front}
-use Rattle.flow_model.proofs.OneList.StatesAndPlaces.{at-has}
 use Rattle.flow_model.proofs.OrderStays.AfterEachStep.{not_begun-entry}
 use Rattle.flow_model.proofs.OneStep.BegunCalls.{begin-call}
 use Rattle.flow_model.proofs.OneStep.QuietSteps.{finishes, SameWork, works, step-work, changed-work}
@@ -111,7 +111,7 @@ begun-working graph s h caller c n u hd w = go (begin-call graph s h caller c u)
       changed = ap (λ (o : Option LiveCall). not (is_source (node_at graph n)) && list_any (λ m. is_in m (call_or o).changed) (deps graph s u n)) e.0 ∙ w.changed;
       no_open = ap (λ (o : Option LiveCall). list_any (λ m. is_in m (call_or o).open_nodes || is_in m (call_or o).wanted) (deps graph s u n)) e.0 ∙ w.no_open;
     }
-    go (inr e) = absurd (is_not_true _ (not_begun-entry graph s h n) (subst (λ (v : ℕ). has (entries s n) v ≡ true) e.0 (at-has is_frame (entries s n) u (head-live graph s h u n hd))))
+    go (inr e) = absurd (both_ways _ (not_begun-entry graph s h n) (subst (λ (v : ℕ). has (entries s n) v ≡ true) e.0 (at-has is_frame (entries s n) u (head-live graph s h u n hd))))
 
 pub begin-WorkIsKept : (graph : Graph) (s : Core) (caller : ℕ) (c : Call) → IsLawful graph s → WorkIsKept graph (begin graph s caller c)
 begin-WorkIsKept graph s caller c h = record {

@@ -1,5 +1,6 @@
 -- What is found at a node stays through each step that finishes nowhere, and a Skip or Resolve leaves the work at other nodes.
 use Rattle.std.proofs.Common.{◌≡◌, ℕ, ◌<◌, length, Bool, true, false, ◌==◌, ◌⊎◌, inl, inr, refl, sym, ap, List, [], true≢false, ◌∙◌, subst, Option, None}
+use Rattle.std.proofs.lemmas.Bool.{eqb-true, both_ways, cases_Bool}
 use Rattle.script_tree.specs.declared.value.Value.{Value}
 use Rattle.signal_graph.specs.Graph.{Graph}
 use Rattle.node_versions.specs.declared.entry.State.TheVariants.{Done}
@@ -11,7 +12,6 @@ use Rattle.flow_model.specs.Machine.Words.{heads, touched, is_found, found_now, 
 use Rattle.flow_model.specs.Machine.Changes.{set_state, cleared, finish}
 use Rattle.flow_model.specs.Machine.Steps.{allowed, apply, gather, keep_found, keep_body, is_change}
 use Rattle.flow_model.specs.Kept.Lawful.{IsLawful}
-use Rattle.flow_model.proofs.General.Truths.{same_number, is_not_true, true_or_false}
 use Rattle.flow_model.proofs.OneStep.WhoMayStep.{can_work-at_front, at_front-heads, skip-can_work, resolve-can_work}
 use Rattle.flow_model.proofs.OneStep.SameLengths.{change_at-length}
 use Rattle.flow_model.proofs.OrderStays.OpenNodesHaveFrames.{cell-there, cell-other}
@@ -35,7 +35,7 @@ step-found graph s (steps.Evaluate t n0) a f n k = go (changed-work s n0 (keep_f
   where
     go : SameWork s (with_cell s n0 (keep_found (found_now graph s t n0))) n ⊎ ((n ≡ n0) × (cell (with_cell s n0 (keep_found (found_now graph s t n0))) n ≡ keep_found (found_now graph s t n0) (cell s n))) → (cell (with_cell s n0 (keep_found (found_now graph s t n0))) n).found ≡ (cell s n).found
     go (inl w) = w.found
-    go (inr e) = absurd (is_not_true _ (evaluate-not_found graph s t n0 a) (subst (λ (j : ℕ). is_found s j ≡ true) e.0 k))
+    go (inr e) = absurd (both_ways _ (evaluate-not_found graph s t n0 a) (subst (λ (j : ℕ). is_found s j ≡ true) e.0 k))
 step-found graph s (steps.Body t n0) a f n k = go (changed-work s n0 (keep_body (body_now graph s n0)) n)
   where
     go : SameWork s (apply graph s (steps.Body t n0)) n ⊎ ((n ≡ n0) × (cell (apply graph s (steps.Body t n0)) n ≡ keep_body (body_now graph s n0) (cell s n))) → (cell (apply graph s (steps.Body t n0)) n).found ≡ (cell s n).found
@@ -53,7 +53,7 @@ step-found graph s (steps.Collect n0) a f n k = (step-work graph s (steps.Collec
 pub resolved-work : (graph : Graph) (s : Core) → IsLawful graph s → (t n0 : ℕ) → allowed graph s (steps.Resolve t n0) ≡ true → (n : ℕ)
     → ((n ≡ n0) × ((cell (apply graph s (steps.Resolve t n0)) n).gathered ≡ []) × ((cell (apply graph s (steps.Resolve t n0)) n).found ≡ None) × ((cell (apply graph s (steps.Resolve t n0)) n).body ≡ None))
     ⊎ (((n == n0) ≡ false) × SameWork s (apply graph s (steps.Resolve t n0)) n × (entries (apply graph s (steps.Resolve t n0)) n ≡ entries s n))
-resolved-work graph s h t n0 a n = go (true_or_false (n == n0))
+resolved-work graph s h t n0 a n = go (cases_Bool (n == n0))
   where
     v : Value
     v = value_now graph s t n0
@@ -78,7 +78,7 @@ resolved-work graph s h t n0 a n = go (true_or_false (n == n0))
 
     go : ((n == n0) ≡ true) ⊎ ((n == n0) ≡ false)
         → ((n ≡ n0) × ((cell q n).gathered ≡ []) × ((cell q n).found ≡ None) × ((cell q n).body ≡ None)) ⊎ (((n == n0) ≡ false) × SameWork s q n × (entries q n ≡ entries s n))
-    go (inl e) = let j = same_number n n0 e in let c : cell q n ≡ cleared (cell p n0) = ap (cell q) j ∙ cell-there p n0 cleared there in inl (j, ap (λ (x : Cell). x.gathered) c, ap (λ (x : Cell). x.found) c, ap (λ (x : Cell). x.body) c)
+    go (inl e) = let j = eqb-true n n0 e in let c : cell q n ≡ cleared (cell p n0) = ap (cell q) j ∙ cell-there p n0 cleared there in inl (j, ap (λ (x : Cell). x.gathered) c, ap (λ (x : Cell). x.found) c, ap (λ (x : Cell). x.body) c)
     go (inr ne) = let c = same ne in inr (ne, record { gathered = ap (λ (x : Cell). x.gathered) c; found = ap (λ (x : Cell). x.found) c; body = ap (λ (x : Cell). x.body) c }, ap (λ (x : Cell). x.entries) c)
 
 -- A call that skips a node works at none of it, so all work goes on.
@@ -87,5 +87,5 @@ skipped-still graph s h t n0 a n = go (skipped-list graph s t n0 n)
   where
     go : (entries (apply graph s (steps.Skip t n0)) n ≡ entries s n) ⊎ ((n ≡ n0) × (entries (apply graph s (steps.Skip t n0)) n ≡ with_state t (Done (value_before (entries s n0) t) false (picks_before (entries s n0) t)) (entries s n))) → Still graph s (apply graph s (steps.Skip t n0)) n
     go (inl e) = same-still graph s (steps.Skip t n0) h a n e
-    go (inr e) = λ u hd w. absurd (is_not_true _ (skip-untouched graph s t n0 a) (subst (λ (j : ℕ). touched graph s t j ≡ true) e.0
+    go (inr e) = λ u hd w. absurd (both_ways _ (skip-untouched graph s t n0 a) (subst (λ (j : ℕ). touched graph s t j ≡ true) e.0
         (subst (λ (x : ℕ). touched graph s x n ≡ true) (heads-same s t u n (subst (λ (j : ℕ). heads s t j ≡ true) (sym e.0) (at_front-heads graph s t n0 (can_work-at_front graph s t n0 (skip-can_work graph s t n0 a)))) hd) w.changed)))

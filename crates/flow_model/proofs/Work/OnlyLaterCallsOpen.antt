@@ -1,27 +1,28 @@
 -- Only later calls than a node's first open call have open what it rests on, so that call comes to want nothing of it.
-use Rattle.std.proofs.Common.{◌≡◌, ℕ, zero, suc, ◌<◌, Bool, true, false, ◌==◌, ◌⊎◌, inl, inr, refl, sym, arith, List, [], ◌∷◌, ◌++◌, length, true≢false, ◌∙◌, subst, Option, Some, None}
+use Rattle.std.proofs.Common.{◌≡◌, ℕ, zero, suc, ◌<◌, Bool, true, false, ◌==◌, ◌⊎◌, inl, inr, refl, sym, arith, List, [], ◌∷◌, ◌++◌, true≢false, ◌∙◌, subst, Option, Some, None}
 use Rattle.std.specs.Prelude.{slice_get, is_some}
 use Rattle.std.specs.List.{list_any}
 use Rattle.std.proofs.lemmas.List.Folds.{list_any-append}
-use Rattle.signal_graph.specs.Graph.{Graph, is_in, node_at, numbers, inputs_of, static_outs}
+use Rattle.std.proofs.lemmas.Bool.{or_cases, or_left, or_right, and_from, eqb-true, eq-eqb, false_from_ne_true, both_ways, cases_Bool, true_from_ne_false}
+use Rattle.signal_graph.specs.Graph.{Graph, is_in, node_at, inputs_of}
+use Rattle.signal_graph.proofs.ScriptNames.{in_static_outs}
 use Rattle.order_graph.specs.Order.{reaches}
+use Rattle.order_graph.proofs.Reaching.{reaches-join}
 use Rattle.node_versions.specs.Entries.{has, at, is_frame, behind, first_open, has_node}
+use Rattle.node_versions.proofs.Places.{at-has}
 use Rattle.flow_model.specs.Machine.State.{Core, live, executes, is_framing, entries, outs, opens, wants, precedes}
 use Rattle.flow_model.specs.Machine.Words.{deps, heads, prior_picks, is_some_of}
 use Rattle.flow_model.specs.Kept.Runs.{Run, read_all, nothing_read, last_run, discovered, runs, covers, is_from, is_until, reacts, dropper}
 use Rattle.flow_model.specs.Kept.Lawful.{IsLawful, IsLive, IsCovered, last_run_of}
-use Rattle.flow_model.proofs.General.Truths.{or_cases, or_left, or_right, and_make, same_number, equal_test, not_true, not_false, is_not_true, true_or_false}
 use Rattle.flow_model.proofs.OneStep.WhoMayStep.{opens-live}
-use Rattle.flow_model.proofs.OneList.Chains.{reaches-trans}
-use Rattle.flow_model.proofs.OneList.StatesAndPlaces.{at-has, behind-total, first_open-none}
+use Rattle.flow_model.proofs.OneList.StatesAndPlaces.{behind-total, first_open-none}
 use Rattle.flow_model.proofs.OrderStays.NoFrameBeforeDones.{head-first}
 use Rattle.flow_model.proofs.Wants.FramedWith.{opens-frame, live-chain, before-not_after, covered-reacts, not_up_to-behind, no_frame-before}
 use Rattle.flow_model.proofs.Reactions.WhereRunsBegin.{seen-all}
 use Rattle.flow_model.proofs.Reactions.WhoReacts.{parts-covers}
 use Rattle.flow_model.proofs.FramesSpread.AfterDiscover.{head-prior}
-use Rattle.flow_model.proofs.General.Counting.{in-numbers}
 use Rattle.flow_model.proofs.OneStep.FirstOpenCalls.{head-live, head-there}
-use Rattle.flow_model.proofs.General.AnyAndAll.{in-filter, some-is}
+use Rattle.flow_model.proofs.General.AnyAndAll.{some-is}
 
 -- ---- runs that a test takes
 
@@ -71,23 +72,20 @@ last-any s n m test k =
 
 -- ---- the nodes that react
 
-input-static : (graph : Graph) (m n : ℕ) → n < length graph.nodes → is_in m (inputs_of (node_at graph n)) ≡ true → is_in n (static_outs graph m) ≡ true
-input-static graph m n l k = in-filter (λ j. is_in m (inputs_of (node_at graph j))) (numbers graph) n (in-numbers 0 graph.nodes n (omega arith) (omega (arith, l))) k
-
 -- Of two calls, the first open one and another with the node open, the first is before the other.
 head-before : (graph : Graph) (s : Core) → IsLawful graph s → (u n v : ℕ) → heads s u n ≡ true → opens s v n ≡ true → (v ≡ u) ⊎ (precedes s u v ≡ true)
-head-before graph s h u n v hd o = go (true_or_false (v == u))
+head-before graph s h u n v hd o = go (cases_Bool (v == u))
   where
     fv : at is_frame (entries s n) v ≡ true
     fv = opens-frame graph s h v n o
 
     go : ((v == u) ≡ true) ⊎ ((v == u) ≡ false) → (v ≡ u) ⊎ (precedes s u v ≡ true)
-    go (inl e) = inl (same_number v u e)
-    go (inr e) = two (or_cases _ _ (behind-total (entries s n) u v (at-has is_frame (entries s n) u (head-live graph s h u n hd)) (at-has is_frame (entries s n) v fv) (λ x. is_not_true _ e (equal_test v u (sym x)))))
+    go (inl e) = inl (eqb-true v u e)
+    go (inr e) = two (or_cases _ _ (behind-total (entries s n) u v (at-has is_frame (entries s n) u (head-live graph s h u n hd)) (at-has is_frame (entries s n) v fv) (λ x. both_ways _ e (eq-eqb v u (sym x)))))
       where
         two : (behind (entries s n) u v ≡ true) ⊎ (behind (entries s n) v u ≡ true) → (v ≡ u) ⊎ (precedes s u v ≡ true)
         two (inl b) = inr (h.order_is_kept.lists n u v b (opens-live s v n o))
-        two (inr b) = absurd (is_not_true _ (first_open-none (entries s n) u v (h.one_entry n) (head-first (entries s n) u hd) b) fv)
+        two (inr b) = absurd (both_ways _ (first_open-none (entries s n) u v (h.one_entry n) (head-first (entries s n) u hd) b) fv)
 
 -- An executing call at whose change the node reacts is the first open one there, or after it.
 reacting-after : (graph : Graph) (s : Core) → IsLawful graph s → (u n m v : ℕ) → heads s u n ≡ true → opens s v m ≡ true → executes s v ≡ true → reacts graph s v m n ≡ true → (v ≡ u) ⊎ (precedes s u v ≡ true)
@@ -108,7 +106,7 @@ reacting-after graph s h u n m v hd o x r = go (or_cases _ _ (h.frames_spread v 
 
         two : (c.by.0 ≡ u) ⊎ (precedes s u c.by.0 ≡ true) → (v ≡ u) ⊎ (precedes s u v ≡ true)
         two (inl e) = inr (subst (λ (w : ℕ). precedes s w v ≡ true) e c.by.1)
-        two (inr p) = inr (or_left _ _ (reaches-trans s.pairs u c.by.0 v (live-chain s u c.by.0 lu p) chain))
+        two (inr p) = inr (or_left _ _ (reaches-join s.pairs u c.by.0 v (live-chain s u c.by.0 lu p) chain))
 
 -- An executing call that has open what the first open call's node rests on is that call, or after it.
 pub opener-later : (graph : Graph) (s : Core) → IsLawful graph s → (u n m v : ℕ) → heads s u n ≡ true → is_in m (deps graph s u n) ≡ true → opens s v m ≡ true → executes s v ≡ true → (v ≡ u) ⊎ (precedes s u v ≡ true)
@@ -131,7 +129,7 @@ opener-later graph s h u n m v hd d o x = go (or_cases _ _ (sym (list_any-append
       where
         begins : (z : Option ℕ) → r.begins ≡ z → is_from s m z v ≡ true
         begins None k = refl
-        begins (Some b) k = not_false _ (λ a. no_frame-before graph s h v m n r b o e k (not_up_to-behind (entries s m) v b hv a))
+        begins (Some b) k = true_from_ne_false _ (λ a. no_frame-before graph s h v m n r b o e k (not_up_to-behind (entries s m) v b hv a))
 
     -- the last run covers the call, or the first open call has dropped the candidate before it
     picked : (c : Option Run) → last_run_of s n m ≡ c → is_some c ≡ true → (v ≡ u) ⊎ (precedes s u v ≡ true)
@@ -145,37 +143,37 @@ opener-later graph s h u n m v hd d o x = go (or_cases _ _ (sym (list_any-append
 
         edge : (b : Bool) → has_node (outs s m) n ≡ b → (v ≡ u) ⊎ (precedes s u v ≡ true)
         edge true y = covering None (rw (y, dropper) refl) refl
-        edge false y = cases (true_or_false (v == u))
+        edge false y = cases (cases_Bool (v == u))
           where
             drops : dropper s n m ≡ Some u
             drops = rw (y, dropper) (head-first (entries s n) u hd)
 
             entered : has (entries s m) u ≡ true
             entered = lawful-ends graph s h n m u (last-any s n m (ends_at u)
-                (subst (λ (o : Option Run). list_any (ends_at u) (last_run o (dropper s n m)) ≡ true) (sym e) (subst (λ (o : Option ℕ). list_any (ends_at u) (last_run (Some r) o) ≡ true) (sym drops) (or_left _ _ (equal_test u u refl))))) lu
+                (subst (λ (o : Option Run). list_any (ends_at u) (last_run o (dropper s n m)) ≡ true) (sym e) (subst (λ (o : Option ℕ). list_any (ends_at u) (last_run (Some r) o) ≡ true) (sym drops) (or_left _ _ (eq-eqb u u refl))))) lu
 
             cases : ((v == u) ≡ true) ⊎ ((v == u) ≡ false) → (v ≡ u) ⊎ (precedes s u v ≡ true)
-            cases (inl w) = inl (same_number v u w)
-            cases (inr w) = two (or_cases _ _ (behind-total (entries s m) u v entered hv (λ z. is_not_true _ w (equal_test v u (sym z)))))
+            cases (inl w) = inl (eqb-true v u w)
+            cases (inr w) = two (or_cases _ _ (behind-total (entries s m) u v entered hv (λ z. both_ways _ w (eq-eqb v u (sym z)))))
               where
                 two : (behind (entries s m) u v ≡ true) ⊎ (behind (entries s m) v u ≡ true) → (v ≡ u) ⊎ (precedes s u v ≡ true)
                 two (inl b) = inr (h.order_is_kept.lists m u v b (opens-live s v m o))
-                two (inr b) = covering (Some u) drops (and_make _ _ lu b)
+                two (inr b) = covering (Some u) drops (and_from _ _ lu b)
 
     go : (is_in m (inputs_of (node_at graph n)) ≡ true) ⊎ (is_in m (prior_picks s u n) ≡ true) → (v ≡ u) ⊎ (precedes s u v ≡ true)
-    go (inl k) = by_run (or_left _ _ (input-static graph m n (subst (λ (j : ℕ). n < j) h.lists (head-there graph s h u n hd)) k))
+    go (inl k) = by_run (or_left _ _ (in_static_outs graph m n (subst (λ (j : ℕ). n < j) h.lists (head-there graph s h u n hd)) k))
     go (inr k) = picked (last_run_of s n m) refl (seen-all m (entries s n) ∙ sym (head-prior graph s h u n m hd) ∙ k)
 
 -- An executing first open call wants nothing that its node rests on.
 pub head-wants_none : (graph : Graph) (s : Core) → IsLawful graph s → (u n m : ℕ) → heads s u n ≡ true → executes s u ≡ true → is_in m (deps graph s u n) ≡ true → wants s u m ≡ false
-head-wants_none graph s h u n m hd x d = not_true _ (λ w. none (h.wants_are_covered u m x w))
+head-wants_none graph s h u n m hd x d = false_from_ne_true _ (λ w. none (h.wants_are_covered u m x w))
   where
     none : IsCovered s u m → ⊥
     none c = go (opener-later graph s h u n m c.by.0 hd d c.by.2 runs_it)
       where
         runs_it : executes s c.by.0 ≡ true
-        runs_it = not_false _ (λ e. is_not_true _ (h.framing_comes_last.before c.by.0 u (let l = opens-live s c.by.0 m c.by.2 in let f : is_framing s c.by.0 ≡ true = grind (arith, e, l) in f) x) c.by.1)
+        runs_it = true_from_ne_false _ (λ e. both_ways _ (h.framing_comes_last.before c.by.0 u (let l = opens-live s c.by.0 m c.by.2 in let f : is_framing s c.by.0 ≡ true = grind (arith, e, l) in f) x) c.by.1)
 
         go : (c.by.0 ≡ u) ⊎ (precedes s u c.by.0 ≡ true) → ⊥
-        go (inl e) = is_not_true _ c.not_open (subst (λ (w : ℕ). opens s w m ≡ true) e c.by.2)
-        go (inr p) = is_not_true _ (before-not_after graph s h u c.by.0 p) c.by.1
+        go (inl e) = both_ways _ c.not_open (subst (λ (w : ℕ). opens s w m ≡ true) e c.by.2)
+        go (inr p) = both_ways _ (before-not_after graph s h u c.by.0 p) c.by.1

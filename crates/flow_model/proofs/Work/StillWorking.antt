@@ -1,11 +1,13 @@
 -- The first open call that works at a node works on, after each step of another call and each of its own elsewhere.
 use Rattle.std.proofs.Common.{◌≡◌, ℕ, Bool, true, false, ◌&&◌, ◌||◌, not, ◌==◌, ◌⊎◌, inl, inr, refl, sym, ap, arith, List, ◌++◌, true≢false, ◌∙◌, subst, Option, Some, None}
+use Rattle.std.proofs.lemmas.Bool.{or_right, eqb-true, eq-eqb, false_from_ne_true, both_ways, cases_Bool, true_from_ne_false}
 use Rattle.std.specs.Prelude.{is_some}
 use Rattle.std.specs.List.{list_any}
 use Rattle.script_tree.specs.declared.value.Value.{Value}
 use Rattle.signal_graph.specs.Graph.{Graph, is_in, is_source, node_at, inputs_of}
 use Rattle.signal_graph.specs.Values.{nodes_in}
 use Rattle.order_graph.specs.Order.{reaches}
+use Rattle.order_graph.proofs.Reaching.{reaches-join}
 use Rattle.node_versions.specs.declared.entry.State.TheVariants.{Frame, Done}
 use Rattle.node_versions.specs.declared.entry.Entry.{Entry}
 use Rattle.node_versions.specs.Entries.{at, is_frame, is_mark, last_done, first_open, picks_of, picks_before, value_before, state_of}
@@ -17,9 +19,7 @@ use Rattle.flow_model.specs.Machine.Words.{deps, heads, touched, at_front, value
 use Rattle.flow_model.specs.Machine.Changes.{enter, raise, ensure_mark, set_state, closed, opened, finish, tell_call, add_edge}
 use Rattle.flow_model.specs.Machine.Steps.{allowed, apply, open_node, frame, started, counted, keep_found, is_change, with_look, look_value}
 use Rattle.flow_model.specs.Kept.Lawful.{IsLawful, IsWorking, IsCovered, OrderIsKept, FramingComesLast, WantsAreCovered}
-use Rattle.flow_model.proofs.General.Truths.{or_right, same_number, equal_test, not_true, not_false, is_not_true, true_or_false}
 use Rattle.flow_model.proofs.OneStep.WhoMayStep.{opens-live, executes-live, wants-live, frame-wants, at_front-executes, at_front-heads, can_work-at_front, due-can_work, discover-due}
-use Rattle.flow_model.proofs.OneList.Chains.{reaches-trans}
 use Rattle.flow_model.proofs.OneList.CallsAndCells.{option_call, change_call-same, change_call-other, with_call-keeps, map_call-keeps, without_call-other, without_call-same}
 use Rattle.flow_model.proofs.OneStep.WhoLivesAndFrames.{PhaseStep, SamePhases, step-phases, frame-same, discover-same}
 use Rattle.flow_model.proofs.OneStep.WhoLivesAndFrames as phases
@@ -57,15 +57,15 @@ front-working graph s h t n f k = record {
 
 -- A test that a change of calls keeps true.
 with_call-grows : (read : LiveCall → Bool) (s : Core) (t : ℕ) (f : LiveCall → LiveCall) → ((c : LiveCall) → (f c).version ≡ c.version) → ((c : LiveCall) → read c ≡ true → read (f c) ≡ true) → (u : ℕ) → read (call s u) ≡ true → read (call (with_call s t f) u) ≡ true
-with_call-grows read s t f v k u h = go (true_or_false (u == t))
+with_call-grows read s t f v k u h = go (cases_Bool (u == t))
   where
     optional : (o : Option LiveCall) → read (call_or o) ≡ true → read (call_or (option_call f o)) ≡ true
     optional None x = x
     optional (Some c) x = k c x
 
     go : ((u == t) ≡ true) ⊎ ((u == t) ≡ false) → read (call (with_call s t f) u) ≡ true
-    go (inl e) = subst (λ (w : ℕ). read (call (with_call s t f) w) ≡ true) (sym (same_number u t e)) (ap (λ (o : Option LiveCall). read (call_or o)) (change_call-same t f v s.calls) ∙ optional (call_of s.calls t) (subst (λ (w : ℕ). read (call s w) ≡ true) (same_number u t e) h))
-    go (inr e) = ap (λ (o : Option LiveCall). read (call_or o)) (change_call-other t u f v s.calls (λ x. is_not_true _ e (equal_test u t x))) ∙ h
+    go (inl e) = subst (λ (w : ℕ). read (call (with_call s t f) w) ≡ true) (sym (eqb-true u t e)) (ap (λ (o : Option LiveCall). read (call_or o)) (change_call-same t f v s.calls) ∙ optional (call_of s.calls t) (subst (λ (w : ℕ). read (call s w) ≡ true) (eqb-true u t e) h))
+    go (inr e) = ap (λ (o : Option LiveCall). read (call_or o)) (change_call-other t u f v s.calls (λ x. both_ways _ e (eq-eqb u t x))) ∙ h
 
 -- What a call has changed it has changed after a step that doesn't end it.
 finished-changes : (s : Core) (t n : ℕ) (v : Value) (b : Bool) (ps : List (Option ℕ)) (u m : ℕ) → changes s u m ≡ true → changes (finish s t n v b ps) u m ≡ true
@@ -94,11 +94,11 @@ step-changes graph s (steps.Discover t n c) u m l k = let q = with_cell (ensure_
 step-changes graph s (steps.Drop t n o) u m l k = ensured (λ x. is_in m x.changed) s t o u ∙ k
 step-changes graph s (steps.Mark t n) u m l k = k
 step-changes graph s (steps.Look t) u m l k = with_call-keeps (λ c. is_in m c.changed) s t (with_look (look_value s t (next_look s t))) (λ c. refl) (λ c. refl) u ∙ k
-step-changes graph s (steps.End t) u m l k = go (true_or_false (u == t))
+step-changes graph s (steps.End t) u m l k = go (cases_Bool (u == t))
   where
     go : ((u == t) ≡ true) ⊎ ((u == t) ≡ false) → changes (apply graph s (steps.End t)) u m ≡ true
-    go (inl e) = absurd (true≢false (sym (subst (λ (w : ℕ). live (apply graph s (steps.End t)) w ≡ true) (same_number u t e) l) ∙ ap (λ (o : Option LiveCall). is_some o) (without_call-same t s.calls)))
-    go (inr e) = ap (λ (o : Option LiveCall). is_in m (call_or o).changed) (without_call-other t u s.calls (λ x. is_not_true _ e (equal_test u t x))) ∙ k
+    go (inl e) = absurd (true≢false (sym (subst (λ (w : ℕ). live (apply graph s (steps.End t)) w ≡ true) (eqb-true u t e) l) ∙ ap (λ (o : Option LiveCall). is_some o) (without_call-same t s.calls)))
+    go (inr e) = ap (λ (o : Option LiveCall). is_in m (call_or o).changed) (without_call-other t u s.calls (λ x. both_ways _ e (eq-eqb u t x))) ∙ k
 step-changes graph s (steps.Collect n) u m l k = k
 
 -- A call with a Frame executes on.
@@ -108,10 +108,10 @@ step-executes graph s step h a u n f x = go (step-phases graph s step a)
     go : PhaseStep s (apply graph s step) → executes (apply graph s step) u ≡ true
     go (phases.stays k) = subst (λ (e : ℕ → Bool). e u ≡ true) (sym k.executing) x
     go (phases.starts t ft l e) = e u ∙ or_right (u == t) (executes s u) x
-    go (phases.ends t i n2 l e) = e u ∙ other (true_or_false (u == t))
+    go (phases.ends t i n2 l e) = e u ∙ other (cases_Bool (u == t))
       where
         other : ((u == t) ≡ true) ⊎ ((u == t) ≡ false) → (not (u == t) && executes s u) ≡ true
-        other (inl k) = absurd (is_not_true _ (idle-no_frame graph s h t n i) (subst (λ (w : ℕ). at is_frame (entries s n) w ≡ true) (same_number u t k) f))
+        other (inl k) = absurd (both_ways _ (idle-no_frame graph s h t n i) (subst (λ (w : ℕ). at is_frame (entries s n) w ≡ true) (eqb-true u t k) f))
         other (inr k) = grind (arith, k, x)
 
 -- ---- what the call comes to want
@@ -119,7 +119,7 @@ step-executes graph s step h a u n f x = go (step-phases graph s step a)
 -- Where calls have come to want more, none has come to want what a first open call's node rests on.
 no_new-wants : (graph : Graph) (s : Core) → IsLawful graph s → (q : Core) → OrderIsKept q → FramingComesLast q → WantsAreCovered q → SamePhases s q
     → (u n m : ℕ) → heads s u n ≡ true → executes s u ≡ true → is_in m (deps graph s u n) ≡ true → ((v : ℕ) → (v == u) ≡ false → opens q v m ≡ true → opens s v m ≡ true) → ((v w : ℕ) → reaches s.pairs v w ≡ true → reaches q.pairs v w ≡ true) → wants q u m ≡ false
-no_new-wants graph s h q order framing covered same u n m hd x d back grows = not_true _ (λ w. none (covered u m xq w))
+no_new-wants graph s h q order framing covered same u n m hd x d back grows = false_from_ne_true _ (λ w. none (covered u m xq w))
   where
     xq : executes q u ≡ true
     xq = subst (λ (e : ℕ → Bool). e u ≡ true) (sym same.executing) x
@@ -131,20 +131,20 @@ no_new-wants graph s h q order framing covered same u n m hd x d back grows = no
         v = c.by.0
 
         other : (v == u) ≡ false
-        other = not_true _ (λ e. is_not_true _ c.not_open (subst (λ (w : ℕ). opens q w m ≡ true) (same_number v u e) c.by.2))
+        other = false_from_ne_true _ (λ e. both_ways _ c.not_open (subst (λ (w : ℕ). opens q w m ≡ true) (eqb-true v u e) c.by.2))
 
         lv : live q v ≡ true
         lv = opens-live q v m c.by.2
 
         runs_it : executes s v ≡ true
-        runs_it = subst (λ (e : ℕ → Bool). e v ≡ true) same.executing (not_false _ (λ e. is_not_true _ (framing.before v u (let f : is_framing q v ≡ true = grind (arith, e, lv) in f) xq) c.by.1))
+        runs_it = subst (λ (e : ℕ → Bool). e v ≡ true) same.executing (true_from_ne_false _ (λ e. both_ways _ (framing.before v u (let f : is_framing q v ≡ true = grind (arith, e, lv) in f) xq) c.by.1))
 
         go : (v ≡ u) ⊎ (precedes s u v ≡ true) → ⊥
-        go (inl e) = is_not_true _ other (equal_test v u e)
-        go (inr p) = is_not_true _ (order.no_cycle v) (reaches-trans q.pairs v u v (live-chain q v u lv c.by.1) (grows u v (live-chain s u v (executes-live s u x) p)))
+        go (inl e) = both_ways _ other (eq-eqb v u e)
+        go (inr p) = both_ways _ (order.no_cycle v) (reaches-join q.pairs v u v (live-chain q v u lv c.by.1) (grows u v (live-chain s u v (executes-live s u x) p)))
 
 framed-no_wants : (graph : Graph) (s : Core) → IsLawful graph s → (t m0 : ℕ) → allowed graph s (steps.Frame t m0) ≡ true → (u n m : ℕ) → heads s u n ≡ true → executes s u ≡ true → is_in m (deps graph s u n) ≡ true → wants (frame graph s t m0) u m ≡ false
-framed-no_wants graph s h t m0 a u n m hd x d = go (true_or_false (u == t))
+framed-no_wants graph s h t m0 a u n m hd x d = go (cases_Bool (u == t))
   where
     lt : live s t ≡ true
     lt = wants-live s t m0 (frame-wants graph s t m0 a)
@@ -177,7 +177,7 @@ framed-no_wants graph s h t m0 a u n m hd x d = go (true_or_false (u == t))
     go : ((u == t) ≡ true) ⊎ ((u == t) ≡ false) → wants (frame graph s t m0) u m ≡ false
     go (inr ne) = same ne ∙ head-wants_none graph s h u n m hd x d
     go (inl e) = no_new-wants graph s h (frame graph s t m0) (step-OrderIsKept graph s (steps.Frame t m0) h a) (step-FramingComesLast graph s (steps.Frame t m0) h a) (step-WantsAreCovered graph s (steps.Frame t m0) h a) (frame-same graph s t m0) u n m hd x d
-        (λ v ne o. back v (subst (λ (w : ℕ). (v == w) ≡ false) (same_number u t e) ne) o) grows
+        (λ v ne o. back v (subst (λ (w : ℕ). (v == w) ≡ false) (eqb-true u t e) ne) o) grows
 
 discovered-no_wants : (graph : Graph) (s : Core) → IsLawful graph s → (t n0 c : ℕ) → allowed graph s (steps.Discover t n0 c) ≡ true → (u n m : ℕ) → heads s u n ≡ true → executes s u ≡ true → is_in m (deps graph s u n) ≡ true → wants (apply graph s (steps.Discover t n0 c)) u m ≡ false
 discovered-no_wants graph s h t n0 c a u n m hd x d =
@@ -199,11 +199,11 @@ step-no_wants graph s (steps.Discover t n0 c) h a u n m hd x d = discovered-no_w
 step-no_wants graph s (steps.Drop t n0 o) h a u n m hd x d = ensured (λ y. is_in m y.wanted) s t o u ∙ head-wants_none graph s h u n m hd x d
 step-no_wants graph s (steps.Mark t n0) h a u n m hd x d = head-wants_none graph s h u n m hd x d
 step-no_wants graph s (steps.Look t) h a u n m hd x d = with_call-keeps (λ c. is_in m c.wanted) s t (with_look (look_value s t (next_look s t))) (λ c. refl) (λ c. refl) u ∙ head-wants_none graph s h u n m hd x d
-step-no_wants graph s (steps.End t) h a u n m hd x d = go (true_or_false (u == t))
+step-no_wants graph s (steps.End t) h a u n m hd x d = go (cases_Bool (u == t))
   where
     go : ((u == t) ≡ true) ⊎ ((u == t) ≡ false) → wants (apply graph s (steps.End t)) u m ≡ false
-    go (inl e) = subst (λ (v : ℕ). wants (apply graph s (steps.End t)) v m ≡ false) (sym (same_number u t e)) (ap (λ (o : Option LiveCall). is_in m (call_or o).wanted) (without_call-same t s.calls))
-    go (inr e) = ap (λ (o : Option LiveCall). is_in m (call_or o).wanted) (without_call-other t u s.calls (λ x. is_not_true _ e (equal_test u t x))) ∙ head-wants_none graph s h u n m hd x d
+    go (inl e) = subst (λ (v : ℕ). wants (apply graph s (steps.End t)) v m ≡ false) (sym (eqb-true u t e)) (ap (λ (o : Option LiveCall). is_in m (call_or o).wanted) (without_call-same t s.calls))
+    go (inr e) = ap (λ (o : Option LiveCall). is_in m (call_or o).wanted) (without_call-other t u s.calls (λ x. both_ways _ e (eq-eqb u t x))) ∙ head-wants_none graph s h u n m hd x d
 step-no_wants graph s (steps.Collect n0) h a u n m hd x d = head-wants_none graph s h u n m hd x d
 
 -- ---- what the node rests on
@@ -247,12 +247,12 @@ still-working graph s step h a u n hd w first last = record {
     both a b h k = grind (arith, h, k)
 
     closed_on : (m : ℕ) → is_in m (deps graph s u n) ≡ true → opens q u m ≡ false
-    closed_on m d = not_true _ (λ o. none (step-opens_back graph s step h a u m o))
+    closed_on m d = false_from_ne_true _ (λ o. none (step-opens_back graph s step h a u m o))
       where
         one : (a b : Bool) → (a || b) ≡ false → a ≡ false
         one false b h = refl
         one true b h = absurd (true≢false h)
 
         none : (opens s u m ≡ true) ⊎ (wants s u m ≡ true) → ⊥
-        none (inl k) = is_not_true _ (one (opens s u m) (wants s u m) (any-none (λ j. opens s u j || wants s u j) (deps graph s u n) m w.no_open d)) k
-        none (inr k) = is_not_true _ (head-wants_none graph s h u n m hd w.executing d) k
+        none (inl k) = both_ways _ (one (opens s u m) (wants s u m) (any-none (λ j. opens s u j || wants s u j) (deps graph s u n) m w.no_open d)) k
+        none (inr k) = both_ways _ (head-wants_none graph s h u n m hd w.executing d) k

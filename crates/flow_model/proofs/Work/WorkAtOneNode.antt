@@ -1,8 +1,10 @@
 -- The work at one node stays kept through each step that gathers, evaluates or leaves what is there.
 use Rattle.std.proofs.Common.{◌≡◌, ℕ, Bool, true, false, ◌||◌, ◌==◌, ◌⊎◌, inl, inr, refl, sym, ap, List, [], ◌∷◌, ◌++◌, true≢false, ◌∙◌, subst, Option, Some, None}
+use Rattle.std.proofs.lemmas.Bool.{or_cases, or_left, and_parts, and_from, eqb-true, both_ways, not-true}
 use Rattle.std.specs.Prelude.{is_some, is_none}
 use Rattle.std.specs.List.{list_all}
 use Rattle.script_tree.specs.declared.value.Value.{Value}
+use Rattle.script_tree.proofs.Truths.{and_left, and_right}
 use Rattle.signal_graph.specs.Graph.{Graph, is_in, node_at, inputs_of}
 use Rattle.signal_graph.specs.Values.{nodes_in}
 use Rattle.node_versions.specs.Entries.{last_done, first_open}
@@ -12,8 +14,7 @@ use Rattle.flow_model.specs.Machine.State.{Core, Cell, Found, cell, executes, en
 use Rattle.flow_model.specs.Machine.Words.{heads, touched, due, at_front, gathered_of, is_gathered, is_found, picks_of_found, is_candidate, found_candidates}
 use Rattle.flow_model.specs.Machine.Steps.{allowed, apply, all_gathered, gather, keep_found, keep_body}
 use Rattle.flow_model.specs.Kept.Lawful.{IsLawful, IsWorking, SomeHead}
-use Rattle.flow_model.proofs.General.Truths.{or_cases, or_left, and_both, and_make, same_number, is_not_true}
-use Rattle.flow_model.proofs.OneStep.WhoMayStep.{and_left, and_right, not_is, due-can_work, can_work-at_front, at_front-heads}
+use Rattle.flow_model.proofs.OneStep.WhoMayStep.{due-can_work, can_work-at_front, at_front-heads}
 use Rattle.flow_model.proofs.OrderStays.NoFrameBeforeDones.{head-first}
 use Rattle.flow_model.proofs.OneStep.QuietSteps.{finishes, step-quiet, SameWork}
 use Rattle.flow_model.proofs.OneStep.FirstOpenCalls.{quiet-last_done, quiet-head}
@@ -103,7 +104,7 @@ gathered-more m i v (p ∷ ps) = go (p.0 == m) (gathered-more m i v ps)
 
 all-more : (test test2 : ℕ → Bool) (ms : List ℕ) → ((m : ℕ) → test m ≡ true → test2 m ≡ true) → list_all test ms ≡ true → list_all test2 ms ≡ true
 all-more test test2 [] f h = refl
-all-more test test2 (m ∷ ms) f h = let b = and_both (test m) (list_all test ms) h in and_make (test2 m) (list_all test2 ms) (f m b.0) (all-more test test2 ms f b.1)
+all-more test test2 (m ∷ ms) f h = let b = and_parts (test m) (list_all test ms) h in and_from (test2 m) (list_all test2 ms) (f m b.0) (all-more test test2 ms f b.1)
 
 pub gather-asked : (graph : Graph) (s : Core) (t n i : ℕ) → allowed graph s (steps.Gather t n i) ≡ true → (is_in i (inputs_of (node_at graph n)) || is_candidate s n i) ≡ true
 gather-asked graph s t n i a = and_right _ _ (and_left _ _ (and_left _ _ a))
@@ -134,7 +135,7 @@ gathered-at graph s q h t n i v d asked f e = record {
 
     right : (m : ℕ) → (is_gathered s n m ≡ true) ⊎ ((i == m) ≡ true) → (is_in m (inputs_of (node_at graph n)) || is_candidate s n m) ≡ true
     right m (inl k) = h.work_is_kept.gathers_right n m k
-    right m (inr k) = subst (λ (j : ℕ). (is_in j (inputs_of (node_at graph n)) || is_candidate s n j) ≡ true) (same_number i m k) asked
+    right m (inr k) = subst (λ (j : ℕ). (is_in j (inputs_of (node_at graph n)) || is_candidate s n j) ≡ true) (eqb-true i m k) asked
 
     all : (ms : List ℕ) → all_gathered s n ms ≡ true → all_gathered q n ms ≡ true
     all ms k = all-more (is_gathered s n) (is_gathered q n) ms (λ m g. now m ∙ or_left _ _ g) k
@@ -148,7 +149,7 @@ pub evaluate-gathered : (graph : Graph) (s : Core) (t n : ℕ) → allowed graph
 evaluate-gathered graph s t n a = and_right _ _ (and_left _ _ a)
 
 pub evaluate-not_found : (graph : Graph) (s : Core) (t n : ℕ) → allowed graph s (steps.Evaluate t n) ≡ true → is_found s n ≡ false
-evaluate-not_found graph s t n a = not_is _ (and_right _ _ a)
+evaluate-not_found graph s t n a = not-true _ (and_right _ _ a)
 
 no_candidate : (s : Core) (n m : ℕ) → is_found s n ≡ false → is_candidate s n m ≡ false
 no_candidate s n m h = go (cell s n).found h
@@ -163,7 +164,7 @@ evaluated-at graph s q h t n x front touch all none f e = record {
   gathers_right = λ m k. or_left _ _ (input m (or_cases _ _ (h.work_is_kept.gathers_right n m (back m k))));
   finds = λ k. still-some graph s q n f here;
   finds_last = λ k. subst (λ (g : List (ℕ × Value)). list_all (λ m. is_some (gathered_of m g)) (inputs_of (node_at graph n)) ≡ true) (sym gathered) all;
-  bodies = λ k. absurd (is_not_true _ none (h.work_is_kept.bodies n (sym (ap (λ (c : Cell). is_none c.body) e) ∙ k)).0);
+  bodies = λ k. absurd (both_ways _ none (h.work_is_kept.bodies n (sym (ap (λ (c : Cell). is_none c.body) e) ∙ k)).0);
 }
   where
     gathered : (cell q n).gathered ≡ (cell s n).gathered
@@ -177,7 +178,7 @@ evaluated-at graph s q h t n x front touch all none f e = record {
 
     input : (m : ℕ) → (is_in m (inputs_of (node_at graph n)) ≡ true) ⊎ (is_candidate s n m ≡ true) → is_in m (inputs_of (node_at graph n)) ≡ true
     input m (inl k) = k
-    input m (inr k) = absurd (is_not_true _ (no_candidate s n m none) k)
+    input m (inr k) = absurd (both_ways _ (no_candidate s n m none) k)
 
 -- ---- Body
 

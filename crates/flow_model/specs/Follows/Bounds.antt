@@ -2,9 +2,6 @@
 use Rattle.std.specs.Prelude.{◌≡◌, ℕ, ◌+◌, ◌<◌, ◌≤◌, true, List, length, filter}
 use Rattle.std.specs.List.{AllByRecursion}
 use Rattle.script_tree.specs.declared.limits.TheConstants.{SELECTORS}
-use Rattle.script_tree.specs.declared.value.Value.{Value}
-use Rattle.signal_graph.specs.declared.call.Reply.{Reply}
-use Rattle.signal_graph.specs.declared.call.Reply.TheVariants.{Fire as Fired, Read as Seen}
 use Rattle.signal_graph.specs.Graph.{Graph, node_at, numbers, is_in, inputs_of, selectors_of}
 use Rattle.flow_model.specs.Machine.State.{Core, LiveCall, call, cell, outs, wants, opens, changes}
 use Rattle.flow_model.specs.Machine.Words.{is_gathered, found_candidates}
@@ -36,8 +33,3 @@ pub record HasBounds (graph : Graph) (s : Core) : Type 0 where
   pub open_nodes : (u : ℕ) → length (call s u).open_nodes ≤ length graph.nodes
   pub changed : (u : ℕ) → IsLive s u → length (call s u).changed ≤ length graph.nodes
   pub evaluated : (u : ℕ) → IsLive s u → (call s u).evaluated ≤ length graph.nodes
-
--- what a reply says of the looks
-abbrev pub looks_of_reply : Reply → List Value
-looks_of_reply (Fired changed evaluated looks) = looks
-looks_of_reply (Seen looks) = looks
