@@ -1,13 +1,16 @@
 -- How a set stays kept.
-use Rattle.std.proofs.Common.{◌≡◌, ◌≢◌, ℕ, zero, suc, ◌+◌, ◌*◌, ◌-◌, ◌/◌, ◌%◌, ◌<◌, ◌≤◌, Bool, true, false, not, ◌&&◌, ◌||◌, ◌==◌, List, [], ◌∷◌, length, get_or, take, drop, ◌++◌, refl, sym, ap, ◌∙◌, arith, length-set, replicate}
+use Rattle.std.proofs.Common.{◌≡◌, ◌≢◌, ℕ, zero, suc, ◌+◌, ◌*◌, ◌-◌, ◌/◌, ◌%◌, ◌<◌, ◌≤◌, Bool, true, false, not, ◌&&◌, ◌||◌, ◌==◌, List, [], ◌∷◌, length, get_or, refl, sym, ap, ◌∙◌, arith, length-set, replicate}
 use Rattle.std.proofs.lemmas.Bool.{ne_eqb}
-use Rattle.std.proofs.lemmas.List.{take_at}
 use Rattle.std.proofs.lemmas.Nat.Bits.{bit_at-zero}
+use Rattle.std.proofs.Math.Bool.{and-false}
 use Rattle.std.specs.Int.{bit_at}
-use Rattle.node_set.specs.Bits.{is_set, with_bit, without_bit, Summarizes}
+use Rattle.script_tree.specs.Bits.{is_set}
+use Rattle.script_tree.proofs.BitLemmas.{is_set-word}
+use Rattle.node_set.specs.Bits.{with_bit, without_bit, Summarizes}
 use Rattle.node_set.specs.Members.{IsKept}
-use Rattle.node_set.proofs.BitLemmas.{is_set-word, is_set-with_bit, is_set-without_bit}
+use Rattle.node_set.proofs.BitLemmas.{is_set-with_bit, is_set-without_bit}
 use Rattle.node_set.proofs.Nodes.{nodes_of-clear, length-with, length-without}
+pub use Rattle.script_tree.proofs.Lists.{whole_slice}
 
 pub length-with_bit : (words : List ℕ) (q : ℕ) → length (with_bit words q) ≡ length words
 unfolding with_bit
@@ -50,10 +53,6 @@ kept_empty words size few some room z = record {
 or_other : (y q : ℕ) (b : Bool) → y ≢ q → ((y == q) || b) ≡ b
 or_other y q b ne = ap (λ t. t || b) (ne_eqb y q ne)
 
-and_false : (b : Bool) → (b && false) ≡ false
-and_false true = refl
-and_false false = refl
-
 pub kept_with : (words summary new : List ℕ) (size count q : ℕ) → IsKept words summary size count → q < size → is_set words q ≡ false → length new ≡ length summary → Summarizes new (with_bit words q) → IsKept (with_bit words q) new size (count + 1)
 kept_with words summary new size count q kept h missing same says =
     let len = length-with_bit words q in
@@ -82,7 +81,7 @@ kept_without words summary new size count q kept h there same says =
       room = omega arith;
       summary_room = same ∙ kept.summary_room;
       summarizes = says;
-      inside = λ y past. is_set-without_bit words q y within ∙ ap (λ b. not (y == q) && b) (kept.inside y past) ∙ and_false (not (y == q));
+      inside = λ y past. is_set-without_bit words q y within ∙ ap (λ b. not (y == q) && b) (kept.inside y past) ∙ and-false (not (y == q));
       counted = let n = length-without words size q h within there in let c = kept.counted in omega arith;
     }
 
@@ -93,6 +92,3 @@ some_counted words summary size count q kept h there =
     let n = length-without words size q h (omega arith) there in
     let c = kept.counted in
     omega arith
-
-pub whole_slice : {X : Type 0} (len : ℕ) (new old : List X) → length new ≡ length old → len ≡ length old → take len (new ++ drop (length new) old) ≡ new
-whole_slice len new old h e = take_at new (drop (length new) old) len (h ∙ sym e)

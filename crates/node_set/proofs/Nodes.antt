@@ -1,17 +1,16 @@
 -- The nodes of a set through its words.
 use Rattle.std.proofs.Common.{◌≡◌, ℕ, suc, ◌+◌, inl, inr, ◌/◌, ◌<◌, ◌≤◌, Bool, true, false, not, ◌&&◌, ◌||◌, ◌==◌, ltb, leb, List, [], ◌∷◌, length, refl, sym, ap, ◌∙◌, subst, arith}
 use Rattle.std.specs.Prelude.{Option, Some, None, IfSome, IfNone}
-use Rattle.std.proofs.lemmas.Bool.Decides.{nat_tests}
 use Rattle.std.proofs.lemmas.Bool.{cases_lt, cases_eq, lt-ltb, le-ltb, eq-eqb, ne_eqb, true≢false}
+use Rattle.std.proofs.Math.Bool.{and-false}
+use Rattle.std.proofs.Math.Dec.{leb-zero}
+use Rattle.script_tree.specs.Bits.{is_set}
 use Rattle.signal_graph.specs.Graph.{is_in}
 use Rattle.flow_model.specs.Machine.Sets.{put, take_out, IsSet}
-use Rattle.node_set.specs.Bits.{is_set, with_bit, without_bit, IsLowestFrom, HasNoneFrom}
+use Rattle.node_set.specs.Bits.{with_bit, without_bit, IsLowestFrom, HasNoneFrom}
 use Rattle.node_set.specs.Members.{Members, no_members, with_nodes, nodes_of, first_from, IsKept}
 use Rattle.node_set.proofs.BitLemmas.{is_set-with_bit, is_set-without_bit}
 use Rattle.node_set.proofs.Ranges.{chosen, in_chosen, chosen-same, chosen-none, chosen-IsSet, put-chosen, take_out-chosen, length-put, put-in, take_out-missing, first_from-is, first_from-none, length-chosen}
-
-leb-zero : (q : ℕ) → leb 0 q ≡ true
-leb-zero q = grind (arith, nat_tests)
 
 pub in_nodes : (words : List ℕ) (size q : ℕ) → q < size → is_in q (nodes_of words size) ≡ is_set words q
 unfolding nodes_of
@@ -40,10 +39,6 @@ nodes_of-without_bit words size q k =
     chosen-same (is_set (without_bit words q)) (λ y. not (y == q) && is_set words y) 0 size (λ y lo hi. is_set-without_bit words q y k)
     ∙ sym (take_out-chosen (is_set words) 0 size q)
 
-and_out : (b : Bool) → (b && false) ≡ false
-and_out true = refl
-and_out false = refl
-
 bring_back : (words : List ℕ) (q y : ℕ) → is_set words q ≡ true → is_set words y ≡ ((y == q) || (not (y == q) && is_set words y))
 bring_back words q y h = elim (cases_eq y q) [
   | inl same ↦ ap (is_set words) same ∙ h ∙ sym (ap (λ b. b || (not b && is_set words y)) (eq-eqb y q same))
@@ -55,7 +50,7 @@ pub length-without : (words : List ℕ) (size q : ℕ) → q < size → q / 64 <
 unfolding nodes_of
 length-without words size q h k there =
     let test : ℕ → Bool = λ y. not (y == q) && is_set words y in
-    let gone : is_in q (chosen test 0 size) ≡ false = in_chosen test 0 size q ∙ ap (λ b. (leb 0 q && ltb q (0 + size)) && (not b && is_set words q)) (eq-eqb q q refl) ∙ and_out (leb 0 q && ltb q (0 + size)) in
+    let gone : is_in q (chosen test 0 size) ≡ false = in_chosen test 0 size q ∙ ap (λ b. (leb 0 q && ltb q (0 + size)) && (not b && is_set words q)) (eq-eqb q q refl) ∙ and-false (leb 0 q && ltb q (0 + size)) in
     ap length (chosen-same (is_set words) (λ y. (y == q) || test y) 0 size (λ y lo hi. bring_back words q y there) ∙ sym (put-chosen test 0 size q (omega arith) (omega arith)))
     ∙ length-put q (chosen test 0 size) gone
     ∙ ap (λ xs. suc (length xs)) (sym (chosen-same (is_set (without_bit words q)) test 0 size (λ y lo hi. is_set-without_bit words q y k)))

@@ -1,9 +1,10 @@
 -- Ascending lists of the numbers of a range that pass a test.
 use Rattle.std.proofs.Common.{◌≡◌, ℕ, ◌+◌, inl, inr, ◌<◌, ◌≤◌, Bool, true, false, not, ◌&&◌, ◌||◌, ◌==◌, nat_eq, ltb, leb, cond, List, [], ◌∷◌, length, refl, sym, ap, ◌∙◌, arith, zero, suc}
 use Rattle.std.specs.Prelude.{nat_le, filter, Some, None}
-use Rattle.std.specs.List.{range_with_len, list_any, AllByRecursion}
+use Rattle.std.specs.List.{range_with_len, AllByRecursion}
 use Rattle.std.proofs.lemmas.Bool.Decides.{nat_tests, eqb_tells}
 use Rattle.std.proofs.lemmas.Bool.{cases_lt, cases_eq, eq-eqb, ne_eqb}
+use Rattle.script_tree.proofs.Lists.{any_cond, range_step}
 use Rattle.signal_graph.specs.Graph.{is_in}
 use Rattle.flow_model.specs.Machine.Sets.{put, take_out, least, IsSet}
 use Rattle.flow_model.specs.Machine.Lists.{is_empty}
@@ -12,13 +13,6 @@ use Rattle.node_set.specs.Members.{first_from}
 -- the numbers from a on, n of them, that pass
 abbrev pub chosen : (ℕ → Bool) → ℕ → ℕ → List ℕ
 chosen p a n = filter p (range_with_len a n)
-
-any_cond : (t : ℕ → Bool) (b : Bool) (x : ℕ) (xs : List ℕ) → list_any t (cond b (x ∷ xs) xs) ≡ ((b && t x) || list_any t xs)
-any_cond t true x xs = refl
-any_cond t false x xs = refl
-
-range_step : (p : ℕ → Bool) (a n q : ℕ) → ((p a && nat_eq a q) || ((leb (a + 1) q && ltb q (a + 1 + n)) && p q)) ≡ ((leb a q && ltb q (a + suc n)) && p q)
-range_step p a n q = grind (arith, nat_tests)
 
 pub in_chosen : (p : ℕ → Bool) (a n q : ℕ) → is_in q (chosen p a n) ≡ ((leb a q && ltb q (a + n)) && p q)
 in_chosen p a zero q = grind (arith, nat_tests)

@@ -1,58 +1,19 @@
 -- Searches for the lowest bit.
-use Rattle.std.proofs.Common.{◌≡◌, ℕ, ◌+◌, ◌-◌, ◌*◌, min, inl, inr, ◌/◌, ◌%◌, ◌^◌, ◌<◌, ◌≤◌, true, false, not, ◌==◌, List, length, get_or, bit_and, w64, refl, sym, ap, ◌∙◌, arith}
+use Rattle.std.proofs.Common.{◌≡◌, ℕ, ◌+◌, ◌-◌, ◌*◌, inl, inr, ◌/◌, ◌%◌, ◌^◌, ◌<◌, ◌≤◌, true, false, not, ◌==◌, List, length, get_or, w64, refl, sym, ap, ◌∙◌, arith}
 use Rattle.std.specs.Int.{bit_at, trailing_zeros}
 use Rattle.std.proofs.lemmas.Bool.Decides.{nat_tests}
-use Rattle.std.proofs.lemmas.Nat.{and_le_l}
-use Rattle.std.proofs.lemmas.Nat.Bits.{bit_at-lt, bit_at-zero, bit_at_mask_inside, bit_at_mask_below, bit_at_and, bit_at-trailing_zeros}
+use Rattle.std.proofs.lemmas.Nat.Bits.{bit_at-zero, bit_at-trailing_zeros}
 use Rattle.std.proofs.lemmas.Bool.{cases_lt}
 use Rattle.std.proofs.lemmas.List.{get_or_past}
-use Rattle.node_set.specs.Bits.{is_set, HasNoBit, IsLowestBit, IsLowestFrom, HasNoneFrom, Summarizes}
-use Rattle.node_set.proofs.BitLemmas.{is_set-word}
-
-masked_bit : (n k i : ℕ) → k ≤ i → i < 64 → bit_at (bit_and n (2 ^ 64 - 2 ^ k)) i ≡ bit_at n i
-masked_bit n k i h j =
-    let one = bit_at_mask_inside k 64 i h j in
-    let small = bit_at-lt n i in
-    bit_at_and n (2 ^ 64 - 2 ^ k) i ∙ ap (min (bit_at n i)) one ∙ omega arith
-
-cleared_bit : (n k i : ℕ) → i < k → bit_at (bit_and n (2 ^ 64 - 2 ^ k)) i ≡ 0
-cleared_bit n k i h = bit_at_and n (2 ^ 64 - 2 ^ k) i ∙ ap (min (bit_at n i)) (bit_at_mask_below k 64 i h) ∙ omega arith
-
-from_bit : (n k t : ℕ) → bit_at (bit_and n (2 ^ 64 - 2 ^ k)) t ≡ 1 → k ≤ t
-from_bit n k t h = elim (cases_lt t k) [ inl below ↦ let z = cleared_bit n k t below in absurd (omega arith) | inr above ↦ above ]
-
--- the lowest bit of what a mask leaves
-pub lowest_masked : (n k m : ℕ) → n < 2 ^ 64 → k < 64 → m ≡ 2 ^ 64 - 2 ^ k → 0 < bit_and n m → IsLowestBit n k (trailing_zeros w64 (bit_and n m))
-lowest_masked n k m fits h e some =
-    let least = bit_at-trailing_zeros w64 (bit_and n m) some (omega (arith, and_le_l n m)) in
-    let t = trailing_zeros w64 (bit_and n m) in
-    let at : bit_at (bit_and n (2 ^ 64 - 2 ^ k)) t ≡ 1 = ap (λ x. bit_at (bit_and n x) t) (sym e) ∙ least.1 in
-    let above : k ≤ t = from_bit n k t at in
-    record {
-      inside = least.0;
-      at_or_above = above;
-      is_one = sym (masked_bit n k t above least.0) ∙ at;
-      lowest = λ i from below. sym (masked_bit n k i from (omega arith)) ∙ ap (λ x. bit_at (bit_and n x) i) (sym e) ∙ least.2 i below;
-    }
-
-pub none_masked : (n k m : ℕ) → m ≡ 2 ^ 64 - 2 ^ k → bit_and n m ≡ 0 → HasNoBit n k
-none_masked n k m e zero_left i from below =
-    sym (masked_bit n k i from below) ∙ ap (λ x. bit_at (bit_and n x) i) (sym e) ∙ ap (λ x. bit_at x i) zero_left ∙ bit_at-zero i
+use Rattle.script_tree.specs.Bits.{is_set, IsLowestBit}
+use Rattle.script_tree.proofs.BitLemmas.{is_set-word, SearchedTo, clear_in_word}
+use Rattle.node_set.specs.Bits.{IsLowestFrom, HasNoneFrom, Summarizes}
 
 -- the lowest bit of a word that is not 0
 lowest_of_word : (n : ℕ) → n < 2 ^ 64 → 0 < n → IsLowestBit n 0 (trailing_zeros w64 n)
 lowest_of_word n fits some =
     let least = bit_at-trailing_zeros w64 n some fits in
     record { inside = least.0; at_or_above = omega arith; is_one = least.1; lowest = λ i from below. least.2 i below }
-
--- no number from `from` up to bit `low` of the word `index` is set
-pub record SearchedTo (words : List ℕ) (from index low : ℕ) : Type 0 where
-  pub within : low < 64
-  pub reached : from ≤ 64 * index + low
-  pub nothing : (p : ℕ) → from ≤ p → p < 64 * index + low → is_set words p ≡ false
-
-clear_in_word : (words : List ℕ) (i p : ℕ) → p / 64 ≡ i → bit_at (get_or words i 0) (p % 64) ≡ 0 → is_set words p ≡ false
-clear_in_word words i p e z = is_set-word words i p e ∙ ap (λ b. b == 1) z
 
 clear_past : (words : List ℕ) (p : ℕ) → length words ≤ p / 64 → is_set words p ≡ false
 clear_past words p h = clear_in_word words (p / 64) p refl (ap (λ w. bit_at w (p % 64)) (get_or_past words (p / 64) 0 h) ∙ bit_at-zero (p % 64))
@@ -72,23 +33,6 @@ lowest_in_word words from i low bit h searched lowest =
       lowest = λ p at below. elim (cases_lt p (64 * i + low)) [
         | inl before ↦ searched.nothing p at before
         | inr on ↦ clear_in_word words i p (omega arith) (lowest.lowest (p % 64) (omega arith) (omega arith))
-      ];
-    }
-
-pub search_begins : (words : List ℕ) (from : ℕ) → SearchedTo words from (from / 64) (from % 64)
-search_begins words from = record { within = omega arith; reached = omega arith; nothing = λ p at below. absurd (omega arith) }
-
--- a word without a bit moves the search to the next
-pub search_more : (words : List ℕ) (from i low : ℕ) → SearchedTo words from i low → HasNoBit (get_or words i 0) low → SearchedTo words from (i + 1) 0
-search_more words from i low searched none =
-    let within = searched.within in
-    let reached = searched.reached in
-    record {
-      within = omega arith;
-      reached = omega arith;
-      nothing = λ p at below. elim (cases_lt p (64 * i + low)) [
-        | inl before ↦ searched.nothing p at before
-        | inr on ↦ clear_in_word words i p (omega arith) (none (p % 64) (omega arith) (omega arith))
       ];
     }
 

@@ -4,8 +4,10 @@ use Rattle.std.specs.Int.{bit_at}
 use Rattle.std.proofs.lemmas.Bool.{cases_eq, eq-eqb, ne_eqb, true≢false}
 use Rattle.std.proofs.lemmas.Nat.Bits.{bit_at-zero}
 use Rattle.std.proofs.lemmas.List.{get_or-set_other}
-use Rattle.node_set.specs.Bits.{is_set, with_bit, without_bit, Summarizes}
-use Rattle.node_set.proofs.BitLemmas.{is_set-word, is_set-with_bit, is_set-without_bit}
+use Rattle.script_tree.specs.Bits.{is_set}
+use Rattle.script_tree.proofs.BitLemmas.{is_set-word}
+use Rattle.node_set.specs.Bits.{with_bit, without_bit, Summarizes}
+use Rattle.node_set.proofs.BitLemmas.{is_set-with_bit, is_set-without_bit}
 
 -- a word with a bit is not 0
 pub word_has : (words : List ℕ) (q : ℕ) → is_set words q ≡ true → not (get_or words (q / 64) 0 == 0) ≡ true

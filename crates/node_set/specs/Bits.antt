@@ -1,9 +1,6 @@
 -- Numbers as bits of words: q is the bit q modulo 64 of the word q / 64.
-use Rattle.std.specs.Prelude.{◌≡◌, ℕ, ◌-◌, ◌*◌, ◌^◌, ◌<◌, ◌≤◌, ◌/◌, ◌%◌, ◌==◌, not, true, false, Bool, List, length, slice_index, slice_set, bit_and, bit_or}
-use Rattle.std.specs.Int.{bit_at}
-
-unfoldable pub is_set : List ℕ → ℕ → Bool
-is_set words q = bit_at (slice_index words (q / 64)) (q % 64) == 1
+use Rattle.std.specs.Prelude.{◌≡◌, ℕ, ◌-◌, ◌*◌, ◌^◌, ◌<◌, ◌≤◌, ◌/◌, ◌%◌, ◌==◌, not, true, false, List, length, slice_index, slice_set, bit_and, bit_or}
+use Rattle.script_tree.specs.Bits.{is_set}
 
 -- the words with a bit set, and with it cleared
 unfoldable pub with_bit : List ℕ → ℕ → List ℕ
@@ -11,17 +8,6 @@ with_bit words q = slice_set words (q / 64) (bit_or (slice_index words (q / 64))
 
 unfoldable pub without_bit : List ℕ → ℕ → List ℕ
 without_bit words q = slice_set words (q / 64) (bit_and (slice_index words (q / 64)) (2 ^ 64 - 1 - 1 * 2 ^ (q % 64) % 2 ^ 64))
-
--- The word has no bit from this one on.
-abbrev pub HasNoBit : ℕ → ℕ → Type 0
-HasNoBit word from = (i : ℕ) → from ≤ i → i < 64 → bit_at word i ≡ 0
-
--- `bit` is the lowest of the word's bits from `from` on.
-pub record IsLowestBit (word from bit : ℕ) : Type 0 where
-  pub inside : bit < 64
-  pub at_or_above : from ≤ bit
-  pub is_one : bit_at word bit ≡ 1
-  pub lowest : (i : ℕ) → from ≤ i → i < bit → bit_at word i ≡ 0
 
 -- q is the least number from `from` on whose bit is set.
 pub record IsLowestFrom (words : List ℕ) (from q : ℕ) : Type 0 where

@@ -1,7 +1,8 @@
 -- What contracts see in a `NodeSet`.
 use Rattle.std.specs.Prelude.{◌≡◌, ℕ, ◌*◌, ◌≤◌, nat_le, true, false, List, [], ◌∷◌, length, filter, Option, Some, None}
 use Rattle.std.specs.List.{range_with_len}
-use Rattle.node_set.specs.Bits.{is_set, Summarizes}
+use Rattle.script_tree.specs.Bits.{is_set}
+use Rattle.node_set.specs.Bits.{Summarizes}
 
 -- The size, and the nodes in ascending order. Each is below the size.
 pub record Members : Type 0 where

@@ -1,7 +1,8 @@
 // Bits of words.
 
 ghost use Rattle.std.specs.Prelude.{◌≡◌, ◌<◌, ◌≤◌, ◌/◌, true, length, IfSome, IfNone};
-ghost use Rattle.node_set.specs.Bits.{is_set, HasNoBit, IsLowestBit, IsLowestFrom, HasNoneFrom, Summarizes, with_bit, without_bit};
+ghost use Rattle.script_tree.specs.Bits.{is_set, HasNoBit, IsLowestBit};
+ghost use Rattle.node_set.specs.Bits.{IsLowestFrom, HasNoneFrom, Summarizes, with_bit, without_bit};
 
 pub(crate) const WORD_BITS: u32 = 64;
 

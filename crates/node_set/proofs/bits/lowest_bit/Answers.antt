@@ -1,6 +1,6 @@
 use Rattle.std.proofs.Common.{arith}
 use Rattle.std.proofs.lemmas.Nat.Bits.{ones_shl}
-use Rattle.node_set.proofs.Searches.{lowest_masked, none_masked}
+use Rattle.script_tree.proofs.BitLemmas.{lowest_masked, none_masked}
 use Rattle.node_set.proofs.bits.lowest_bit.Goals as goal
 
 pub returns-then-rest-eq0-clause-none : goal.returns-then-rest-eq0-clause-none

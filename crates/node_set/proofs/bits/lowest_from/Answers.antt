@@ -1,5 +1,6 @@
 use Rattle.std.proofs.Common.{arith}
-use Rattle.node_set.proofs.Searches.{lowest_in_word, search_more, searched_all}
+use Rattle.script_tree.proofs.BitLemmas.{search_more}
+use Rattle.node_set.proofs.Searches.{lowest_in_word, searched_all}
 use Rattle.node_set.proofs.bits.lowest_from.Goals as goal
 
 pub returns-in-Some-clause-some : goal.returns-in-Some-clause-some

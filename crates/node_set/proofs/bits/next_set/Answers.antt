@@ -1,5 +1,6 @@
 use Rattle.std.proofs.Common.{◌+◌, ◌/◌, ◌%◌, arith}
-use Rattle.node_set.proofs.Searches.{lowest_in_word, search_begins, search_more, lowest_later, none_later}
+use Rattle.script_tree.proofs.BitLemmas.{search_begins, search_more}
+use Rattle.node_set.proofs.Searches.{lowest_in_word, lowest_later, none_later}
 use Rattle.node_set.proofs.bits.next_set.Goals as goal
 
 pub returns-in-Some-clause-some : goal.returns-in-Some-clause-some

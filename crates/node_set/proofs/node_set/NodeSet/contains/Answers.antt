@@ -1,6 +1,6 @@
 use Rattle.std.proofs.Common.{◌<◌, sym, ap, ◌∙◌, List, ℕ, arith}
+use Rattle.script_tree.specs.Bits.{is_set}
 use Rattle.signal_graph.specs.Graph.{is_in}
-use Rattle.node_set.specs.Bits.{is_set}
 use Rattle.node_set.specs.Members.{Members}
 use Rattle.node_set.proofs.Nodes.{in_nodes}
 use Rattle.node_set.proofs.node_set.NodeSet.contains.Goals as goal

@@ -1,8 +1,10 @@
 use Rattle.std.proofs.Common.{◌≡◌, ◌<◌, ◌+◌, false, not, List, ℕ, length, sym, ap, ◌∙◌, subst, arith}
-use Rattle.node_set.specs.Bits.{is_set, with_bit, Summarizes}
+use Rattle.script_tree.specs.Bits.{is_set}
+use Rattle.script_tree.proofs.Lists.{whole_slice}
+use Rattle.node_set.specs.Bits.{with_bit, Summarizes}
 use Rattle.node_set.specs.Members.{Members, IsKept}
 use Rattle.node_set.proofs.Nodes.{seen_in, put_seen, seen_with, count_below}
-use Rattle.node_set.proofs.Kept.{kept_with, length-with_bit, whole_slice}
+use Rattle.node_set.proofs.Kept.{kept_with, length-with_bit}
 use Rattle.node_set.proofs.node_set.NodeSet.insert.Goals as goal
 
 pub returns-then-is_set-clause-nodes : goal.returns-then-is_set-clause-nodes

@@ -1,8 +1,10 @@
 use Rattle.std.proofs.Common.{◌≡◌, ◌<◌, ◌-◌, true, List, ℕ, length, sym, ap, ◌∙◌, subst, arith}
-use Rattle.node_set.specs.Bits.{is_set, without_bit, Summarizes}
+use Rattle.script_tree.specs.Bits.{is_set}
+use Rattle.script_tree.proofs.Lists.{whole_slice}
+use Rattle.node_set.specs.Bits.{without_bit, Summarizes}
 use Rattle.node_set.specs.Members.{Members, IsKept}
 use Rattle.node_set.proofs.Nodes.{seen_in, take_seen, seen_without}
-use Rattle.node_set.proofs.Kept.{kept_without, some_counted, length-without_bit, whole_slice}
+use Rattle.node_set.proofs.Kept.{kept_without, some_counted, length-without_bit}
 use Rattle.node_set.proofs.node_set.NodeSet.remove.Goals as goal
 
 pub returns-then-not-is_set-clause-nodes : goal.returns-then-not-is_set-clause-nodes
