@@ -1,7 +1,7 @@
 -- A call takes a seat.
-use Rattle.std.proofs.Common.{◌≡◌, ◌≢◌, ℕ, zero, suc, ◌+◌, ◌-◌, ◌<◌, ◌≤◌, inl, inr, Bool, true, false, ◌==◌, ◌||◌, List, [], ◌∷◌, ◌++◌, length, map, get_or, set, refl, sym, ap, ◌∙◌, subst, arith, length-set}
+use Rattle.std.proofs.Common.{◌≡◌, ◌≢◌, ℕ, suc, ◌+◌, ◌-◌, ◌<◌, ◌≤◌, inl, inr, Bool, true, false, ◌==◌, ◌||◌, List, [], ◌∷◌, ◌++◌, length, map, set, refl, sym, ap, ◌∙◌, subst, arith, length-set}
 use Rattle.std.specs.List.{AllByRecursion}
-use Rattle.std.proofs.lemmas.Bool.{eq-eqb, ne_eqb, eqb-true, cases_eq, true≢false, false≢true}
+use Rattle.std.proofs.lemmas.Bool.{eq-eqb, ne_eqb, eqb-true, cases_eq, true≢false, false≢true, or_right, false_from_ne_true, or_parts}
 use Rattle.std.proofs.lemmas.List.{get_or-set_same, get_or-set_other, map-append, length-map}
 use Rattle.signal_graph.specs.declared.call.Call.{Call}
 use Rattle.signal_graph.specs.Graph.{is_in}
@@ -10,6 +10,7 @@ use Rattle.order_graph.specs.Order.{Order}
 use Rattle.call_log.specs.Record.{Record}
 use Rattle.flow_model.specs.Machine.State.{LiveCall, call_of}
 use Rattle.std.specs.Prelude.{is_some}
+use Rattle.script_tree.proofs.Truths.{or_later}
 use Rattle.flow_model.specs.Machine.Steps.{uses_slot, free_slot}
 use Rattle.flow_model.specs.Kept.Lawful.{times, AreDistinct}
 use Rattle.flow_model.proofs.General.Pigeons.{times-it, times-other, total-all, total-missing}
@@ -22,7 +23,6 @@ use Rattle.flow_state.specs.Kept.{IsKept}
 use Rattle.flow_state.proofs.SeatLemmas.{calls-away, at_seat}
 use Rattle.flow_state.proofs.Leaving.{tenant-away}
 use Rattle.flow_state.proofs.BookLemmas.{has-cons}
-use Rattle.flow_state.proofs.Truths.{or_there, later, not_true}
 
 -- ---- the slots that are used
 
@@ -34,14 +34,14 @@ slot-some : (seats : List Seated) (live : List Tenant) (k : ℕ) → AreTenants 
 slot-some seats [] k ok h = absurd (false≢true h)
 slot-some seats (x ∷ xs) k ok h = elim (cases_eq x.slot k) [
   | inl same ↦ let v = ap (version_at seats) (sym same) ∙ ok.0.version in let s = ok.0.some in omega (arith, v, s)
-  | inr other ↦ slot-some seats xs k ok.3 (later (x.slot == k) _ h (ne_eqb x.slot k other))
+  | inr other ↦ slot-some seats xs k ok.3 (or_later (x.slot == k) _ h (ne_eqb x.slot k other))
 ]
 
 pub slot_used : (callers nodes capacity : ℕ) (seats : List Seated) (live : List Tenant) (order : Order) (k : ℕ) → AreSeats callers nodes capacity seats live order → uses_slot k (calls_of seats live) ≡ has_slot live k
 slot_used callers nodes capacity seats live order k kept = uses-has seats live k (λ j h. kept.slots j (let n = kept.count in omega (arith, h, n))) kept.tenants
 
 pub seat_free : (callers nodes capacity : ℕ) (seats : List Seated) (live : List Tenant) (order : Order) (k : ℕ) → AreSeats callers nodes capacity seats live order → version_at seats k ≡ 0 → uses_slot k (calls_of seats live) ≡ false
-seat_free callers nodes capacity seats live order k kept free = slot_used callers nodes capacity seats live order k kept ∙ not_true (has_slot live k) (λ h. let s = slot-some seats live k kept.tenants h in omega (arith, s, free))
+seat_free callers nodes capacity seats live order k kept free = slot_used callers nodes capacity seats live order k kept ∙ false_from_ne_true (has_slot live k) (λ h. let s = slot-some seats live k kept.tenants h in omega (arith, s, free))
 
 pub seat_taken : (callers nodes capacity : ℕ) (seats : List Seated) (live : List Tenant) (order : Order) (k : ℕ) → AreSeats callers nodes capacity seats live order → version_at seats k ≢ 0 → uses_slot k (calls_of seats live) ≡ true
 seat_taken callers nodes capacity seats live order k kept taken = slot_used callers nodes capacity seats live order k kept ∙ go (has_slot live k) refl
@@ -61,11 +61,6 @@ free_later callers k all calls h so used =
     let e : callers - k ≡ suc (callers - (k + 1)) = omega arith in
     let f : k + 1 ≡ suc k = omega arith in
     ap (λ n. free_slot (callers - (k + 1)) n calls) f ∙ sym (ap (λ n. free_slot n k calls) e ∙ free-step (callers - (k + 1)) k calls true used) ∙ so
-
-pub read_version : (seats : List Seated) (k : ℕ) (was : Seated) → k < length seats → was ≡ get_or seats k was → was ≡ seat_at seats k
-read_version [] k was h e = absurd (omega (arith, h))
-read_version (x ∷ xs) zero was h e = e
-read_version (x ∷ xs) (suc k) was h e = read_version xs k was (omega (arith, h)) e
 
 -- ---- there is room for one more
 
@@ -96,7 +91,7 @@ slots-fit : (seats : List Seated) (live : List Tenant) (x : ℕ) → AreTenants 
 slots-fit seats [] x ok h = absurd (false≢true h)
 slots-fit seats (y ∷ ys) x ok h = elim (cases_eq y.slot x) [
   | inl same ↦ let i = ok.0.inside in omega (arith, i, same)
-  | inr other ↦ slots-fit seats ys x ok.3 (later (y.slot == x) _ h (ne_eqb y.slot x other))
+  | inr other ↦ slots-fit seats ys x ok.3 (or_later (y.slot == x) _ h (ne_eqb y.slot x other))
 ]
 
 pub few_live : (callers nodes capacity : ℕ) (seats : List Seated) (live : List Tenant) (order : Order) (k : ℕ) → AreSeats callers nodes capacity seats live order → k < callers → has_slot live k ≡ false → length live < callers
@@ -134,10 +129,6 @@ version-more (x ∷ xs) n t = ap (λ b. (x.version == t) || b) (version-more xs 
     assoc true b c = refl
     assoc false b c = refl
 
-neither : (a b : Bool) → (a || b) ≡ false → (a ≡ false) × (b ≡ false)
-neither true b h = absurd (true≢false h)
-neither false b h = (refl, h)
-
 -- What a call that takes a seat makes of it.
 pub record IsTaken (nodes version : ℕ) (k : ℕ) (new : Seated) : Type 0 where
   pub some : 0 < version
@@ -160,8 +151,8 @@ tenants-more seats [] n nodes new inside taken nv ns ok =
       tt,
     )
 tenants-more seats (x ∷ xs) n nodes new inside taken nv ns ok =
-    let v = neither (x.version == n.version) _ nv in
-    let s = neither (x.slot == n.slot) _ ns in (
+    let v = or_parts (x.version == n.version) _ nv in
+    let s = or_parts (x.slot == n.slot) _ ns in (
       tenant-away seats n.slot new x (λ e. true≢false (sym (eq-eqb x.slot n.slot e) ∙ s.0)) ok.0,
       version-more xs n x.version ∙ ap (λ b. b || (n.version == x.version)) ok.1 ∙ ne_eqb n.version x.version (λ e. true≢false (sym (eq-eqb x.version n.version (sym e)) ∙ v.0)),
       slot-more xs n x.slot ∙ ap (λ b. b || (n.slot == x.slot)) ok.2 ∙ ne_eqb n.slot x.slot (λ e. true≢false (sym (eq-eqb x.slot n.slot (sym e)) ∙ s.0)),
@@ -180,13 +171,13 @@ ascending-more : (xs : List Tenant) (n : Tenant) → ((t : ℕ) → has_version 
 ascending-more [] n newest a = (tt, tt)
 ascending-more (x ∷ xs) n newest a = (
   above-more x.version xs n (newest x.version (ap (λ b. b || has_version xs x.version) (eq-eqb x.version x.version refl))) a.0,
-  ascending-more xs n (λ t h. newest t (or_there (x.version == t) (has_version xs t) h)) a.1,
+  ascending-more xs n (λ t h. newest t (or_right (x.version == t) (has_version xs t) h)) a.1,
 )
 
 pub begun_kept : (callers nodes capacity cap : ℕ) (seats : List Seated) (live more : List Tenant) (order : Order) (n : Tenant) (new : Seated) → AreSeats callers nodes capacity seats live order → n.slot < callers → IsTaken nodes n.version n.slot new → ((t : ℕ) → has_version live t ≡ true → t < n.version) → has_slot live n.slot ≡ false → more ≡ live ++ n ∷ [] → cap ≡ capacity → AreSeats callers nodes cap (set seats n.slot new) more order
 begun_kept callers nodes capacity cap seats live more order n new kept below taken newest ns is same =
     let count = kept.count in
-    let nv : has_version live n.version ≡ false = not_true (has_version live n.version) (λ h. let k = newest n.version h in absurd (omega (arith, k))) in
+    let nv : has_version live n.version ≡ false = false_from_ne_true (has_version live n.version) (λ h. let k = newest n.version h in absurd (omega (arith, k))) in
     let inside : n.slot < length seats = omega (arith, below, count) in
     subst (λ (xs : List Tenant). AreSeats callers nodes cap (set seats n.slot new) xs order) (sym is) (record {
       some = kept.some;
@@ -196,7 +187,7 @@ begun_kept callers nodes capacity cap seats live more order n new kept below tak
       tenants = tenants-more seats live n nodes new inside taken nv ns kept.tenants;
       ascending = ascending-more live n newest kept.ascending;
       free = λ j none.
-          let both = neither (has_slot live j) (n.slot == j) (sym (slot-more live n j) ∙ none) in
+          let both = or_parts (has_slot live j) (n.slot == j) (sym (slot-more live n j) ∙ none) in
           ap (λ (s : Seated). s.call.version) (get_or-set_other seats n.slot j new no_seat (λ e. true≢false (sym (eq-eqb n.slot j (sym e)) ∙ both.1))) ∙ kept.free j both.0;
       slots = λ j h. at_seat (λ (i : ℕ) (s : Seated). s.call.slot ≡ i) seats n.slot new inside taken.slot j (kept.slots j h);
       sizes = λ j h. at_seat (λ (i : ℕ) (s : Seated). s.size ≡ nodes) seats n.slot new inside taken.size j (kept.sizes j h);
@@ -244,8 +235,8 @@ has-more c [] t h none = eqb-true c.version t (either (c.version == t) (sym (has
     either true h = refl
     either false h = h
 has-more c (x ∷ xs) t h none =
-    let both = neither (x.version == t) _ (sym (has-cons x xs t) ∙ none) in
-    has-more c xs t (later (x.version == t) _ (sym (has-cons x (xs ++ c ∷ []) t) ∙ h) both.0) both.1
+    let both = or_parts (x.version == t) _ (sym (has-cons x xs t) ∙ none) in
+    has-more c xs t (or_later (x.version == t) _ (sym (has-cons x (xs ++ c ∷ []) t) ∙ h) both.0) both.1
 
 pub kept_begin : (limit begun rooms spare : ℕ) (live new : LiveCalls) (shelves : Shelved) (log : Record) (call : LiveCall) → IsKept limit begun rooms spare live shelves log → new ≡ one_call_more live call → call.version ≡ begun + 1 → begun < limit → 0 < rooms → IsKept limit (begun + 1) (rooms - 1) spare new shelves log
 kept_begin limit begun rooms spare live new shelves log call kept is version left some = subst (λ (l : LiveCalls). IsKept limit (begun + 1) (rooms - 1) spare l shelves log) (sym is) (record {

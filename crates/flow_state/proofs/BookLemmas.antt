@@ -1,5 +1,6 @@
 -- How a book stays kept, and what is seen of its changes.
-use Rattle.std.proofs.Common.{◌≡◌, ℕ, zero, suc, ◌+◌, ◌-◌, Bool, true, false, ◌==◌, ◌||◌, List, [], ◌∷◌, ◌++◌, length-append, Some, length, refl, sym, ap, ◌∙◌, subst, arith}
+use Rattle.std.proofs.Common.{◌≡◌, ℕ, zero, suc, ◌+◌, ◌-◌, Bool, true, false, ◌==◌, ◌||◌, List, [], ◌∷◌, ◌++◌, length-append, length, refl, sym, ap, ◌∙◌, subst, arith}
+use Rattle.std.proofs.lemmas.Bool.{or_right}
 use Rattle.call_log.specs.Record.{Record}
 use Rattle.order_graph.specs.declared.pair.Pair.{Pair}
 use Rattle.signal_graph.specs.declared.log.Logged.{Logged}
@@ -12,7 +13,6 @@ use Rattle.flow_state.specs.Seats.{LiveCalls, with_pairs, has_call, on_live, lef
 use Rattle.flow_state.specs.Shelves.{Shelved, on_shelf}
 use Rattle.flow_state.specs.Kept.{IsKept}
 use Rattle.flow_state.proofs.SeatLemmas.{elim_some}
-use Rattle.flow_state.proofs.Truths.{or_there}
 
 -- ---- calls
 
@@ -67,7 +67,7 @@ has-left t u [] h = h
 has-left t u (c ∷ cs) h = has-cons c cs u ∙ go (c.version == t) (has-left t u cs) h
   where
     go : (b : Bool) → (is_some (call_of (without_call t cs) u) ≡ true → is_some (call_of cs u) ≡ true) → is_some (call_of (elim b [ true ↦ without_call t cs | false ↦ c ∷ without_call t cs ]) u) ≡ true → ((c.version == u) || is_some (call_of cs u)) ≡ true
-    go true r h = or_there (c.version == u) _ (r h)
+    go true r h = or_right (c.version == u) _ (r h)
     go false r h = either (c.version == u) (is_some (call_of (without_call t cs) u)) (is_some (call_of cs u)) (sym (has-cons c (without_call t cs) u) ∙ h) r
       where
         either : (a b d : Bool) → (a || b) ≡ true → (b ≡ true → d ≡ true) → (a || d) ≡ true

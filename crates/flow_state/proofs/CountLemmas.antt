@@ -1,15 +1,16 @@
 -- How many seats want a node: how the counts change, and what a count of 0 tells.
 use Rattle.std.proofs.Common.{◌≡◌, ℕ, zero, suc, ◌+◌, ◌<◌, ◌≤◌, Bool, true, false, not, ◌==◌, ◌||◌, ◌&&◌, List, [], ◌∷◌, ◌++◌, take, drop, Option, Some, None, length, map, set, refl, sym, ap, ◌∙◌, subst, arith}
 use Rattle.std.specs.List.{range_with_len, list_any}
-use Rattle.std.proofs.lemmas.Bool.{eq-eqb, eqb-true, true≢false, false≢true}
+use Rattle.std.proofs.lemmas.Bool.{eq-eqb, eqb-true, false≢true, or_parts}
 use Rattle.std.proofs.lemmas.Bool.Decides.{eqb_tells}
+use Rattle.script_tree.proofs.Lists.{whole_slice}
 use Rattle.signal_graph.specs.Graph.{is_in}
 use Rattle.flow_model.specs.Machine.Sets.{put, take_out, least}
 use Rattle.flow_model.specs.Machine.State.{LiveCall}
 use Rattle.flow_model.specs.Machine.Next.{least_version, lesser}
 use Rattle.flow_model.proofs.General.Sets.{in-put, in-take_out}
+use Rattle.flow_model.proofs.General.Counting.{taken-length}
 use Rattle.order_graph.specs.Order.{Order, reaches}
-use Rattle.node_set.proofs.Kept.{whole_slice}
 use Rattle.flow_state.specs.declared.seating.Tenant.{Tenant}
 use Rattle.flow_state.specs.Booked.{opened_one, wanting}
 use Rattle.flow_state.specs.Seats.{Seated, LiveCalls, free_seat, seat_at, call_at, calls_of, one_if, wanting_in, count_at, AreCounts, Follow, live_calls, presses_live, pressed_live}
@@ -84,17 +85,13 @@ unwanted_seen callers nodes seats live order counts read n is_none seen counted 
 
 -- ---- a node that no live call wants presses none
 
-neither : (a b : Bool) → (a || b) ≡ false → (a ≡ false) × (b ≡ false)
-neither true b h = absurd (true≢false h)
-neither false b h = (refl, h)
-
 pressing-wants : (e r w : Bool) → w ≡ false → (e && (r && w)) ≡ false
 pressing-wants e r w h = grind (arith, h)
 
 none-presses : (live : LiveCalls) (t n : ℕ) (cs : List LiveCall) → list_any (λ (c : LiveCall). is_in n c.wanted) cs ≡ false → list_any (presses_live live t n) cs ≡ false
 none-presses live t n [] none = refl
 none-presses live t n (c ∷ cs) none =
-    let both = neither (is_in n c.wanted) _ none in
+    let both = or_parts (is_in n c.wanted) _ none in
     ap (λ b. b || list_any (presses_live live t n) cs) (pressing-wants c.executing (reaches live.pairs t c.version) (is_in n c.wanted) both.0) ∙ none-presses live t n cs both.1
 
 pub not_pressed : (live : LiveCalls) (t n : ℕ) → wanted_live live n ≡ false → pressed_live live t n ≡ false
@@ -103,7 +100,7 @@ not_pressed live t n none = none-presses live t n live.calls none
 none-first : (live : LiveCalls) (t n : ℕ) (cs : List LiveCall) → list_any (λ (c : LiveCall). is_in n c.wanted) cs ≡ false → least_version (presses_live live t n) cs ≡ None
 none-first live t n [] none = refl
 none-first live t n (c ∷ cs) none =
-    let both = neither (is_in n c.wanted) _ none in
+    let both = or_parts (is_in n c.wanted) _ none in
     ap (λ (b : Bool). elim b as (λ _. Option ℕ) [ true ↦ Some (lesser c.version (least_version (presses_live live t n) cs)) | false ↦ least_version (presses_live live t n) cs ]) (pressing-wants c.executing (reaches live.pairs t c.version) (is_in n c.wanted) both.0)
     ∙ none-first live t n cs both.1
 
@@ -199,14 +196,6 @@ least-in (x ∷ xs) n e = ap (λ b. b || is_in n xs) (eq-eqb x n (same x n e))
   where
     same : (x n : ℕ) → Some n ≡ Some x → x ≡ n
     same x n e = cc
-
-taken-length : (x : ℕ) (ys : List ℕ) → length (take_out x ys) ≤ length ys
-taken-length x [] = omega arith
-taken-length x (y ∷ ys) = go (y == x) (taken-length x ys)
-  where
-    go : (b : Bool) → length (take_out x ys) ≤ length ys → length (elim b as (λ _. List ℕ) [ true ↦ take_out x ys | false ↦ y ∷ take_out x ys ]) ≤ suc (length ys)
-    go true r = omega (arith, r)
-    go false r = omega (arith, r)
 
 pub least_fewer : (xs : List ℕ) (n : ℕ) → Some n ≡ least xs → length (take_out n xs) < length xs
 least_fewer [] n e = absurd (nothing n e)

@@ -3,15 +3,12 @@ use Rattle.std.proofs.Common.{◌≡◌, ℕ, zero, suc, ◌+◌, ◌<◌, ◌�
 use Rattle.std.specs.List.{AllByRecursion}
 use Rattle.std.proofs.Math.ListN.{drop_of_length-le}
 use Rattle.std.proofs.lemmas.Bool.{ne_eqb}
+use Rattle.std.proofs.lemmas.List.{drop_more}
 use Rattle.flow_model.specs.Machine.State.{LiveCall}
 use Rattle.flow_model.specs.Machine.Next.{lesser, least_version}
+use Rattle.flow_model.proofs.Slots.LeastIsFirst.{Above, own-lesser}
 use Rattle.flow_state.specs.declared.seating.Tenant.{Tenant}
 use Rattle.flow_state.specs.Seats.{Seated, call_at, calls_of, has_version, AreTenants, AreAscending}
-use Rattle.flow_state.proofs.Walks.{rest_is}
-
-abbrev Above : ℕ → Option ℕ → Type 0
-Above v None = Unit {0}
-Above v (Some w) = v < w
 
 least_above : (test : LiveCall → Bool) (seats : List Seated) (v : ℕ) (xs : List Tenant) → AreTenants seats xs → AllByRecursion (λ (y : Tenant). v < y.version) xs → Above v (least_version test (calls_of seats xs))
 least_above test seats v [] ok h = tt
@@ -31,17 +28,6 @@ least_above test seats v (x ∷ xs) ok h = go (test (call_at seats x.slot)) (lea
     go : (b : Bool) (o : Option ℕ) → Above v o → Above v (elim b as (λ _. Option ℕ) [ true ↦ Some (lesser (call_at seats x.slot).version o) | false ↦ o ])
     go true o k = less o k
     go false o k = k
-
-own-lesser : (v : ℕ) (o : Option ℕ) → Above v o → lesser v o ≡ v
-own-lesser v None k = refl
-own-lesser v (Some w) k = pick (nat_lt w v) (below w v k)
-  where
-    below : (w v : ℕ) → v < w → nat_lt w v ≡ false
-    below w v k = grind (arith, k)
-
-    pick : (b : Bool) → b ≡ false → elim b as (λ _. ℕ) [ true ↦ w | false ↦ v ] ≡ v
-    pick false e = refl
-    pick true e = cc
 
 -- what holds of all tenants holds of those from one on
 rest_ascending : (live : List Tenant) (i : ℕ) → AreAscending live → AreAscending (drop i live)
@@ -67,13 +53,13 @@ head_first test seats x xs ok up t =
 
 pub first_found : (test : LiveCall → Bool) (seats : List Seated) (live : List Tenant) (i : ℕ) (x : Tenant) (whole : Option ℕ) → AreTenants seats live → AreAscending live → i < length live → x ≡ get_or live i x → least_version test (calls_of seats (drop i live)) ≡ whole → test (call_at seats x.slot) ≡ true → Some x.version ≡ whole
 first_found test seats live i x whole ok up h e so t =
-    let split : drop i live ≡ x ∷ drop (i + 1) live = rest_is live i x h ∙ ap (λ (y : Tenant). y ∷ drop (i + 1) live) (sym e) in
+    let split : drop i live ≡ x ∷ drop (i + 1) live = drop_more live i x h ∙ ap (λ (y : Tenant). y ∷ drop (i + 1) live) (sym e) in
     let here = head_first test seats x (drop (i + 1) live) (subst (AreTenants seats) split (rest_tenants seats live i ok)) (subst AreAscending split (rest_ascending live i up)) t in
     sym here ∙ sym (ap (λ (xs : List Tenant). least_version test (calls_of seats xs)) split) ∙ so
 
 pub first_more : (test : LiveCall → Bool) (seats : List Seated) (live : List Tenant) (i : ℕ) (x : Tenant) (whole : Option ℕ) → i < length live → x ≡ get_or live i x → least_version test (calls_of seats (drop i live)) ≡ whole → test (call_at seats x.slot) ≡ false → least_version test (calls_of seats (drop (i + 1) live)) ≡ whole
 first_more test seats live i x whole h e so t =
-    let split : drop i live ≡ x ∷ drop (i + 1) live = rest_is live i x h ∙ ap (λ (y : Tenant). y ∷ drop (i + 1) live) (sym e) in
+    let split : drop i live ≡ x ∷ drop (i + 1) live = drop_more live i x h ∙ ap (λ (y : Tenant). y ∷ drop (i + 1) live) (sym e) in
     let c : LiveCall = call_at seats x.slot in
     let rest : Option ℕ = least_version test (calls_of seats (drop (i + 1) live)) in
     sym (ap (λ (b : Bool). elim b as (λ _. Option ℕ) [ true ↦ Some (lesser c.version rest) | false ↦ rest ]) t)
@@ -93,7 +79,7 @@ none_above v (x ∷ xs) t up h =
 pub version_past : (live : List Tenant) (t i : ℕ) (d : Tenant) → AreAscending live → i < length live → has_version (drop i live) t ≡ has_version live t → t < (get_or live i d).version → false ≡ has_version live t
 version_past live t i d up h so past =
     let x : Tenant = get_or live i d in
-    let split : drop i live ≡ x ∷ drop (i + 1) live = rest_is live i d h in
+    let split : drop i live ≡ x ∷ drop (i + 1) live = drop_more live i d h in
     let rest : AreAscending (x ∷ drop (i + 1) live) = subst AreAscending split (rest_ascending live i up) in
     let other : x.version ≢ t = omega (arith, past) in
     sym (ap (λ b. b || has_version (drop (i + 1) live) t) (ne_eqb x.version t other) ∙ none_above x.version (drop (i + 1) live) t rest.0 past)

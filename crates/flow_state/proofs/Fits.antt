@@ -1,26 +1,26 @@
 -- What a lawful state says of the book and the lists that fit it.
-use Rattle.std.proofs.Common.{◌≡◌, ℕ, zero, suc, ◌<◌, Bool, true, false, ◌==◌, List, [], ◌∷◌, Option, Some, None, length, map, refl, sym, ap, ◌∙◌, subst, arith, true≢false}
+use Rattle.std.proofs.Common.{◌≡◌, ℕ, suc, ◌<◌, Bool, true, false, ◌==◌, List, [], ◌∷◌, Option, Some, None, length, map, refl, sym, ap, ◌∙◌, subst, arith, true≢false}
 use Rattle.std.specs.Option.{IsSome, is_some, option_or}
 use Rattle.std.proofs.Math.ListN.{get_or-map}
+use Rattle.std.proofs.lemmas.Bool.{eqb-true, eq-eqb, false_from_ne_true, both_ways}
 use Rattle.signal_graph.specs.Graph.{Graph}
 use Rattle.node_versions.specs.declared.entry.Entry.{Entry}
 use Rattle.node_versions.specs.Entries.{is_frame, is_done, has, at, behind, before, up_to, last_done, only_done}
+use Rattle.node_versions.proofs.Places.{at-has}
 use Rattle.flow_model.specs.Machine.State.{Core, Cell, cell, no_cell, entries, live}
-use Rattle.flow_model.specs.Machine.Lists.{change_at}
 use Rattle.flow_model.specs.Machine.Words.{heads}
 use Rattle.flow_model.specs.Kept.Lawful.{IsLawful}
-use Rattle.flow_model.proofs.General.Truths.{not_true, is_not_true, same_number, equal_test}
-use Rattle.flow_model.proofs.OneList.StatesAndPlaces.{at-has, first_open-frame}
+use Rattle.flow_model.proofs.OneList.StatesAndPlaces.{first_open-frame}
 use Rattle.flow_model.proofs.OrderStays.NoFrameBeforeDones.{head-first}
 use Rattle.flow_model.proofs.OrderStays.OpenNodesHaveFrames.{entry-there}
 use Rattle.flow_state.specs.Booked.{Booked, live_in, node_count, work_at}
-use Rattle.flow_model.specs.Parts.Books.{Work, work_in, Book}
-use Rattle.flow_model.specs.Machine.Lists.{change_at}
+use Rattle.flow_model.specs.Parts.Books.{work_in, Book}
 use Rattle.flow_state.specs.Fitting.{IsBookOf}
+pub use Rattle.flow_model.proofs.Books.StepsChangeBooks.{changed-works as works-change, kept-works as works-same}
 
 -- ---- the book
 
-length-works : (cs : List Cell) → length (map work_in cs) ≡ length cs
+pub length-works : (cs : List Cell) → length (map work_in cs) ≡ length cs
 length-works [] = refl
 length-works (c ∷ cs) = ap suc (length-works cs)
 
@@ -32,17 +32,6 @@ fits_node graph s book n fits h = subst (λ (f : Book). n < node_count (record b
 
 pub same_work : (graph : Graph) (s : Core) (book : Booked) (n : ℕ) → IsBookOf graph s book → work_at book n ≡ work_in (cell s n)
 same_work graph s book n fits = ap (λ (f : Book). work_at (record book { book = f }) n) fits.parts ∙ get_or-map work_in s.cells n no_cell
-
--- a change of a cell is one of its work
-pub works-change : (n : ℕ) (f : Cell → Cell) (g : Work → Work) → ((c : Cell) → work_in (f c) ≡ g (work_in c)) → (cs : List Cell) → map work_in (change_at n f cs) ≡ change_at n g (map work_in cs)
-works-change n f g same [] = refl
-works-change zero f g same (c ∷ cs) = ap (λ (w : Work). w ∷ map work_in cs) (same c)
-works-change (suc n) f g same (c ∷ cs) = ap (λ (ws : List Work). work_in c ∷ ws) (works-change n f g same cs)
-
-pub works-same : (n : ℕ) (f : Cell → Cell) → ((c : Cell) → work_in (f c) ≡ work_in c) → (cs : List Cell) → map work_in (change_at n f cs) ≡ map work_in cs
-works-same n f same [] = refl
-works-same zero f same (c ∷ cs) = ap (λ (w : Work). w ∷ map work_in cs) (same c)
-works-same (suc n) f same (c ∷ cs) = ap (λ (ws : List Work). work_in c ∷ ws) (works-same n f same cs)
 
 -- ---- Dones before an entry
 
@@ -70,8 +59,8 @@ done_before [] t u other done after = absurd (true≢false (sym done))
 done_before (e ∷ es) t u other done after = go (e.version == t) refl (e.version == u) refl done after (done_before es t u other)
   where
     go : (a : Bool) → (e.version == t) ≡ a → (b : Bool) → (e.version == u) ≡ b → elim b [ true ↦ is_done e.state | false ↦ at is_done es u ] ≡ true → elim a [ true ↦ has es u | false ↦ behind es t u ] ≡ false → (at is_done es u ≡ true → behind es t u ≡ false → IsSome (last_done (before es t))) → IsSome (last_done (with_first a e (before es t)))
-    go true i true j d k r = absurd (is_not_true _ other (equal_test u t (sym (same_number e.version u j) ∙ same_number e.version t i)))
-    go true i false j d k r = absurd (is_not_true _ k (at-has is_done es u d))
+    go true i true j d k r = absurd (both_ways _ other (eq-eqb u t (sym (eqb-true e.version u j) ∙ eqb-true e.version t i)))
+    go true i false j d k r = absurd (both_ways _ k (at-has is_done es u d))
     go false i true j d k r = done_some e (before es t) d
     go false i false j d k r = or_left_some _ _ (r d k)
 
@@ -87,8 +76,8 @@ done_up_to (e ∷ es) t h = go (e.version == t) (done_up_to es t) h
 pub lawful_before : (graph : Graph) (s : Core) (n t : ℕ) → IsLawful graph s → live s t ≡ true → has (entries s n) t ≡ true → IsSome (last_done (before (entries s n) t))
 lawful_before graph s n t lawful alive here =
     let d = lawful.ended_is_prefix.done n (entry-there s n t here) in
-    let other = not_true (d.0 == t) (λ e. is_not_true _ d.1 (subst (λ (u : ℕ). live s u ≡ true) (sym (same_number d.0 t e)) alive)) in
-    done_before (entries s n) t d.0 other d.2 (not_true _ (λ b. is_not_true _ (lawful.ended_is_prefix.prefix n t d.0 b d.1) alive))
+    let other = false_from_ne_true (d.0 == t) (λ e. both_ways _ d.1 (subst (λ (u : ℕ). live s u ≡ true) (sym (eqb-true d.0 t e)) alive)) in
+    done_before (entries s n) t d.0 other d.2 (false_from_ne_true _ (λ b. both_ways _ (lawful.ended_is_prefix.prefix n t d.0 b d.1) alive))
 
 pub lawful_up_to : (graph : Graph) (s : Core) (n t : ℕ) → IsLawful graph s → live s t ≡ true → has (entries s n) t ≡ true → IsSome (last_done (up_to (entries s n) t))
 lawful_up_to graph s n t lawful alive here = done_up_to (entries s n) t (lawful_before graph s n t lawful alive here)

@@ -22,10 +22,6 @@ first_is read (y ∷ ys) x e = ap (λ f. pick_over read (selection_of f)) (same 
     same : (y x : Found) → Some y ≡ Some x → x ≡ y
     same y x e = cc
 
-pub map-twice : {A B C : Type 0} (f : B → C) (g : A → B) (xs : List A) → map f (map g xs) ≡ map (λ x. f (g x)) xs
-map-twice f g [] = refl
-map-twice f g (x ∷ xs) = ap (λ ys. f (g x) ∷ ys) (map-twice f g xs)
-
 as-found : (f : Found) → found_as (selection_of f) ≡ f
 as-found (Candidate c) = refl
 as-found (Faulted f) = refl

@@ -2,10 +2,10 @@
 use Rattle.std.proofs.Common.{◌≡◌, ◌≢◌, ℕ, suc, ◌+◌, ◌<◌, inl, inr, ◌⊎◌, Bool, true, false, not, ◌==◌, ◌||◌, ◌&&◌, cond, List, [], ◌∷◌, zero, length, get_or, set, drop, ◌≤◌, refl, sym, ap, ◌∙◌, subst, arith, length-set}
 use Rattle.std.specs.List.{AllByRecursion, list_any}
 use Rattle.std.proofs.Math.ListN.{drop_of_length-le}
-use Rattle.flow_state.proofs.Walks.{rest_is}
-use Rattle.std.proofs.lemmas.Bool.{eq-eqb, ne_eqb, cases_eq, true≢false, false≢true}
+use Rattle.std.proofs.lemmas.Bool.{eq-eqb, ne_eqb, cases_eq, true≢false, false≢true, or_right, false_from_ne_true}
 use Rattle.std.proofs.lemmas.Bool.Decides.{eqb_tells}
-use Rattle.std.proofs.lemmas.List.{get_or-set_same, get_or-set_other}
+use Rattle.std.proofs.lemmas.List.{get_or-set_same, get_or-set_other, drop_more}
+use Rattle.script_tree.proofs.Truths.{or_later}
 use Rattle.order_graph.specs.declared.pair.Pair.{Pair}
 use Rattle.order_graph.specs.Order.{Order, Precedes, is_recorded, retired}
 use Rattle.flow_model.specs.Machine.State.{LiveCall}
@@ -15,7 +15,6 @@ use Rattle.flow_state.specs.declared.seating.Tenant.{Tenant}
 use Rattle.flow_state.specs.Seats.{Seated, LiveCalls, no_seat, has_call, left_calls, without_tenant, AreAscending, seat_at, call_at, version_at, calls_of, versions_of, pairs_of, live_calls, has_version, has_slot, IsTenant, AreTenants, AreLinked, AreSeats, LeadsToLive}
 use Rattle.flow_state.proofs.SeatLemmas.{IsSlotOf, calls-away, calls-has, at_seat}
 use Rattle.flow_state.proofs.PairLemmas.{Tells, tells, slot-version, recorded-versions, retired-versions, not_reached}
-use Rattle.flow_state.proofs.Truths.{or_there, later, not_true}
 
 -- ---- the tenants that stay
 
@@ -27,7 +26,7 @@ agree : (seats : List Seated) (live : List Tenant) (t k : ℕ) (xs : List Tenant
 agree seats live t k [] says there e ok within = tt
 agree seats live t k (x ∷ xs) says there e ok within = (
   ap (λ v. v == t) (sym ok.0.version) ∙ ap (λ v. version_at seats x.slot == v) (sym e) ∙ says x.slot k (within x.slot (ap (λ b. b || has_slot xs x.slot) (eq-eqb x.slot x.slot refl))) there,
-  agree seats live t k xs says there e ok.3 (λ j h. within j (or_there (x.slot == j) _ h)),
+  agree seats live t k xs says there e ok.3 (λ j h. within j (or_right (x.slot == j) _ h)),
 )
 
 pub tenants-agree : (seats : List Seated) (live : List Tenant) (t k : ℕ) → AreTenants seats live → IsSlotOf seats live t k → Agree t k live
@@ -204,7 +203,7 @@ linked-from live (p ∷ ps) a b l h = elim (cases_eq p.from a) [
 
 pub none_before : (callers nodes capacity : ℕ) (seats : List Seated) (live : List Tenant) (order : Order) (t k : ℕ) (seen : LiveCalls) → AreSeats callers nodes capacity seats live order → live_calls callers nodes seats live order ≡ seen → IsSlotOf seats live t k → ((u : ℕ) → is_recorded seen.pairs u t ≡ false) → (x : ℕ) → ¬ (Precedes order.pairs x k)
 none_before callers nodes capacity seats live order t k seen kept view at none x =
-    not_reached order.pairs x k (none-reaches order.pairs k x (λ w. not_true (is_recorded order.pairs w k) (λ r.
+    not_reached order.pairs x k (none-reaches order.pairs k x (λ w. false_from_ne_true (is_recorded order.pairs w k) (λ r.
     let there = linked-from live order.pairs w k kept.linked r in
     let same = recorded-versions seats live order.pairs w k (tells seats live kept.tenants) kept.linked there at.there in
     true≢false (sym r ∙ sym same ∙ ap (is_recorded (pairs_of seats order.pairs) (version_at seats w)) at.version ∙ ap (λ (l : LiveCalls). is_recorded l.pairs (version_at seats w) t) view ∙ none (version_at seats w)))))
@@ -226,7 +225,7 @@ length-left (x ∷ xs) t seats ok h = go (cases_eq x.version t) (λ h. length-le
         omega (arith, e, n)
     go (inr other) r =
         let e = ap length (left-cons x xs t false (ne_eqb x.version t other)) in
-        let n = r (later (x.version == t) (has_version xs t) h (ne_eqb x.version t other)) in
+        let n = r (or_later (x.version == t) (has_version xs t) h (ne_eqb x.version t other)) in
         omega (arith, e, n)
 
 pub length-calls : (seats : List Seated) (live : List Tenant) → length (calls_of seats live) ≡ length live
@@ -265,11 +264,11 @@ leads_to callers nodes capacity seats live order seen kept view = subst LeadsToL
 pub tenant_at : (seats : List Seated) (live : List Tenant) (i : ℕ) (x : Tenant) → AreTenants seats live → i < length live → x ≡ get_or live i x → IsTenant seats x × (has_version live x.version ≡ true)
 tenant_at seats [] i x ok h e = absurd (omega (arith, h))
 tenant_at seats (y ∷ ys) zero x ok h e = (subst (IsTenant seats) (sym e) ok.0, ap (λ b. b || has_version ys x.version) (eq-eqb y.version x.version (ap (λ (z : Tenant). z.version) (sym e))))
-tenant_at seats (y ∷ ys) (suc i) x ok h e = let r = tenant_at seats ys i x ok.3 (omega (arith, h)) e in (r.0, or_there (y.version == x.version) _ r.1)
+tenant_at seats (y ∷ ys) (suc i) x ok h e = let r = tenant_at seats ys i x ok.3 (omega (arith, h)) e in (r.0, or_right (y.version == x.version) _ r.1)
 
 any-step : (test : LiveCall → Bool) (seats : List Seated) (live : List Tenant) (i : ℕ) (x : Tenant) → i < length live → x ≡ get_or live i x → list_any test (calls_of seats (drop i live)) ≡ (test (call_at seats x.slot) || list_any test (calls_of seats (drop (i + 1) live)))
 any-step test seats live i x h e =
-    ap (λ (xs : List Tenant). list_any test (calls_of seats xs)) (rest_is live i x h)
+    ap (λ (xs : List Tenant). list_any test (calls_of seats xs)) (drop_more live i x h)
     ∙ ap (λ (y : Tenant). test (call_at seats y.slot) || list_any test (calls_of seats (drop (i + 1) live))) (sym e)
 
 pub any_found : (test : LiveCall → Bool) (seats : List Seated) (live : List Tenant) (i : ℕ) (x : Tenant) (whole : Bool) → i < length live → x ≡ get_or live i x → list_any test (calls_of seats (drop i live)) ≡ whole → test (call_at seats x.slot) ≡ true → true ≡ whole

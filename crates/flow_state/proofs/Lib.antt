@@ -1,4 +1,3 @@
-pub mod Truths
 pub mod Walks
 pub mod Gathered
 pub mod ShelfLemmas
@@ -14,6 +13,7 @@ pub mod CountLemmas
 pub mod FreeSlots
 pub mod FoundPicks
 pub mod JobLemmas
+pub mod Outcomes
 pub mod BookLemmas
 pub mod Fits
 pub mod OneCell

@@ -1,5 +1,6 @@
 -- What is left of a list from an index on.
-use Rattle.std.proofs.Common.{◌≡◌, ℕ, zero, suc, ◌≤◌, List, [], ◌∷◌, Some, None, length, drop, refl, ap, arith}
+use Rattle.std.proofs.Common.{◌≡◌, ℕ, zero, suc, ◌≤◌, List, [], ◌∷◌, Some, None, length, drop, ap}
+use Rattle.std.proofs.lemmas.List.{drop_all}
 use Rattle.std.specs.Prelude.{slice_get}
 
 -- the item at the index, and the rest
@@ -16,7 +17,4 @@ drop-at (y ∷ ys) (suc i) x h = drop-at ys i x h
 
 -- nothing, from the length on
 pub drop-past : {X : Type 0} (xs : List X) (i : ℕ) → length xs ≤ i → drop i xs ≡ []
-drop-past [] zero h = refl
-drop-past [] (suc i) h = refl
-drop-past (x ∷ xs) zero h = absurd (omega (arith, h))
-drop-past (x ∷ xs) (suc i) h = drop-past xs i (omega (arith, h))
+drop-past xs i h = drop_all i xs h

@@ -2,6 +2,7 @@
 use Rattle.std.proofs.Common.{◌≡◌, ℕ, zero, suc, ◌+◌, ◌<◌, Bool, true, false, ◌&&◌, List, [], ◌∷◌, ◌++◌, Some, None, length, map, get_or, drop, refl, sym, ap, ◌∙◌, arith}
 use Rattle.std.specs.Prelude.{nat_lt}
 use Rattle.std.proofs.lemmas.Bool.Decides.{nat_tests}
+use Rattle.std.proofs.lemmas.List.{drop_more}
 use Rattle.script_tree.specs.declared.value.Value.{Value}
 use Rattle.signal_graph.specs.declared.call.Call.{Call}
 use Rattle.signal_graph.specs.Graph.{Graph, number_of}
@@ -9,7 +10,6 @@ use Rattle.signal_graph.specs.Machine.{sets_of, names_node, names_source, first_
 use Rattle.flow_model.specs.Machine.Sets.{put, put_all}
 use Rattle.flow_model.specs.Machine.Steps.{nodes_set, sets_in}
 use Rattle.flow_state.specs.Booked.{AreInside}
-use Rattle.flow_state.proofs.Walks.{rest_is}
 
 -- ---- well-named sets
 
@@ -48,4 +48,4 @@ inside_at size (x ∷ xs) zero d h all = all.0
 inside_at size (x ∷ xs) (suc i) d h all = inside_at size xs i d (omega (arith, h)) all.1
 
 pub put_more : (sets : List (ℕ × Value)) (i : ℕ) (d : ℕ × Value) (nodes : List ℕ) (all : List ℕ) → i < length sets → put_all (nodes_set (drop i sets)) nodes ≡ all → put_all (nodes_set (drop (i + 1) sets)) (put (get_or sets i d).0 nodes) ≡ all
-put_more sets i d nodes all h so = sym (ap (λ (ss : List (ℕ × Value)). put_all (nodes_set ss) nodes) (rest_is sets i d h)) ∙ so
+put_more sets i d nodes all h so = sym (ap (λ (ss : List (ℕ × Value)). put_all (nodes_set ss) nodes) (drop_more sets i d h)) ∙ so

@@ -4,7 +4,7 @@ use Rattle.std.specs.Prelude.{slice_index_or}
 use Rattle.flow_model.specs.Machine.State.{Core, Cell, no_cell, with_cell}
 use Rattle.flow_model.specs.Machine.Lists.{change_at}
 use Rattle.flow_model.specs.Parts.Books.{Work, work_in, book_of}
-use Rattle.flow_state.proofs.Fits.{works-same}
+use Rattle.flow_model.proofs.Books.StepsChangeBooks.{kept-works}
 
 -- a cell with an entry is one of the cells
 pub cell-inside : (cs : List Cell) (n : ℕ) → 0 < length (slice_index_or cs n no_cell).entries → n < length cs
@@ -20,4 +20,4 @@ cell-changed (suc n) f (c ∷ cs) h = cell-changed n f cs (omega (arith, h))
 
 -- a change of lists alone is not seen in a book
 pub book-same : (s : Core) (n : ℕ) (f : Cell → Cell) → ((c : Cell) → work_in (f c) ≡ work_in c) → book_of (with_cell s n f) ≡ book_of s
-book-same s n f same = ap (λ (ws : List Work). record (book_of s) { works = ws }) (works-same n f same s.cells)
+book-same s n f same = ap (λ (ws : List Work). record (book_of s) { works = ws }) (kept-works n f same s.cells)

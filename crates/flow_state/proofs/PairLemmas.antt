@@ -1,23 +1,23 @@
 -- Pairs of slots, and the pairs of versions that they stand for.
 use Rattle.std.proofs.Common.{◌≡◌, ◌≢◌, ℕ, ◌<◌, inl, inr, ◌⊎◌, Bool, true, false, not, ◌==◌, ◌||◌, ◌&&◌, cond, List, [], ◌∷◌, ◌++◌, filter, refl, sym, ap, ◌∙◌, subst, arith}
-use Rattle.std.proofs.lemmas.Bool.{eq-eqb, ne_eqb, cases_eq, true≢false, false≢true}
+use Rattle.std.proofs.lemmas.Bool.{eq-eqb, ne_eqb, cases_eq, true≢false, false≢true, or_right}
 use Rattle.std.proofs.lemmas.List.{map-append}
 use Rattle.std.specs.Prelude.{is_some, find, Some}
 use Rattle.std.specs.Option.{option_map}
+use Rattle.script_tree.proofs.Truths.{or_later}
 use Rattle.order_graph.specs.declared.pair.Pair.{Pair}
 use Rattle.order_graph.specs.Order.{Order, Precedes, joins, node_of, is_recorded, reaches, linked, retired}
-use Rattle.order_graph.proofs.Reaching.{decides}
+use Rattle.order_graph.proofs.Reaching.{decides, reaches-cons}
 use Rattle.flow_state.specs.declared.seating.Tenant.{Tenant}
 use Rattle.flow_state.specs.Seats.{Seated, LiveCalls, live_calls, with_pairs, calls_of, version_at, versions_of, pairs_of, has_version, has_slot, AreTenants, AreLinked, AreSeats}
 use Rattle.flow_state.proofs.SeatLemmas.{IsSlotOf}
-use Rattle.flow_state.proofs.Truths.{or_there, later}
 
 -- a slot that has a tenant has its version
 pub slot-version : (seats : List Seated) (live : List Tenant) (k : ℕ) → AreTenants seats live → has_slot live k ≡ true → has_version live (version_at seats k) ≡ true
 slot-version seats [] k ok h = absurd (false≢true h)
 slot-version seats (x ∷ xs) k ok h = elim (cases_eq x.slot k) [
   | inl same ↦ ap (λ b. b || has_version xs (version_at seats k)) (eq-eqb x.version (version_at seats k) (sym ok.0.version ∙ ap (version_at seats) same))
-  | inr other ↦ or_there (x.version == version_at seats k) _ (slot-version seats xs k ok.3 (later (x.slot == k) _ h (ne_eqb x.slot k other)))
+  | inr other ↦ or_right (x.version == version_at seats k) _ (slot-version seats xs k ok.3 (or_later (x.slot == k) _ h (ne_eqb x.slot k other)))
 ]
 
 -- slots with one version are one
@@ -28,12 +28,12 @@ one_slot seats (x ∷ xs) j k ok h g e = go (one_slot seats xs j k ok.3) (cases_
     go : (has_slot xs j ≡ true → has_slot xs k ≡ true → version_at seats j ≡ version_at seats k → j ≡ k) → ((x.slot ≡ j) ⊎ (x.slot ≢ j)) → ((x.slot ≡ k) ⊎ (x.slot ≢ k)) → j ≡ k
     go rest (inl a) (inl b) = sym a ∙ b
     go rest (inl a) (inr b) =
-        let later = slot-version seats xs k ok.3 (later (x.slot == k) _ g (ne_eqb x.slot k b)) in
-        absurd (true≢false (sym later ∙ ap (has_version xs) (sym e ∙ ap (version_at seats) (sym a) ∙ ok.0.version) ∙ ok.1))
+        let there = slot-version seats xs k ok.3 (or_later (x.slot == k) _ g (ne_eqb x.slot k b)) in
+        absurd (true≢false (sym there ∙ ap (has_version xs) (sym e ∙ ap (version_at seats) (sym a) ∙ ok.0.version) ∙ ok.1))
     go rest (inr a) (inl b) =
-        let later = slot-version seats xs j ok.3 (later (x.slot == j) _ h (ne_eqb x.slot j a)) in
-        absurd (true≢false (sym later ∙ ap (has_version xs) (e ∙ ap (version_at seats) (sym b) ∙ ok.0.version) ∙ ok.1))
-    go rest (inr a) (inr b) = rest (later (x.slot == j) _ h (ne_eqb x.slot j a)) (later (x.slot == k) _ g (ne_eqb x.slot k b)) e
+        let there = slot-version seats xs j ok.3 (or_later (x.slot == j) _ h (ne_eqb x.slot j a)) in
+        absurd (true≢false (sym there ∙ ap (has_version xs) (e ∙ ap (version_at seats) (sym b) ∙ ok.0.version) ∙ ok.1))
+    go rest (inr a) (inr b) = rest (or_later (x.slot == j) _ h (ne_eqb x.slot j a)) (or_later (x.slot == k) _ g (ne_eqb x.slot k b)) e
 
 -- Two slots are told apart by their versions.
 abbrev pub Tells : List Seated → List Tenant → Type 0
@@ -54,21 +54,18 @@ recorded-versions seats live (p ∷ ps) a b t l h g =
     ∙ ap (λ x. ((p.from == a) && x) || is_recorded (pairs_of seats ps) (version_at seats a) (version_at seats b)) (t p.to b l.0.1 g)
     ∙ ap (λ x. ((p.from == a) && (p.to == b)) || x) (recorded-versions seats live ps a b t l.1 h g)
 
-pub reaches-step : (p : Pair) (pairs : List Pair) (a b : ℕ) → reaches (p ∷ pairs) a b ≡ (reaches pairs a b || (((p.from == a) || reaches pairs a p.from) && ((p.to == b) || reaches pairs p.to b)))
-reaches-step p pairs a b = grind arith
-
 pub reaches-versions : (seats : List Seated) (live : List Tenant) (pairs : List Pair) (a b : ℕ) → Tells seats live → AreLinked live pairs → has_slot live a ≡ true → has_slot live b ≡ true → reaches (pairs_of seats pairs) (version_at seats a) (version_at seats b) ≡ reaches pairs a b
 reaches-versions seats live [] a b t l h g = refl
 reaches-versions seats live (p ∷ ps) a b t l h g =
     let v : ℕ → ℕ = version_at seats in
     let qs : List Pair = pairs_of seats ps in
-    reaches-step (versions_of seats p) qs (v a) (v b)
+    reaches-cons (versions_of seats p) qs (v a) (v b)
     ∙ ap (λ x. x || (((v p.from == v a) || reaches qs (v a) (v p.from)) && ((v p.to == v b) || reaches qs (v p.to) (v b)))) (reaches-versions seats live ps a b t l.1 h g)
     ∙ ap (λ x. reaches ps a b || ((x || reaches qs (v a) (v p.from)) && ((v p.to == v b) || reaches qs (v p.to) (v b)))) (t p.from a l.0.0 h)
     ∙ ap (λ x. reaches ps a b || (((p.from == a) || x) && ((v p.to == v b) || reaches qs (v p.to) (v b)))) (reaches-versions seats live ps a p.from t l.1 h l.0.0)
     ∙ ap (λ x. reaches ps a b || (((p.from == a) || reaches ps a p.from) && (x || reaches qs (v p.to) (v b)))) (t p.to b l.0.1 g)
     ∙ ap (λ x. reaches ps a b || (((p.from == a) || reaches ps a p.from) && ((p.to == b) || x))) (reaches-versions seats live ps p.to b t l.1 l.0.1 g)
-    ∙ sym (reaches-step p ps a b)
+    ∙ sym (reaches-cons p ps a b)
 
 -- ---- one pair more
 

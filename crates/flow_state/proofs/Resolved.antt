@@ -16,11 +16,11 @@ use Rattle.flow_model.proofs.OneStep.WhoMayStep.{can_work-at_front}
 use Rattle.flow_model.proofs.OneStep.WhoMayStep.{resolve-can_work}
 use Rattle.flow_model.proofs.OneStep.SameLengths.{change_at-length}
 use Rattle.flow_model.proofs.OrderStays.OpenNodesHaveFrames.{cell-there}
+use Rattle.flow_model.proofs.Books.StepsChangeBooks.{changed-works, kept-works}
 use Rattle.flow_state.specs.Booked.{Booked, on_call, on_work}
 use Rattle.flow_model.specs.Parts.Books.{Work, work_in, book_of, forgotten, Book}
 use Rattle.flow_model.specs.Machine.Lists.{change_at}
 use Rattle.flow_state.specs.Fitting.{IsBookOf, IsListStep, list_of, book_after}
-use Rattle.flow_state.proofs.Fits.{works-change, works-same}
 use Rattle.flow_state.proofs.Fronts.{IsFront, front_inside, cell_list, finished_list}
 
 pub resolve_front : (graph : Graph) (s : Core) (book : Booked) (n : ℕ) (list : Versions) (t : ℕ) → IsBookOf graph s book → list ≡ list_of graph s n → allowed graph s (Resolve t n) ≡ true → IsFront graph s book n list t
@@ -57,7 +57,7 @@ resolved graph s book mid new n list new_list t v old is_same picks front value_
     done = finish s t n now change (found_picks s n)
 
     works : map work_in (change_at n cleared done.cells) ≡ change_at n forgotten (map work_in s.cells)
-    works = works-change n cleared forgotten (λ c. refl) done.cells ∙ ap (change_at n forgotten) (works-same n (set_state t state) (λ c. refl) s.cells)
+    works = changed-works n cleared forgotten (λ c. refl) done.cells ∙ ap (change_at n forgotten) (kept-works n (set_state t state) (λ c. refl) s.cells)
 
     on_book : new ≡ book_after graph s (Resolve t n) book
     on_book =

@@ -1,6 +1,6 @@
 -- The calls in seats: how one is found, and how one changes.
 use Rattle.std.proofs.Common.{◌≡◌, ◌≢◌, ℕ, ◌<◌, inl, inr, Bool, true, false, ◌==◌, ◌||◌, List, [], ◌∷◌, Some, length, get_or, set, refl, sym, ap, ◌∙◌, subst, arith, length-set, zero, suc}
-use Rattle.std.proofs.lemmas.Bool.{eq-eqb, ne_eqb, eqb-true, cases_eq, true≢false, false≢true}
+use Rattle.std.proofs.lemmas.Bool.{eq-eqb, ne_eqb, eqb-true, cases_eq, true≢false, false≢true, or_right}
 use Rattle.std.proofs.lemmas.List.{get_or-set_same, get_or-set_other, get_or_default, length-map}
 use Rattle.order_graph.specs.declared.pair.Pair.{Pair}
 use Rattle.order_graph.specs.Order.{Order}
@@ -8,7 +8,6 @@ use Rattle.flow_model.specs.Machine.State.{LiveCall, no_call, call_of, call_or, 
 use Rattle.std.specs.Prelude.{is_some}
 use Rattle.flow_state.specs.declared.seating.Tenant.{Tenant}
 use Rattle.flow_state.specs.Seats.{Seated, LiveCalls, no_seat, with_seated, find_call, has_call, on_live, seat_at, call_at, version_at, calls_of, versions_of, pairs_of, live_calls, slot_in, has_version, has_slot, IsTenant, AreTenants, AreSeats}
-use Rattle.flow_state.proofs.Truths.{or_there}
 
 -- ---- finding
 
@@ -48,7 +47,7 @@ slot_is seats (x ∷ xs) t ok h = go (λ k. slot_is seats xs t ok.3 k) (x.versio
         subst (IsSlotOf seats (x ∷ xs) t) (sym (ap (λ (b : Bool). elim b [ true ↦ x.slot | false ↦ slot_in xs t ]) e)) (record {
           inside = later.inside;
           version = later.version;
-          there = or_there (x.slot == slot_in xs t) (has_slot xs (slot_in xs t)) later.there;
+          there = or_right (x.slot == slot_in xs t) (has_slot xs (slot_in xs t)) later.there;
           room = later.room;
           call = ap (λ (b : Bool). call_or (elim b [ true ↦ Some (call_at seats x.slot) | false ↦ call_of (calls_of seats xs) t ])) (ap (λ v. v == t) ok.0.version ∙ e) ∙ later.call;
         })
@@ -57,7 +56,7 @@ slot_is seats (x ∷ xs) t ok h = go (λ k. slot_is seats xs t ok.3 k) (x.versio
 place_in : (live : List Tenant) (i : ℕ) (d : Tenant) → i < length live → has_version live (get_or live i d).version ≡ true
 place_in [] i d h = absurd (omega (arith, h))
 place_in (x ∷ xs) zero d h = ap (λ b. b || has_version xs x.version) (eq-eqb x.version x.version refl)
-place_in (x ∷ xs) (suc i) d h = or_there (x.version == (get_or xs i d).version) (has_version xs (get_or xs i d).version) (place_in xs i d (omega (arith, h)))
+place_in (x ∷ xs) (suc i) d h = or_right (x.version == (get_or xs i d).version) (has_version xs (get_or xs i d).version) (place_in xs i d (omega (arith, h)))
 
 apart_of : (xs : List Tenant) (v w : ℕ) → has_version xs v ≡ false → has_version xs w ≡ true → v ≢ w
 apart_of xs v w away there same = true≢false (sym there ∙ ap (has_version xs) (sym same) ∙ away)

@@ -8,8 +8,8 @@ use Rattle.script_tree.specs.declared.value.Value.{Value}
 use Rattle.flow_model.specs.Machine.Lists.{change_at}
 use Rattle.flow_model.specs.Machine.Words.{gathered_of}
 use Rattle.flow_model.specs.Parts.Books.{Work, no_work, forgotten, with_gathered}
-use Rattle.signal_graph.specs.declared.node.Node.{Node}
-use Rattle.signal_graph.specs.Graph.{Graph, numbers, numbers_from}
+use Rattle.signal_graph.specs.Graph.{Graph, numbers}
+use Rattle.signal_graph.proofs.Members.{numbers_range}
 use Rattle.flow_state.specs.Booked.{AreApart, room_at, rooms_for}
 use Rattle.flow_state.specs.Found.{found_option}
 use Rattle.flow_state.specs.Shelves.{Shelved, work_on, on_shelf, gathered_on, work_in, shelved, AreLaid, AreShelves, laid_out, empty_shelves}
@@ -252,13 +252,9 @@ more_places graph n places room at is =
     let e : sum (map (room_at graph) (range_with_len 0 (n + 1))) ≡ sum (map (room_at graph) (range_with_len 0 n)) + room_at graph n = sum_by-map-range_with_len_more (λ (y : ℕ). y) (room_at graph) 0 n n (omega arith) in
     omega (arith, at, is, e)
 
-numbers-range : (n : ℕ) (nodes : List Node) → numbers_from n nodes ≡ range_with_len n (length nodes)
-numbers-range n [] = refl
-numbers-range n (x ∷ xs) = ap (λ ys. n ∷ ys) (numbers-range (n + 1) xs)
-
 -- the rooms of all nodes, by their numbers
 pub all_rooms : (graph : Graph) → map (room_at graph) (range_with_len 0 (length graph.nodes)) ≡ rooms_for graph
-all_rooms graph = ap (map (room_at graph)) (sym (numbers-range 0 graph.nodes))
+all_rooms graph = ap (map (room_at graph)) (sym (numbers_range 0 graph.nodes))
 
 works-empty : (block : List (ℕ × Value)) (from : ℕ) (rooms : List ℕ) → map (work_in block) (laid_out from rooms) ≡ map (λ (r : ℕ). no_work) rooms
 works-empty block from [] = refl

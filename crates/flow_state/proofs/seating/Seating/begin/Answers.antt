@@ -5,8 +5,8 @@ use Rattle.flow_model.specs.Machine.Steps.{uses_slot}
 use Rattle.flow_state.specs.declared.seating.Tenant.{Tenant}
 use Rattle.flow_state.specs.Booked.{begun_call}
 use Rattle.flow_state.specs.Seats.{Seated, LiveCalls, has_call, has_slot, has_version, one_if, count_at, Follow}
-use Rattle.flow_state.proofs.SeatLemmas.{calls-has}
-use Rattle.flow_state.proofs.Beginning.{slot_used, few_live, read_version, taken_by, begun_kept, begun_seen}
+use Rattle.flow_state.proofs.SeatLemmas.{calls-has, seat_read}
+use Rattle.flow_state.proofs.Beginning.{slot_used, few_live, taken_by, begun_kept, begun_seen}
 use Rattle.flow_state.proofs.CountLemmas.{counted_one, counts_few, counts_back}
 use Rattle.flow_state.proofs.FreeSlots.{free_taken}
 use Rattle.flow_state.proofs.seating.Seating.begin.Goals as goal
@@ -37,7 +37,7 @@ begin-requires-clause-counted c =
     let below : k < s.callers = let h = c.requires.slot in let e = c.free_slot-slot.ensures.slot in let v = ap (λ (l : LiveCalls). l.callers) c.self.view_is in omega (arith, h, e, v) in
     let count = c.self.invariant.kept.count in
     let inside : k < length s.seats.items = omega (arith, below, count) in
-    let read = read_version s.seats.items k c.index_mut.result.now inside c.index_mut.ensures.value in
+    let read = seat_read s.seats.items k c.index_mut.result.now inside c.index_mut.ensures.value in
     subst (λ (cs : List ℕ). (n : ℕ) → one_if (is_in n c.index_mut.result.now.call.wanted) ≤ count_at cs n) (sym c.as_mut_slice-counts.ensures.value) (counted_one s.counts.items s.seats.items k c.index_mut.result.now c.self.invariant.counted inside read)
 
 pub begin-requires-clause-few : goal.begin-requires-clause-few
@@ -55,7 +55,7 @@ invariant_of-self c =
     let unused : has_slot s.live.items k ≡ false = sym (slot_used s.callers s.nodes (vec_capacity s.live) s.seats.items s.live.items s.order k c.self.invariant.kept) ∙ ap (λ (l : LiveCalls). uses_slot k l.calls) c.self.view_is ∙ c.free_slot-slot.ensures.free (let v = ap (λ (l : LiveCalls). l.callers) c.self.view_is in omega (arith, below, v)) in
     let n : Tenant = record { version = c.args.version; slot = k } in
     let count = c.self.invariant.kept.count in
-    let read = read_version s.seats.items k c.index_mut.result.now (omega (arith, below, count)) c.index_mut.ensures.value in
+    let read = seat_read s.seats.items k c.index_mut.result.now (omega (arith, below, count)) c.index_mut.ensures.value in
     let slot = ap (λ (x : Seated). x.call.slot) read ∙ c.self.invariant.kept.slots k below in
     let size = ap (λ (x : Seated). x.size) read ∙ c.self.invariant.kept.sizes k below in
     let newest : (t : ℕ) → has_version s.live.items t ≡ true → t < c.args.version = λ t h. c.requires.newest t (sym (ap (λ (l : LiveCalls). has_call l t) c.self.view_is) ∙ calls-has s.seats.items s.live.items t c.self.invariant.kept.tenants ∙ h) in
@@ -79,7 +79,7 @@ returns c =
     let unused : has_slot s.live.items k ≡ false = sym (slot_used s.callers s.nodes (vec_capacity s.live) s.seats.items s.live.items s.order k c.self.invariant.kept) ∙ ap (λ (l : LiveCalls). uses_slot k l.calls) c.self.view_is ∙ c.free_slot-slot.ensures.free (let v = ap (λ (l : LiveCalls). l.callers) c.self.view_is in omega (arith, below, v)) in
     let n : Tenant = record { version = c.args.version; slot = k } in
     let count = c.self.invariant.kept.count in
-    let read = read_version s.seats.items k c.index_mut.result.now (omega (arith, below, count)) c.index_mut.ensures.value in
+    let read = seat_read s.seats.items k c.index_mut.result.now (omega (arith, below, count)) c.index_mut.ensures.value in
     let slot = ap (λ (x : Seated). x.call.slot) read ∙ c.self.invariant.kept.slots k below in
     let size = ap (λ (x : Seated). x.size) read ∙ c.self.invariant.kept.sizes k below in
     let call = ap (λ (x : Seated). x.call) c.begin.ensures.seat ∙ ap (λ j. begun_call c.args.room c.args.caller c.args.version j c.args.call) (slot ∙ c.free_slot-slot.ensures.slot) in
