@@ -3,8 +3,8 @@ use Rattle.std.specs.Prelude.{◌≡◌, ℕ, ◌≤◌, List, [], ◌∷◌, le
 use Rattle.atomic_table.specs.Seated.{TableId}
 use Rattle.signal_graph.specs.declared.log.Logged.{Logged}
 use Rattle.signal_graph.specs.Graph.{Graph}
+use Rattle.signal_graph.specs.Machine.{looks_of_reply}
 use Rattle.flow_model.specs.Machine.Histories.{Move}
-use Rattle.flow_model.specs.Follows.Bounds.{looks_of_reply}
 use Rattle.caller_fronts.specs.Tokens.{Going, IsGoing, HasLooks, going_at}
 use Rattle.sweeper.specs.declared.locked.Met.{Met}
 

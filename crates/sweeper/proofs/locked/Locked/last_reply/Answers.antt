@@ -1,7 +1,7 @@
 use Rattle.std.proofs.Common.{◌-◌, ℕ, ◌≤◌, length, Some, sym, ap, ◌∙◌, subst, vec_capacity}
 use Rattle.std.specs.Prelude.{slice_get, option_map}
 use Rattle.signal_graph.specs.declared.log.Logged.{Logged}
-use Rattle.flow_model.specs.Follows.Bounds.{looks_of_reply}
+use Rattle.signal_graph.specs.Machine.{looks_of_reply}
 use Rattle.flow_model.specs.Machine.State.{Core}
 use Rattle.flow_model.specs.Machine.Histories.{state}
 use Rattle.sweeper.specs.Tokens.{last_of}
