@@ -6,21 +6,21 @@ use Rattle.std.proofs.lemmas.Bool.{eq-eqb, true≢false}
 use Rattle.signal_graph.specs.Graph.{Graph}
 use Rattle.order_graph.specs.declared.pair.Pair.{Pair}
 use Rattle.order_graph.specs.Order.{reaches, linked}
+use Rattle.order_graph.proofs.Reaching.{reaches-linked}
 use Rattle.node_versions.specs.declared.entry.State.{State}
 use Rattle.node_versions.specs.declared.entry.Entry.{Entry}
 use Rattle.node_versions.specs.Entries.{Versions, has, front, rest, placed, with_entries}
 use Rattle.flow_model.specs.Machine.State.{Core, Cell, live, executes, entries}
 use Rattle.flow_model.specs.Machine.Changes.{stops, stops_call, first_version, last_version, link_left, link_right, linked_at, new_entry, place_entry}
-use Rattle.flow_model.proofs.OneList.Chains.{reaches-link}
 use Rattle.flow_model.proofs.OrderStays.AfterEachStep.{lawful-Standing}
 use Rattle.flow_model.proofs.OneList.Entering.{enter-Standing}
 use Rattle.flow_model.proofs.OneList.InOrder.{front-goes, front-has, rest-has, last-has}
 use Rattle.flow_model.proofs.OneList.InOrder.{first-has}
+use Rattle.flow_model.proofs.Books.StepsChangeBooks.{kept-works}
 use Rattle.flow_model.specs.Kept.Lawful.{ended_before}
 use Rattle.flow_state.specs.Booked.{Booked, live_in, call_in, stops_in}
 use Rattle.flow_model.specs.Parts.Books.{Work, book_of, Book}
 use Rattle.flow_state.specs.Fitting.{IsBookOf, choosers}
-use Rattle.flow_state.proofs.Fits.{works-same}
 use Rattle.flow_state.proofs.OneCell.{cell-changed}
 use Rattle.entering.specs.Entering.{CanEnter, Enters, stops_entry, link_if, link_before, link_behind, CanLinkBefore, CanLinkBehind}
 use Rattle.entering.proofs.Places.{place-same, take-front, drop-rest}
@@ -34,9 +34,6 @@ pub stops-same : (graph : Graph) (s : Core) (book : Booked) (t : ℕ) → IsBook
 stops-same graph s book t fits lt e =
     ap (λ (f : Book). stops_in (record book { book = f }) t e.version) fits.parts
     ∙ stop_words (reaches s.pairs t e.version) (executes s t) (live s e.version) (executes s e.version) (live s t) lt
-
-pub live-same : (graph : Graph) (s : Core) (book : Booked) (u : ℕ) → IsBookOf graph s book → live_in book u ≡ live s u
-live-same graph s book u fits = ap (λ (f : Book). live_in (record book { book = f }) u) fits.parts
 
 -- What the place of a call is: the parts of the list before and behind it.
 pub record IsPlace (s : Core) (n t : ℕ) (es : List Entry) (place : ℕ) : Type 0 where
@@ -76,7 +73,7 @@ away_from r rvt same whole e h = grind (arith, e, h)
 pub right_away : (s : Core) (t n v : ℕ) (state : State) (ps : List Pair) → (right : Option ℕ) → right ≡ Some v → live s v ≡ true → ((u : ℕ) → reaches (link_right s t n right ps) u u ≡ false) → reaches ps v t ≡ false
 right_away s t n v state ps right e lv free =
     let pairs : link_right s t n right ps ≡ linked ps t v n = ap (λ (r : Option ℕ). link_right s t n r ps) e ∙ ap (λ (b : Bool). elim b [ true ↦ linked ps t v n | false ↦ ps ]) lv in
-    let whole = ap (λ (qs : List Pair). reaches qs v v) pairs ∙ reaches-link ps t v n v v ∙ ap (λ b. reaches ps v v || (((v == t) || reaches ps v t) && (b || reaches ps v v))) (eq-eqb v v refl) in
+    let whole = ap (λ (qs : List Pair). reaches qs v v) pairs ∙ reaches-linked ps t v n v v ∙ ap (λ b. reaches ps v v || (((v == t) || reaches ps v t) && (b || reaches ps v v))) (eq-eqb v v refl) in
     away_from (reaches ps v v) (reaches ps v t) (v == t) (reaches (link_right s t n right ps) v v) whole (free v)
 
 -- the flow with other pairs
@@ -137,7 +134,7 @@ enters book between new n list new_list t place slot state left right p_is l_is 
       n_is ∙ ap (λ (b : Booked). link_behind b right t n) (b_is ∙ ap (λ (x : Option ℕ). link_before book x t n) l ∙ left-linked graph s book t n (last_version None (front (stops s t) (entries s n))) can.fits)
           ∙ ap (λ (x : Option ℕ). link_behind (with_pairs_of book s ps) x t n) r
           ∙ right-linked s book t n ps (first_version (rest (stops s t) (entries s n)))
-          ∙ ap (λ (ws : List Work). record book { book = record (book_of s) { works = ws; pairs = linked_at s t n } }) (sym (works-same n (place_entry s t state) (λ c. refl) s.cells)),
+          ∙ ap (λ (ws : List Work). record book { book = record (book_of s) { works = ws; pairs = linked_at s t n } }) (sym (kept-works n (place_entry s t state) (λ c. refl) s.cells)),
       e_is
           ∙ ap (λ (es : List Entry). with_entries list (es ++ record { version = t; slot = slot; state = state } ∷ drop place list.entries)) at.before
           ∙ ap (λ (es : List Entry). with_entries list (front (stops s t) (entries s n) ++ record { version = t; slot = slot; state = state } ∷ es)) at.behind

@@ -1,5 +1,6 @@
 -- A call has a Mark in a list.
-use Rattle.std.proofs.Common.{◌≡◌, ℕ, Bool, true, false, ◌||◌, sym, ap, ◌∙◌}
+use Rattle.std.proofs.Common.{◌≡◌, ℕ, Bool, true, false, sym, ap, ◌∙◌}
+use Rattle.script_tree.proofs.Truths.{or_later}
 use Rattle.signal_graph.specs.Graph.{Graph}
 use Rattle.node_versions.specs.declared.entry.State.TheVariants as modes
 use Rattle.node_versions.specs.Entries.{Versions, has}
@@ -11,18 +12,15 @@ use Rattle.flow_model.specs.Parts.Books.{book_of}
 use Rattle.flow_state.specs.Fitting.{list_of}
 use Rattle.entering.specs.Entering.{CanEnter, SomeCanEnter, Enters}
 use Rattle.entering.specs.Marking.{CanMark, SomeCanMark, Marks}
+pub use Rattle.script_tree.proofs.Truths.{or_later as room-left}
 
 has-list : (graph : Graph) (s : Core) (n t : ℕ) (list : Versions) → list ≡ list_of graph s n → has list.entries t ≡ has (entries s n) t
 has-list graph s n t list is = ap (λ (l : Versions). has l.entries t) is
 
-pub room-left : (x y : Bool) → (x || y) ≡ true → x ≡ false → y ≡ true
-room-left true y h k = cc
-room-left false y h k = h
-
 can-enter : (graph : Graph) (s : Core) (book : Booked) (n : ℕ) (list : Versions) (t : ℕ) → CanMark graph s book n list t → has list.entries t ≡ false → CanEnter graph s book n list t
 can-enter graph s book n list t can away =
     let none = sym (has-list graph s n t list can.is_list) ∙ away in
-    record { fits = can.fits; is_list = can.is_list; node = can.node; is_live = can.is_live; no_entry = none; room = room-left (has (entries s n) t) (has_room s n) can.room none }
+    record { fits = can.fits; is_list = can.is_list; node = can.node; is_live = can.is_live; no_entry = none; room = or_later (has (entries s n) t) (has_room s n) can.room none }
 
 pub some-can : (book : Booked) (n : ℕ) (list : Versions) (t : ℕ) → SomeCanMark book n list t → has list.entries t ≡ false → SomeCanEnter book n list t
 some-can book n list t h away = record { graph = h.graph; state = h.state; can = can-enter h.graph h.state book n list t h.can away }

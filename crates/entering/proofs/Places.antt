@@ -1,20 +1,19 @@
 -- Places in lists, by index and by parts.
 use Rattle.std.proofs.Common.{◌≡◌, ◌≢◌, ℕ, zero, suc, ◌+◌, ◌-◌, ◌≤◌, Bool, true, false, not, cond, List, [], ◌∷◌, Option, Some, None, length, take, drop, refl, sym, ap, ◌∙◌, arith}
+use Rattle.std.proofs.lemmas.Option.{same_Some}
 use Rattle.std.specs.Prelude.{slice_get}
 use Rattle.std.specs.List.{position_or_len}
 use Rattle.node_versions.specs.declared.entry.Entry.{Entry}
 use Rattle.node_versions.specs.Entries.{front, rest}
+use Rattle.node_versions.proofs.Places.{one_more}
 use Rattle.flow_model.specs.Machine.Changes.{first_version, last_version}
-
-some_same : {X : Type 0} (x y : X) → Some x ≡ Some y → x ≡ y
-some_same x y e = cc
 
 none_some : {X : Type 0} (x : X) → None ≡ Some x → ⊥
 none_some x e = cc
 
 last-take : (es : List Entry) (i : ℕ) (e : Entry) (seen : Option ℕ) → slice_get es i ≡ Some e → last_version seen (take (suc i) es) ≡ Some e.version
 last-take [] i e seen h = absurd (none_some e h)
-last-take (x ∷ xs) zero e seen h = ap (λ (y : Entry). Some y.version) (some_same x e h)
+last-take (x ∷ xs) zero e seen h = ap (λ (y : Entry). Some y.version) (same_Some x e h)
 last-take (x ∷ xs) (suc i) e seen h = last-take xs i e (Some x.version) h
 
 pub last_at : (es : List Entry) (i : ℕ) (e : Entry) → i ≢ 0 → slice_get es (i - 1) ≡ Some e → Some e.version ≡ last_version None (take i es)
@@ -22,7 +21,7 @@ last_at es i e some h = let n : suc (i - 1) ≡ i = omega (arith, some) in sym (
 
 pub first_at : (es : List Entry) (i : ℕ) (e : Entry) → slice_get es i ≡ Some e → Some e.version ≡ first_version (drop i es)
 first_at [] i e h = absurd (none_some e h)
-first_at (x ∷ xs) zero e h = sym (ap (λ (y : Entry). Some y.version) (some_same x e h))
+first_at (x ∷ xs) zero e h = sym (ap (λ (y : Entry). Some y.version) (same_Some x e h))
 first_at (x ∷ xs) (suc i) e h = first_at xs i e h
 
 pub first_past : (es : List Entry) (i : ℕ) → length es ≤ i → None ≡ first_version (drop i es)
@@ -30,9 +29,6 @@ first_past [] zero h = refl
 first_past [] (suc i) h = refl
 first_past (x ∷ xs) zero h = absurd (omega (arith, h))
 first_past (x ∷ xs) (suc i) h = first_past xs i (omega (arith, h))
-
-one_more : (n : ℕ) → 1 + n ≡ suc n
-one_more n = omega arith
 
 pub place-same : (p q : Entry → Bool) (es : List Entry) → ((e : Entry) → p e ≡ q e) → position_or_len p es ≡ position_or_len q es
 place-same p q [] same = refl
