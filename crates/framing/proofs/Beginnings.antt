@@ -1,18 +1,16 @@
 -- A beginning finds a slot, and what it makes.
 use Rattle.std.proofs.Common.{◌≡◌, ℕ, ◌+◌, ◌<◌, ◌≤◌, true, List, length, Option, Some, None, is_none, refl, sym, ap, ◌∙◌, subst, arith}
-use Rattle.std.specs.Prelude.{nat_le}
-use Rattle.std.proofs.lemmas.Bool.{false≢true}
+use Rattle.std.proofs.lemmas.Bool.{false≢true, not-true, leb-true}
 use Rattle.std.proofs.lemmas.List.{length-map}
-use Rattle.std.proofs.lemmas.Bool.Decides.{nat_tests}
 use Rattle.signal_graph.specs.declared.call.Call.{Call}
 use Rattle.script_tree.specs.declared.limits.TheConstants.{LOOKS}
 use Rattle.script_tree.specs.declared.value.Value.{Value}
+use Rattle.script_tree.proofs.Truths.{and_left, and_right}
 use Rattle.signal_graph.specs.Graph.{Graph, number_of}
 use Rattle.signal_graph.specs.Machine.{looks_of, misnamed}
 use Rattle.flow_model.specs.Machine.State.{Core}
 use Rattle.flow_model.specs.Machine.Steps.{can_begin, free_slot, has_call, sets_in, looks_in}
 use Rattle.flow_model.proofs.OneStep.BegunCalls.{few-calls, slot-free}
-use Rattle.flow_model.proofs.OneStep.WhoMayStep.{and_left, and_right, not_is}
 use Rattle.flow_state.specs.Booked.{Booked, AreInside, begin_call, node_count}
 use Rattle.flow_state.specs.Rooms.{Roomy, IsRoomFor}
 use Rattle.flow_state.proofs.Naming.{named_inside}
@@ -20,16 +18,13 @@ use Rattle.flow_model.specs.Parts.Books.{Book, work_in}
 use Rattle.flow_state.specs.Fitting.{IsBookOf}
 use Rattle.framing.specs.Begins.{MakesBeginning}
 
-at_most : (a b : ℕ) → nat_le a b ≡ true → a ≤ b
-at_most a b h = grind (arith, nat_tests)
-
 pub slot_inside : (graph : Graph) (s : Core) (book : Booked) (caller : ℕ) (call : Call) → IsBookOf graph s book → can_begin graph s caller call ≡ true → free_slot book.book.callers 0 book.book.calls < book.book.callers
 slot_inside graph s book caller call fits h =
     let three = and_left _ _ (and_left _ _ (and_left _ _ (and_left _ _ h))) in
     let two = and_left _ _ three in
-    let first = at_most 1 caller (and_left _ _ two) in
-    let last = at_most caller s.callers (and_right _ _ two) in
-    let none = not_is (has_call caller s.calls) (and_right _ _ three) in
+    let first = leb-true 1 caller (and_left _ _ two) in
+    let last = leb-true caller s.callers (and_right _ _ two) in
+    let none = not-true (has_call caller s.calls) (and_right _ _ three) in
     let slot = slot-free graph s fits.lawful (few-calls graph s fits.lawful caller first last none) in
     let inside : free_slot s.callers 0 s.calls < s.callers = let i = slot.inside in omega (arith, i) in
     subst (λ (f : Book). free_slot f.callers 0 f.calls < f.callers) (sym fits.parts) inside
@@ -48,7 +43,7 @@ sets_inside graph s book caller call room fits h made =
 pub looks_few : (graph : Graph) (s : Core) (caller : ℕ) (call : Call) (room : Roomy) → can_begin graph s caller call ≡ true
     → IsRoomFor graph call room → length room.looks ≤ LOOKS
 looks_few graph s caller call room h made =
-    let few = at_most (length (looks_of call)) LOOKS (and_right _ _ (and_left _ _ (and_left _ _ h))) in
+    let few = leb-true (length (looks_of call)) LOOKS (and_right _ _ (and_left _ _ (and_left _ _ h))) in
     let many = ap length made.looks ∙ length-map (looks_of call) (number_of graph) in
     omega (arith, few, many)
 

@@ -1,46 +1,37 @@
 -- What framing a node needs, and what it makes.
-use Rattle.std.proofs.Common.{◌≡◌, ℕ, ◌+◌, ◌<◌, ◌≤◌, inl, inr, Bool, true, false, ◌==◌, ◌||◌, ◌&&◌, cond, List, [], ◌∷◌, ◌++◌, Option, Some, None, length, filter, refl, sym, ap, ◌∙◌, subst, arith}
-use Rattle.std.proofs.lemmas.Bool.{eq-eqb, cases_lt, true≢false, false≢true}
-use Rattle.std.proofs.lemmas.List.{get_or_past, length-map}
+use Rattle.std.proofs.Common.{◌≡◌, ℕ, ◌+◌, ◌<◌, ◌≤◌, inl, inr, Bool, true, false, ◌==◌, ◌||◌, ◌&&◌, cond, List, [], ◌∷◌, ◌++◌, length, filter, refl, sym, ap, ◌∙◌, subst, arith}
+use Rattle.std.proofs.lemmas.Bool.{eq-eqb, true≢false, false≢true, cases_Bool}
+use Rattle.std.proofs.lemmas.List.{length-map}
 use Rattle.signal_graph.specs.declared.node.Node.{Node}
-use Rattle.signal_graph.specs.declared.node.Node.TheVariants.{Source}
-use Rattle.script_tree.specs.declared.value.Value.TheVariants.{Fault as Faulty}
-use Rattle.script_tree.specs.declared.value.Fault.TheVariants.{Kind}
-use Rattle.signal_graph.specs.Graph.{Graph, node_at, numbers_from, static_outs, selectors_of, is_in, inputs_of}
+use Rattle.script_tree.proofs.Truths.{and_left, and_right, or_later}
+use Rattle.signal_graph.specs.Graph.{Graph, node_at, numbers_from, static_outs, is_in, inputs_of}
 use Rattle.node_versions.specs.declared.entry.State.TheVariants as state
 use Rattle.node_versions.specs.Entries.{Versions, OutEdge, is_mark, has, at, with_state, with_entries, active_nodes, has_out, is_edge}
 use Rattle.node_versions.proofs.Places.{at-has}
+use Rattle.node_versions.proofs.KeptLemmas.{has-with_state}
 use Rattle.flow_model.specs.declared.step.Step.TheVariants as step
-use Rattle.flow_model.specs.Machine.State.{Core, Cell, LiveCall, live, call_of, call_or, wants, entries, outs}
+use Rattle.flow_model.specs.Machine.State.{Core, Cell, LiveCall, call_of, wants, entries, outs}
 use Rattle.std.specs.Prelude.{is_some}
 use Rattle.flow_model.specs.Machine.Words.{active_outs}
 use Rattle.flow_model.specs.Machine.Changes.{stops_call, new_entry, place_entry, set_state, enter, raise, opened}
-use Rattle.flow_model.specs.Machine.Steps.{allowed, frame, open_node}
-use Rattle.flow_model.specs.Kept.Lawful.{lists_candidate}
-use Rattle.flow_model.proofs.General.Truths.{true_or_false}
+use Rattle.flow_model.specs.Machine.Steps.{allowed}
 use Rattle.flow_model.proofs.OneStep.SameLengths.{change_at-length}
-use Rattle.flow_model.proofs.OneStep.WhoMayStep.{and_left, and_right}
+use Rattle.flow_model.proofs.OneStep.WhoMayStep.{wants-live}
 use Rattle.flow_model.proofs.OrderStays.AfterEachStep.{wanted-fresh}
-use Rattle.flow_model.proofs.OneList.InOrder.{with_state-has}
 use Rattle.flow_model.proofs.OneList.OneEntryACall.{placed-has}
+use Rattle.flow_model.proofs.Books.StepsChangeBooks.{kept-works}
+use Rattle.flow_model.proofs.Wants.WantsAreFree.{candidate-node}
+use Rattle.flow_model.proofs.Others.CallsAreLeft.{with_frame-calls, frame-opens}
 use Rattle.flow_state.specs.Booked.{Booked, live_in, node_count, with_book, on_call, opened_one}
 use Rattle.flow_model.specs.Parts.Books.{Work, work_in, book_of, Book}
-use Rattle.flow_state.proofs.Fits.{works-same}
+use Rattle.flow_model.specs.Follows.Others.{with_frame}
 use Rattle.flow_state.proofs.OneCell.{cell-changed}
 use Rattle.flow_state.specs.Fitting.{IsBookOf, IsListStep, MakesList, list_of, choosers}
 use Rattle.entering.specs.Entering.{CanEnter, Enters}
-use Rattle.entering.proofs.Marked.{room-left}
-use Rattle.framing.specs.Framed.{wanting_all, with_frame, CanFrame, SomeCanFrame, TakesFrame, AreBelow, EdgesBelow}
+use Rattle.framing.specs.Framed.{wanting_all, CanFrame, SomeCanFrame, TakesFrame, AreBelow, EdgesBelow}
 use Rattle.framing.proofs.Wanting.{on-twice, all-append, opened-all, all-version}
 
 -- ---- where the step is allowed
-
-wants-live : (s : Core) (t n : ℕ) → wants s t n ≡ true → live s t ≡ true
-wants-live s t n h = go (call_of s.calls t) h
-  where
-    go : (c : Option LiveCall) → is_in n (call_or c).wanted ≡ true → is_some c ≡ true
-    go None h = h
-    go (Some c) h = refl
 
 pub frame_can : (graph : Graph) (s : Core) (book : Booked) (n : ℕ) (list : Versions) (t : ℕ) → IsBookOf graph s book → list ≡ list_of graph s n → allowed graph s (step.Frame t n) ≡ true → CanFrame graph s book n list t
 frame_can graph s book n list t fits is h =
@@ -51,13 +42,13 @@ frame_can graph s book n list t fits is h =
       is_list = is;
       node = let a = free.node in let b = fits.lawful.lists in omega (arith, a, b);
       is_live = wants-live s t n w;
-      mark = λ k. elim (true_or_false (at is_mark (entries s n) t)) [
+      mark = λ k. elim (cases_Bool (at is_mark (entries s n) t)) [
         | inl m ↦ m
         | inr m ↦ absurd (true≢false (sym k ∙ wanted-fresh graph s fits.lawful t n w m))
       ];
-      room = λ k. elim (true_or_false (at is_mark (entries s n) t)) [
+      room = λ k. elim (cases_Bool (at is_mark (entries s n) t)) [
         | inl m ↦ absurd (true≢false (sym (at-has is_mark (entries s n) t m) ∙ k))
-        | inr m ↦ room-left (at is_mark (entries s n) t) _ (and_right (wants s t n) _ h) m
+        | inr m ↦ or_later (at is_mark (entries s n) t) _ (and_right (wants s t n) _ h) m
       ];
     }
 
@@ -86,7 +77,7 @@ takes_by_raise book n list new_list t h is graph s can =
     let m = can.mark (sym (list_has graph s n list t can.is_list) ∙ h) in
     let s_is = raised s t n m in (
       ap (λ (f : Book). record book { book = f }) can.fits.parts
-          ∙ ap (λ (ws : List Work). record book { book = record (book_of s) { works = ws } }) (sym (works-same n (set_state t state.Frame) (λ c. refl) s.cells))
+          ∙ ap (λ (ws : List Work). record book { book = record (book_of s) { works = ws } }) (sym (kept-works n (set_state t state.Frame) (λ c. refl) s.cells))
           ∙ ap (λ (x : Core). with_book book (book_of x)) (sym s_is),
       is ∙ ap (λ (l : Versions). with_entries l (with_state t state.Frame l.entries)) can.is_list
           ∙ ap (λ (c : Cell). record { entries = c.entries; outs = c.outs; room = s.callers + 9; outs_room = choosers graph n }) (sym (cell-changed n (set_state t state.Frame) s.cells can.node))
@@ -96,19 +87,12 @@ takes_by_raise book n list new_list t h is graph s can =
 pub takes_by_entry : (book new : Booked) (n : ℕ) (list new_list : Versions) (t : ℕ) → has list.entries t ≡ false → Enters book n list t state.Frame new new_list → TakesFrame book n list t new new_list
 takes_by_entry book new n list new_list t h enters graph s can =
     let k = frame_enters graph s book n list t can h in
-    let no_mark : at is_mark (entries s n) t ≡ false = elim (true_or_false (at is_mark (entries s n) t)) [ inl m ↦ absurd (true≢false (sym (at-has is_mark (entries s n) t m) ∙ k.no_entry)) | inr m ↦ m ] in
+    let no_mark : at is_mark (entries s n) t ≡ false = elim (cases_Bool (at is_mark (entries s n) t)) [ inl m ↦ absurd (true≢false (sym (at-has is_mark (entries s n) t m) ∙ k.no_entry)) | inr m ↦ m ] in
     let s_is = entered s t n no_mark in
     let made = enters graph s k in
     (made.0 ∙ ap (λ (x : Core). with_book book (book_of x)) (sym s_is), made.1 ∙ ap (λ (x : Core). list_of graph x n) (sym s_is))
 
 -- ---- what stays
-
-frame-calls : (s : Core) (t n : ℕ) → (with_frame s t n).calls ≡ s.calls
-frame-calls s t n = go (at is_mark (entries s n) t)
-  where
-    go : (b : Bool) → (elim b as (λ _. Core) [ true ↦ raise s t n | false ↦ enter s t n state.Frame ]).calls ≡ s.calls
-    go true = refl
-    go false = refl
 
 frame-cells : (s : Core) (t n : ℕ) → length (with_frame s t n).cells ≡ length s.cells
 frame-cells s t n = go (at is_mark (entries s n) t)
@@ -132,11 +116,11 @@ frame-has s t n h = go (at is_mark (entries s n) t) refl
     or_first false b h = absurd (false≢true h)
 
     go : (b : Bool) → at is_mark (entries s n) t ≡ b → has (entries (elim b as (λ _. Core) [ true ↦ raise s t n | false ↦ enter s t n state.Frame ]) n) t ≡ true
-    go true e = ap (λ (c : Cell). has c.entries t) (cell-changed n (set_state t state.Frame) s.cells h) ∙ with_state-has t state.Frame (entries s n) t ∙ at-has is_mark (entries s n) t e
+    go true e = ap (λ (c : Cell). has c.entries t) (cell-changed n (set_state t state.Frame) s.cells h) ∙ has-with_state t state.Frame (entries s n) t ∙ at-has is_mark (entries s n) t e
     go false e = ap (λ (c : Cell). has c.entries t) (cell-changed n (place_entry s t state.Frame) s.cells h) ∙ placed-has (stops_call s t) (new_entry s t state.Frame) (entries s n) t ∙ or_first (t == t) _ (eq-eqb t t refl)
 
 pub book_live : (graph : Graph) (s : Core) (book book1 : Booked) (n : ℕ) (list : Versions) (t : ℕ) → CanFrame graph s book n list t → book1 ≡ with_book book (book_of (with_frame s t n)) → live_in book1 t ≡ true
-book_live graph s book book1 n list t can is = ap (λ (b : Booked). live_in b t) is ∙ ap (λ (cs : List LiveCall). is_some (call_of cs t)) (frame-calls s t n) ∙ can.is_live
+book_live graph s book book1 n list t can is = ap (λ (b : Booked). live_in b t) is ∙ ap (λ (cs : List LiveCall). is_some (call_of cs t)) (with_frame-calls s t n) ∙ can.is_live
 
 pub book_nodes : (graph : Graph) (s : Core) (book book1 : Booked) (n : ℕ) (list : Versions) (t : ℕ) → CanFrame graph s book n list t → book1 ≡ with_book book (book_of (with_frame s t n)) → node_count book1 ≡ length graph.nodes
 book_nodes graph s book book1 n list t can is = ap node_count is ∙ length-map (with_frame s t n).cells work_in ∙ frame-cells s t n ∙ can.fits.lawful.lists
@@ -157,12 +141,6 @@ below-from p k size (x ∷ xs) h = go (p k) (below-from p (k + 1) size xs (omega
 pub static_below : (graph : Graph) (m : ℕ) → AreBelow (length graph.nodes) (static_outs graph m)
 static_below graph m = below-from (λ n. is_in m (inputs_of (node_at graph n))) 0 (length graph.nodes) graph.nodes (omega arith)
 
-candidate-below : (graph : Graph) (m n : ℕ) → lists_candidate m (selectors_of (node_at graph n)) ≡ true → n < length graph.nodes
-candidate-below graph m n h = elim (cases_lt n (length graph.nodes)) [
-  | inl below ↦ below
-  | inr past ↦ absurd (false≢true (sym (ap (λ (x : Node). lists_candidate m (selectors_of x)) (get_or_past graph.nodes n (Source (Faulty Kind)) past)) ∙ h))
-]
-
 edges-below : (size : ℕ) (outs : List OutEdge) → ((n since : ℕ) → has_out outs n since ≡ true → n < size) → EdgesBelow size outs
 edges-below size [] h = tt
 edges-below size (x ∷ xs) h = (h x.0 x.1 (or_first (is_edge x.0 x.1 x) _ (both (x.0 == x.0) (x.1 == x.1) (eq-eqb x.0 x.0 refl) (eq-eqb x.1 x.1 refl))), edges-below size xs (λ n since e. h n since (or_second (is_edge n since x) _ e)))
@@ -182,16 +160,9 @@ edges-below size (x ∷ xs) h = (h x.0 x.1 (or_first (is_edge x.0 x.1 x) _ (both
 pub list_edges : (graph : Graph) (s : Core) (book : Booked) (n : ℕ) (list list1 : Versions) (t : ℕ) → CanFrame graph s book n list t → list1 ≡ list_of graph (with_frame s t n) n → EdgesBelow (length graph.nodes) list1.outs
 list_edges graph s book n list list1 t can is =
     subst (EdgesBelow (length graph.nodes)) (sym (ap (λ (l : Versions). l.outs) is ∙ frame-outs s t n can.node))
-    (edges-below (length graph.nodes) (outs s n) (λ k since h. candidate-below graph n k (can.fits.lawful.edges_fit.candidate k n since h)))
+    (edges-below (length graph.nodes) (outs s n) (λ k since h. candidate-node graph n k (can.fits.lawful.edges_fit.candidate k n since h)))
 
 -- ---- the whole step
-
-opens_framed : (graph : Graph) (s : Core) (t n : ℕ) → frame graph s t n ≡ open_node graph (with_frame s t n) t n
-opens_framed graph s t n = go (at is_mark (entries s n) t)
-  where
-    go : (b : Bool) → elim b as (λ _. Core) [ true ↦ open_node graph (raise s t n) t n | false ↦ open_node graph (enter s t n state.Frame) t n ] ≡ open_node graph (elim b as (λ _. Core) [ true ↦ raise s t n | false ↦ enter s t n state.Frame ]) t n
-    go true = refl
-    go false = refl
 
 same-change : (t : ℕ) (f g : LiveCall → LiveCall) (book : Booked) → ((c : LiveCall) → f c ≡ g c) → on_call book t f ≡ on_call book t g
 same-change t f g book same = ap (λ (cs : List LiveCall). record book { book = record book.book { calls = cs } }) (go book.book.calls)
@@ -218,6 +189,6 @@ frame_makes graph book book1 book2 book3 book4 n list list1 t statics takes b2 s
           ∙ same-change t (λ c. wanting_all act (wanting_all statics (opened_one n c))) (opened n (statics ++ act)) book1 (λ c. all-append statics act (opened_one n c) ∙ opened-all n (statics ++ act) c)
           ∙ ap (λ (ns : List ℕ). on_call book1 t (opened n ns)) outs_are
           ∙ ap (λ (b : Booked). on_call b t (opened n (active_outs graph x t n))) made.0
-          ∙ ap (λ (y : Core). with_book book (book_of y)) (sym (opens_framed graph s t n)),
-      made.1 ∙ ap (λ (y : Core). list_of graph y n) (sym (opens_framed graph s t n)),
+          ∙ ap (λ (y : Core). with_book book (book_of y)) (sym (frame-opens graph s t n)),
+      made.1 ∙ ap (λ (y : Core). list_of graph y n) (sym (frame-opens graph s t n)),
     )

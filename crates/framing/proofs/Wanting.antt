@@ -1,5 +1,6 @@
 -- A call comes to want nodes, one after the other.
 use Rattle.std.proofs.Common.{◌≡◌, ℕ, zero, suc, ◌+◌, ◌<◌, Bool, true, false, ◌==◌, List, [], ◌∷◌, ◌++◌, Some, None, length, get_or, drop, refl, sym, ap, ◌∙◌, subst, arith}
+use Rattle.std.proofs.lemmas.List.{drop_more}
 use Rattle.node_versions.specs.declared.entry.Entry.{Entry}
 use Rattle.std.specs.Prelude.{slice_get}
 use Rattle.node_versions.specs.Entries.{OutEdge, is_active, active_nodes, since_at}
@@ -10,7 +11,6 @@ use Rattle.flow_model.specs.Machine.Changes.{opened}
 use Rattle.flow_state.specs.Booked.{Booked, live_in, node_count, on_call, opened_one, wanting}
 use Rattle.flow_state.proofs.BookLemmas.{has-change}
 use Rattle.flow_state.proofs.SeatLemmas.{change-is}
-use Rattle.flow_state.proofs.Walks.{rest_is}
 use Rattle.framing.specs.Framed.{wanting_all, AreBelow, EdgesBelow}
 
 -- ---- changes of one call, one after the other
@@ -81,10 +81,10 @@ active-step : (es : List Entry) (edge : OutEdge) (outs : List OutEdge) (t : ℕ)
 active-step es edge outs t b e = ap (λ (b : Bool). elim b [ true ↦ edge.0 ∷ active_nodes es outs t | false ↦ active_nodes es outs t ]) e
 
 pub active_more : (es : List Entry) (outs : List OutEdge) (t i : ℕ) (d : OutEdge) → i < length outs → is_active es (get_or outs i d).1 t ≡ true → active_nodes es (drop i outs) t ≡ (get_or outs i d).0 ∷ active_nodes es (drop (i + 1) outs) t
-active_more es outs t i d h e = ap (λ (xs : List OutEdge). active_nodes es xs t) (rest_is outs i d h) ∙ active-step es (get_or outs i d) (drop (i + 1) outs) t true e
+active_more es outs t i d h e = ap (λ (xs : List OutEdge). active_nodes es xs t) (drop_more outs i d h) ∙ active-step es (get_or outs i d) (drop (i + 1) outs) t true e
 
 pub active_skip : (es : List Entry) (outs : List OutEdge) (t i : ℕ) (d : OutEdge) → i < length outs → is_active es (get_or outs i d).1 t ≡ false → active_nodes es (drop i outs) t ≡ active_nodes es (drop (i + 1) outs) t
-active_skip es outs t i d h e = ap (λ (xs : List OutEdge). active_nodes es xs t) (rest_is outs i d h) ∙ active-step es (get_or outs i d) (drop (i + 1) outs) t false e
+active_skip es outs t i d h e = ap (λ (xs : List OutEdge). active_nodes es xs t) (drop_more outs i d h) ∙ active-step es (get_or outs i d) (drop (i + 1) outs) t false e
 
 -- ---- what opening a node comes to
 

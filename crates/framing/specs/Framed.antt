@@ -6,19 +6,15 @@ use Rattle.node_versions.specs.declared.entry.State.TheVariants as state
 use Rattle.node_versions.specs.Entries.{Versions, OutEdge, is_mark, has, at}
 use Rattle.flow_model.specs.Machine.State.{Core, LiveCall, live, entries}
 use Rattle.flow_model.specs.Machine.Words.{has_room}
-use Rattle.flow_model.specs.Machine.Changes.{enter, raise}
 use Rattle.flow_state.specs.Booked.{Booked, wanting, with_book}
 use Rattle.flow_model.specs.Parts.Books.{book_of}
+use Rattle.flow_model.specs.Follows.Others.{with_frame}
 use Rattle.flow_state.specs.Fitting.{IsBookOf, list_of}
 
 -- a call comes to want all nodes of a list, but for those that are open for it
 abbrev pub wanting_all : List ℕ → LiveCall → LiveCall
 wanting_all [] c = c
 wanting_all (n ∷ ns) c = wanting_all ns (wanting n c)
-
--- the state in which the call has its Frame
-abbrev pub with_frame : Core → ℕ → ℕ → Core
-with_frame s t n = elim (at is_mark (entries s n) t) [ true ↦ raise s t n | false ↦ enter s t n state.Frame ]
 
 -- The state fits, and the live call has a Mark in the node's list, or no entry and room for one.
 pub record CanFrame (graph : Graph) (s : Core) (book : Booked) (n : ℕ) (list : Versions) (t : ℕ) : Type 0 where

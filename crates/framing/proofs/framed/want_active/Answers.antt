@@ -1,7 +1,7 @@
 use Rattle.std.proofs.Common.{◌∙◌, List, ap, sym, arith, true≢false}
+use Rattle.std.proofs.lemmas.List.{drop_all}
 use Rattle.node_versions.specs.Entries.{OutEdge, is_active, active_nodes, since_at}
 use Rattle.flow_state.specs.Booked.{node_count}
-use Rattle.flow_state.proofs.ListRests.{drop-past}
 use Rattle.framing.proofs.Wanting.{wanting_begins, wanting_more, wanting_same, wanting_ends, edge_in, active_taken, active_skip}
 use Rattle.framing.proofs.framed.want_active.Goals as goal
 use Rattle.framing.proofs.framed.want_active.Goals.{then-active_at, else-active_at}
@@ -32,4 +32,4 @@ loop-index-preserved c =
 
 pub returns : goal.returns
 returns c = wanting_ends c.args.book.now c.loop-index.book c.args.version _ _ c.loop-index.invariant
-    (ap (λ (xs : List OutEdge). active_nodes c.args.list.now.entries xs c.args.version) (drop-past c.args.list.now.outs c.loop-index.index (let len = c.outs_len-index-end.ensures in omega (arith, len))))
+    (ap (λ (xs : List OutEdge). active_nodes c.args.list.now.entries xs c.args.version) (drop_all c.loop-index.index c.args.list.now.outs (let len = c.outs_len-index-end.ensures in omega (arith, len))))

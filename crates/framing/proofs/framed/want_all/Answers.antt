@@ -1,7 +1,6 @@
 use Rattle.std.proofs.Common.{arith}
+use Rattle.std.proofs.lemmas.List.{drop_all, drop_more}
 use Rattle.flow_state.specs.Booked.{node_count}
-use Rattle.flow_state.proofs.ListRests.{drop-past}
-use Rattle.flow_state.proofs.Walks.{rest_is}
 use Rattle.framing.proofs.Wanting.{wanting_begins, wanting_more, wanting_ends, below_at}
 use Rattle.framing.proofs.framed.want_all.Goals as goal
 
@@ -18,7 +17,7 @@ want-requires-clause-node c =
     omega (arith, n, same)
 
 pub loop-node-preserved : goal.loop-node-preserved
-loop-node-preserved c = wanting_more c.args.book.now c.loop-node.book c.want.new.self c.args.version _ c.args.nodes.now _ _ c.loop-node.invariant (rest_is c.args.nodes.now c.loop-node.node-index 0 (omega arith)) c.want.ensures
+loop-node-preserved c = wanting_more c.args.book.now c.loop-node.book c.want.new.self c.args.version _ c.args.nodes.now _ _ c.loop-node.invariant (drop_more c.args.nodes.now c.loop-node.node-index 0 (omega arith)) c.want.ensures
 
 pub returns : goal.returns
-returns c = wanting_ends c.args.book.now c.loop-node.book c.args.version c.args.nodes.now _ c.loop-node.invariant (drop-past c.args.nodes.now c.loop-node.node-index (omega arith))
+returns c = wanting_ends c.args.book.now c.loop-node.book c.args.version c.args.nodes.now _ c.loop-node.invariant (drop_all c.loop-node.node-index c.args.nodes.now (omega arith))
