@@ -1,13 +1,14 @@
 -- What an end asks and makes.
 use Rattle.std.proofs.Common.{◌≡◌, ℕ, true, false, Option, Some, None, refl, sym, ap, ◌∙◌, true≢false}
+use Rattle.std.proofs.lemmas.Bool.{false_from_ne_true, both_ways, not-true}
 use Rattle.signal_graph.specs.Graph.{Graph}
 use Rattle.order_graph.specs.Order.{is_recorded}
 use Rattle.flow_model.specs.declared.step.Step.TheVariants.{End}
 use Rattle.flow_model.specs.Machine.State.{Core, LiveCall, call_of, live}
 use Rattle.std.specs.Prelude.{is_some}
+use Rattle.script_tree.proofs.Truths.{and_right}
 use Rattle.flow_model.specs.Machine.Steps.{any_before}
-use Rattle.flow_model.proofs.General.Truths.{not_true, is_not_true}
-use Rattle.flow_model.proofs.OneStep.WhoMayStep.{and_right, not_is, end-idle, idle-executes, executes-live}
+use Rattle.flow_model.proofs.OneStep.WhoMayStep.{end-idle, idle-executes, executes-live}
 use Rattle.flow_model.proofs.OneList.CallsAndCells.{list_any-none}
 use Rattle.flow_state.specs.Booked.{Booked, live_in, end_call}
 use Rattle.flow_model.specs.Parts.Books.{Book}
@@ -27,8 +28,8 @@ none_recorded s u t none alive = go (call_of s.calls u) refl
 pub end-first : (book : Booked) (t : ℕ) → (graph : Graph) × IsBookStep graph book (End t) → (u : ℕ) → is_recorded book.book.pairs u t ≡ false
 end-first book t h u =
     let s = h.1.state in
-    let none = not_is (any_before s t) (and_right _ _ h.1.allowed) in
-    ap (λ (f : Book). is_recorded f.pairs u t) h.1.fits.parts ∙ not_true _ (λ r. is_not_true _ (none_recorded s u t none (h.1.fits.lawful.entries_are_kept.pairs u t r).0) r)
+    let none = not-true (any_before s t) (and_right _ _ h.1.allowed) in
+    ap (λ (f : Book). is_recorded f.pairs u t) h.1.fits.parts ∙ false_from_ne_true _ (λ r. both_ways _ (none_recorded s u t none (h.1.fits.lawful.entries_are_kept.pairs u t r).0) r)
 
 pub end-makes : (book new : Booked) (t : ℕ) → new ≡ end_call book t → (graph : Graph) → MakesBook graph book (End t) new
 end-makes book new t is graph s fits h = is ∙ ap (λ (f : Book). end_call (record book { book = f }) t) fits.parts

@@ -1,28 +1,32 @@
 -- What it asks and makes to gather a value.
-use Rattle.std.proofs.Common.{◌≡◌, ℕ, zero, suc, ◌<◌, ◌≤◌, ◌+◌, Bool, true, false, ◌||◌, ◌==◌, List, [], ◌∷◌, ◌++◌, length-append, Option, Some, None, length, map, slice_index_or, refl, sym, ap, ◌∙◌, subst, arith, true≢false}
+use Rattle.std.proofs.Common.{◌≡◌, ℕ, suc, ◌<◌, ◌≤◌, ◌+◌, Bool, true, false, ◌||◌, ◌==◌, List, [], ◌∷◌, ◌++◌, length-append, Option, Some, None, length, map, slice_index_or, refl, sym, ap, ◌∙◌, subst, arith, true≢false, zero-add}
+use Rattle.std.proofs.lemmas.Bool.{eqb-true, false_from_ne_true, not-true}
 use Rattle.std.specs.Option.{IsSome, is_some}
 use Rattle.script_tree.specs.declared.limits.TheConstants.{SELECTORS}
 use Rattle.script_tree.specs.declared.value.Value.{Value}
+use Rattle.script_tree.proofs.Truths.{and_left, and_right}
+use Rattle.script_tree.proofs.Numbers.{equal_to_itself}
 use Rattle.signal_graph.specs.declared.node.Node.{Node}
 use Rattle.signal_graph.specs.declared.node.Node.TheVariants.{Source, Signal, Fold, Choose}
-use Rattle.signal_graph.specs.Graph.{Graph, IsGraph, IsNode, node_at, numbers_from, inputs_of, is_in}
-use Rattle.signal_graph.specs.Values.{nodes_in}
+use Rattle.signal_graph.specs.Graph.{Graph, IsGraph, IsNode, node_at, inputs_of, is_in}
+use Rattle.signal_graph.proofs.Members.{read-from, nodes_in-length}
 use Rattle.node_versions.specs.Entries.{Versions, has, up_to, last_done, value_at}
 use Rattle.flow_model.specs.declared.step.Step.TheVariants.{Gather}
 use Rattle.flow_model.specs.Machine.State.{Core, Found, cell, entries, live}
 use Rattle.flow_model.specs.Machine.Words.{gathered_of, found_picks, found_candidates, picks_of_found, heads, finds}
 use Rattle.flow_model.specs.Machine.Steps.{allowed, gather}
 use Rattle.flow_model.specs.Kept.Lawful.{IsLawful}
-use Rattle.flow_model.proofs.General.Truths.{not_true, same_number, equal_test}
-use Rattle.flow_model.proofs.OneStep.WhoMayStep.{and_left, and_right, not_is, gather-due, at_front-heads, at_front-executes, executes-live}
+use Rattle.flow_model.proofs.OneStep.WhoMayStep.{gather-due, at_front-heads, at_front-executes, executes-live}
 use Rattle.flow_model.proofs.OneStep.WhoMayStep.{due-can_work}
 use Rattle.flow_model.proofs.OneStep.WhoMayStep.{can_work-at_front}
 use Rattle.flow_model.proofs.OrderStays.OpenNodesHaveFrames.{entry-there}
 use Rattle.flow_model.proofs.Opening.OpeningLists.{nodes-at}
+use Rattle.flow_model.proofs.Books.StepsChangeBooks.{changed-works}
 use Rattle.flow_state.specs.Booked.{AreApart, Booked, node_count as nodes_of, work_at, on_work, room_at}
 use Rattle.flow_model.specs.Parts.Books.{Work, book_of, with_gathered, Book}
 use Rattle.flow_state.specs.Fitting.{IsBookOf, IsListStep, MakesRead}
-use Rattle.flow_state.proofs.Fits.{fits_node, same_work, works-change, lawful_up_to, heads_has}
+use Rattle.flow_state.proofs.Fits.{fits_node, same_work, lawful_up_to, heads_has}
+use Rattle.flow_state.proofs.Gathered.{first}
 use Rattle.sweep.proofs.Looks.{served-has}
 
 -- ---- no more values than nodes
@@ -45,7 +49,7 @@ less-in m n [] other h = h
 less-in m n (x ∷ xs) other h = go (x == m) refl (less-in m n xs other) h
   where
     go : (b : Bool) → (x == m) ≡ b → (is_in n xs ≡ true → is_in n (less m xs) ≡ true) → ((x == n) || is_in n xs) ≡ true → is_in n (elim b [ true ↦ xs | false ↦ x ∷ less m xs ]) ≡ true
-    go true i r k = past (x == n) (ap (λ (j : ℕ). j == n) (same_number x m i) ∙ other) k
+    go true i r k = past (x == n) (ap (λ (j : ℕ). j == n) (eqb-true x m i) ∙ other) k
       where
         past : (b : Bool) → b ≡ false → (b || is_in n xs) ≡ true → is_in n xs ≡ true
         past false i k = k
@@ -56,32 +60,21 @@ less-in m n (x ∷ xs) other h = go (x == m) refl (less-in m n xs other) h
         further true k r = refl
         further false k r = r k
 
-abbrev first : Bool → Value → Option Value → Option Value
-first b v o = elim b [ true ↦ Some v | false ↦ o ]
-
 first_more : (b : Bool) (v : Value) (o : Option Value) → is_some o ≡ true → is_some (first b v o) ≡ true
 first_more true v o h = refl
 first_more false v o h = h
 
-itself : (m : ℕ) → (m == m) ≡ true
-itself m = equal_test m m refl
-
 pigeons : (ps : List (ℕ × Value)) (ms : List ℕ) → AreApart ps → ((n : ℕ) → is_some (gathered_of n ps) ≡ true → is_in n ms ≡ true) → length ps ≤ length ms
 pigeons [] ms apart all = omega arith
 pigeons (p ∷ ps) ms apart all =
-    let here = less-length p.0 ms (all p.0 (ap (λ (b : Bool). is_some (first b p.1 (gathered_of p.0 ps))) (itself p.0))) in
+    let here = less-length p.0 ms (all p.0 (ap (λ (b : Bool). is_some (first b p.1 (gathered_of p.0 ps))) (equal_to_itself p.0))) in
     let rest = pigeons ps (less p.0 ms) apart.1 (λ n h. less-in p.0 n ms (other n h) (all n (first_more (p.0 == n) p.1 (gathered_of n ps) h))) in
     omega (arith, here, rest)
   where
     other : (n : ℕ) → is_some (gathered_of n ps) ≡ true → (p.0 == n) ≡ false
-    other n h = not_true (p.0 == n) (λ e. true≢false (sym h ∙ ap (λ (m : ℕ). is_some (gathered_of m ps)) (sym (same_number p.0 n e)) ∙ ap is_some apart.0))
+    other n h = false_from_ne_true (p.0 == n) (λ e. true≢false (sym h ∙ ap (λ (m : ℕ). is_some (gathered_of m ps)) (sym (eqb-true p.0 n e)) ∙ ap is_some apart.0))
 
 -- ---- few candidates are found
-
-nodes_in-length : (ps : List (Option ℕ)) → length (nodes_in ps) ≤ length ps
-nodes_in-length [] = omega arith
-nodes_in-length (None ∷ ps) = let r = nodes_in-length ps in omega (arith, r)
-nodes_in-length (Some c ∷ ps) = let r = nodes_in-length ps in omega (arith, r)
 
 length-taken : {A B C : Type 0} (f : B → C) (g : A → B) (xs : List A) → length (map f (map g xs)) ≡ length xs
 length-taken f g [] = refl
@@ -121,7 +114,7 @@ gather_has : (graph : Graph) (s : Core) (t n m : ℕ) → allowed graph s (Gathe
 gather_has graph s t n m h = served-has (entries s m) t (and_right _ _ h)
 
 gather_new : (graph : Graph) (s : Core) (t n m : ℕ) → allowed graph s (Gather t n m) ≡ true → gathered_of m (cell s n).gathered ≡ None
-gather_new graph s t n m h = go (gathered_of m (cell s n).gathered) (not_is _ (and_right _ _ (and_left _ _ h)))
+gather_new graph s t n m h = go (gathered_of m (cell s n).gathered) (not-true _ (and_right _ _ (and_left _ _ h)))
   where
     go : (o : Option Value) → is_some o ≡ false → o ≡ None
     go None k = refl
@@ -153,21 +146,13 @@ gather_room graph s t n m is_graph lawful h apart =
     all x k = is_in-append x inputs candidates (go (m == x) refl k)
       where
         go : (b : Bool) → (m == x) ≡ b → is_some (first b (value_at [] t) (gathered_of x (cell s n).gathered)) ≡ true → (is_in x inputs || is_in x candidates) ≡ true
-        go true i k = subst (λ (y : ℕ). (is_in y inputs || is_in y candidates) ≡ true) (same_number m x i) (and_right _ _ (and_left _ _ (and_left _ _ h)))
+        go true i k = subst (λ (y : ℕ). (is_in y inputs || is_in y candidates) ≡ true) (eqb-true m x i) (and_right _ _ (and_left _ _ (and_left _ _ h)))
         go false i k = lawful.work_is_kept.gathers_right n x k
 
 -- ---- in a book and a list
 
-zero_more : (n : ℕ) → 0 + n ≡ n
-zero_more n = omega arith
-
-read_from : {A : Type 0} (f : ℕ → A) (d : A) (k : ℕ) (nodes : List Node) (n : ℕ) → n < length nodes → slice_index_or (map f (numbers_from k nodes)) n d ≡ f (k + n)
-read_from f d k [] n h = absurd (omega (arith, h))
-read_from f d k (x ∷ xs) zero h = ap f (omega arith)
-read_from f d k (x ∷ xs) (suc n) h = read_from f d (k + 1) xs n (omega (arith, h)) ∙ ap f (omega arith)
-
 same_room : (graph : Graph) (s : Core) (book : Booked) (n : ℕ) → IsBookOf graph s book → n < length s.cells → slice_index_or book.room_for n 0 ≡ room_at graph n
-same_room graph s book n fits h = ap (λ (rs : List ℕ). slice_index_or rs n 0) fits.room_for ∙ read_from (room_at graph) 0 0 graph.nodes n (let l = fits.lawful.lists in omega (arith, l, h)) ∙ ap (room_at graph) (zero_more n)
+same_room graph s book n fits h = ap (λ (rs : List ℕ). slice_index_or rs n 0) fits.room_for ∙ read-from (room_at graph) 0 0 graph.nodes n (let l = fits.lawful.lists in omega (arith, l, h)) ∙ ap (room_at graph) (zero-add n)
 
 pub gather-has : (book : Booked) (list : Versions) (t n m : ℕ) → IsGather book list t n m → has list.entries t ≡ true
 gather-has book list t n m h = ap (λ (l : Versions). has l.entries t) h.1.is_list ∙ gather_has h.0 h.1.state t n m h.1.allowed
@@ -194,4 +179,4 @@ pub gather-makes : (book new : Booked) (list : Versions) (t n m : ℕ) (v : Valu
 gather-makes book new list t n m v value is graph s fits is_list h =
     is ∙ ap (λ (v : Value). on_work book n (with_gathered m v)) (value ∙ ap (λ (l : Versions). value_at l.entries t) is_list)
     ∙ ap (λ (f : Book). on_work (record book { book = f }) n (with_gathered m (value_at (entries s m) t))) fits.parts
-    ∙ ap (λ (ws : List Work). record book { book = record (book_of s) { works = ws } }) (sym (works-change n (gather m (value_at (entries s m) t)) (with_gathered m (value_at (entries s m) t)) (λ c. refl) s.cells))
+    ∙ ap (λ (ws : List Work). record book { book = record (book_of s) { works = ws } }) (sym (changed-works n (gather m (value_at (entries s m) t)) (with_gathered m (value_at (entries s m) t)) (λ c. refl) s.cells))

@@ -3,6 +3,7 @@ use Rattle.std.proofs.Common.{◌≡◌, ℕ, ◌<◌, Bool, true, false, ◌||�
 use Rattle.std.specs.Option.{IsSome}
 use Rattle.std.proofs.lemmas.Option.{slice_get_within}
 use Rattle.script_tree.specs.declared.value.Value.{Value}
+use Rattle.script_tree.proofs.Truths.{and_right}
 use Rattle.signal_graph.specs.Graph.{Graph}
 use Rattle.node_versions.specs.declared.entry.Entry.{Entry}
 use Rattle.node_versions.specs.Entries.{Versions, is_frame, has, served, up_to, last_done, value_at}
@@ -10,7 +11,7 @@ use Rattle.flow_model.specs.declared.step.Step.TheVariants.{Look}
 use Rattle.flow_model.specs.Machine.State.{Core, entries, live}
 use Rattle.flow_model.specs.Machine.Words.{next_look}
 use Rattle.flow_model.specs.Machine.Steps.{served_look, look_value, with_look}
-use Rattle.flow_model.proofs.OneStep.WhoMayStep.{and_right, look-idle, idle-executes, executes-live}
+use Rattle.flow_model.proofs.OneStep.WhoMayStep.{look-idle, idle-executes, executes-live}
 use Rattle.flow_state.specs.Booked.{Booked, live_in, call_in, next_look_in, on_call}
 use Rattle.flow_model.specs.Parts.Books.{Book}
 use Rattle.flow_state.specs.Fitting.{IsBookOf, IsListStep, MakesRead}

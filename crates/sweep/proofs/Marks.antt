@@ -1,12 +1,13 @@
 -- What a mark asks and makes.
 use Rattle.std.proofs.Common.{◌≡◌, ℕ, zero, suc, ◌<◌, true, List, [], ◌∷◌, length, slice_index_or, subst, arith}
+use Rattle.script_tree.proofs.Truths.{and_left, and_right}
 use Rattle.signal_graph.specs.Graph.{Graph}
 use Rattle.node_versions.specs.declared.entry.State.TheVariants as state
 use Rattle.node_versions.specs.Entries.{Versions}
 use Rattle.flow_model.specs.declared.step.Step.TheVariants.{Mark}
 use Rattle.flow_model.specs.Machine.State.{Core, Cell, no_cell}
 use Rattle.flow_model.specs.Machine.Steps.{allowed}
-use Rattle.flow_model.proofs.OneStep.WhoMayStep.{and_left, and_right, mark-executes, mark-no_entry, executes-live}
+use Rattle.flow_model.proofs.OneStep.WhoMayStep.{mark-executes, mark-no_entry, executes-live}
 use Rattle.flow_state.specs.Booked.{Booked}
 use Rattle.flow_state.specs.Fitting.{IsBookOf, IsListStep, MakesList, list_of}
 use Rattle.entering.specs.Entering.{CanEnter, SomeCanEnter, Enters}

@@ -10,12 +10,12 @@ use Rattle.flow_model.specs.Machine.Words.{found_now, body_now}
 use Rattle.flow_model.specs.Machine.Steps.{allowed, counted, keep_found, keep_body}
 use Rattle.flow_model.specs.Kept.Lawful.{IsLawful, has_evaluated}
 use Rattle.flow_model.proofs.OneStep.WhoMayStep.{evaluate-at_front, at_front-executes, executes-live}
+use Rattle.flow_model.proofs.Books.StepsChangeBooks.{changed-works}
 use Rattle.flow_state.specs.declared.outcome.Answer.{Answer}
 use Rattle.flow_state.specs.Booked.{Booked, call_in, on_call, on_work}
 use Rattle.flow_model.specs.Parts.Books.{Work, book_of, with_found, with_body, Book}
 use Rattle.flow_state.specs.Answers.{step_of, IsRight, IsAnswerStep, MakesAnswer}
 use Rattle.flow_state.specs.Fitting.{book_after}
-use Rattle.flow_state.proofs.Fits.{works-change}
 
 -- what the step asks for
 abbrev pub IsPut : Booked → Answer → Type 0
@@ -54,7 +54,7 @@ found-makes book mid new a f is right kept made graph s fits h is_right =
     let n = a.node in
     made ∙ ap (λ (b : Booked). on_call b t counted) (kept ∙ ap (λ (f : Found). on_work book n (with_found f)) (sym (right graph s is_right)))
     ∙ ap (λ (f : Book). on_call (on_work (record book { book = f }) n (with_found (found_now graph s t n))) t counted) fits.parts
-    ∙ ap (λ (ws : List Work). record book { book = record (book_of s) { calls = change_call t counted s.calls; works = ws } }) (sym (works-change n (keep_found (found_now graph s t n)) (with_found (found_now graph s t n)) (λ c. refl) s.cells))
+    ∙ ap (λ (ws : List Work). record book { book = record (book_of s) { calls = change_call t counted s.calls; works = ws } }) (sym (changed-works n (keep_found (found_now graph s t n)) (with_found (found_now graph s t n)) (λ c. refl) s.cells))
     ∙ ap (λ (step : Step). book_after graph s step book) (sym is)
 
 pub body-makes : (book new : Booked) (a : Answer) (v : Value) → step_of a ≡ Body a.version a.node → ((graph : Graph) (s : Core) → IsRight graph s a → body_now graph s a.node ≡ v)
@@ -63,5 +63,5 @@ body-makes book new a v is right made graph s fits h is_right =
     let n = a.node in
     made ∙ ap (λ (v : Value). on_work book n (with_body v)) (sym (right graph s is_right))
     ∙ ap (λ (f : Book). on_work (record book { book = f }) n (with_body (body_now graph s n))) fits.parts
-    ∙ ap (λ (ws : List Work). record book { book = record (book_of s) { works = ws } }) (sym (works-change n (keep_body (body_now graph s n)) (with_body (body_now graph s n)) (λ c. refl) s.cells))
+    ∙ ap (λ (ws : List Work). record book { book = record (book_of s) { works = ws } }) (sym (changed-works n (keep_body (body_now graph s n)) (with_body (body_now graph s n)) (λ c. refl) s.cells))
     ∙ ap (λ (step : Step). book_after graph s step book) (sym is)

@@ -11,10 +11,10 @@ use Rattle.flow_model.specs.Machine.Changes.{set_state, closed}
 use Rattle.flow_model.specs.Machine.Steps.{allowed, apply}
 use Rattle.flow_model.proofs.OneStep.WhoMayStep.{can_work-at_front}
 use Rattle.flow_model.proofs.OneStep.WhoMayStep.{skip-can_work}
+use Rattle.flow_model.proofs.Books.StepsChangeBooks.{kept-works}
 use Rattle.flow_state.specs.Booked.{Booked, on_call}
 use Rattle.flow_model.specs.Parts.Books.{Work, book_of, Book}
 use Rattle.flow_state.specs.Fitting.{IsBookOf, IsListStep, MakesList, list_of, book_after}
-use Rattle.flow_state.proofs.Fits.{works-same}
 use Rattle.flow_state.proofs.Fronts.{IsFront, front_inside, finished_list}
 
 skip_front : (graph : Graph) (s : Core) (book : Booked) (n : ℕ) (list : Versions) (t : ℕ) → IsBookOf graph s book → list ≡ list_of graph s n → allowed graph s (Skip t n) ≡ true → IsFront graph s book n list t
@@ -33,7 +33,7 @@ skip-makes graph book new n list new_list t v picks value picked made is s fits 
     on_book : new ≡ book_after graph s (Skip t n) book
     on_book =
         is ∙ ap (λ (f : Book). on_call (record book { book = f }) t (closed n false)) fits.parts
-        ∙ ap (λ (ws : List Work). record book { book = record (book_of s) { calls = change_call t (closed n false) s.calls; works = ws } }) (sym (works-same n (set_state t state) (λ c. refl) s.cells))
+        ∙ ap (λ (ws : List Work). record book { book = record (book_of s) { calls = change_call t (closed n false) s.calls; works = ws } }) (sym (kept-works n (set_state t state) (λ c. refl) s.cells))
 
     on_list : new_list ≡ list_of graph (apply graph s (Skip t n)) n
     on_list =
