@@ -1,6 +1,6 @@
 -- What the second part of Discover asks and makes.
 use Rattle.std.proofs.Common.{◌≡◌, ℕ, zero, suc, ◌+◌, ◌<◌, ◌≤◌, Bool, true, false, List, [], ◌∷◌, length, map, drop, get_or, refl, sym, ap, ap₂, ◌∙◌, subst, arith, true≢false, Some}
-use Rattle.std.proofs.lemmas.List.{length-map}
+use Rattle.std.proofs.lemmas.List.{length-map, drop_all}
 use Rattle.std.proofs.lemmas.Option.{slice_get-get_or}
 use Rattle.std.specs.Prelude.{slice_index_or, slice_get}
 use Rattle.signal_graph.specs.Graph.{Graph}
@@ -19,7 +19,7 @@ use Rattle.flow_model.proofs.OneStep.BegunCalls.{calls-distinct}
 use Rattle.flow_model.proofs.OneStep.SameLengths.{change_at-length}
 use Rattle.flow_state.specs.Booked.{Booked, node_count}
 use Rattle.flow_model.specs.Parts.Books.{book_of, work_in, Book}
-use Rattle.flow_state.proofs.ListRests.{drop-at, drop-past}
+use Rattle.flow_state.proofs.ListRests.{drop-at}
 use Rattle.flow_state.specs.Joining.{joined, IsJoined, IsJoinedOf, MakesTold}
 use Rattle.retrofit.specs.Telling.{with_calls, told_by, told_one}
 use Rattle.retrofit.proofs.Tells.{AreApart, apart, told_rest, rest-tells, none-tells}
@@ -93,7 +93,7 @@ makes-told t n own i book new list once inside own_entry over so graph m s h =
     let at_own = slice_get-get_or es own no_entry inside in
     let more : own + 1 ≡ suc own = omega arith in
     let told = rest-tells n t own e es book.book.calls (all-apart graph s t n m book list h) once at_own (own_entry.version e at_own) in
-    let calls = sym (ap (λ (xs : List Entry). told_rest n xs new.book.calls) (drop-past es i over)) ∙ so.0 ∙ ap (λ j. told_rest n (drop j es) book.book.calls) more ∙ told in
+    let calls = sym (ap (λ (xs : List Entry). told_rest n xs new.book.calls) (drop_all i es over)) ∙ so.0 ∙ ap (λ j. told_rest n (drop j es) book.book.calls) more ∙ told in
     (made-of graph t n m book new list (so.1 ∙ ap (with_calls book) calls) s h, h.is_list)
 
 pub makes-none : (t n : ℕ) (book : Booked) (list : Versions) → has list.entries t ≡ false → (graph : Graph) (m : ℕ) → MakesTold graph t n m book list book

@@ -5,7 +5,7 @@ use Rattle.std.specs.List.{list_any}
 use Rattle.flow_model.specs.Machine.State.{LiveCall}
 use Rattle.flow_model.specs.Machine.Next.{lesser, least_version}
 
-or_some : (b : Bool) (x : ℕ) (rest : Option ℕ) (any : Bool) → is_some rest ≡ any → is_some (elim b [ true ↦ Some x | false ↦ rest ]) ≡ (b || any)
+pub or_some : (b : Bool) (x : ℕ) (rest : Option ℕ) (any : Bool) → is_some rest ≡ any → is_some (elim b [ true ↦ Some x | false ↦ rest ]) ≡ (b || any)
 or_some true x rest any h = refl
 or_some false x rest any h = h
 

@@ -1,18 +1,21 @@
 -- What is told to the calls behind one in a list.
 use Rattle.std.proofs.Common.{◌≡◌, ℕ, zero, suc, Bool, true, false, not, ◌&&◌, ◌==◌, List, [], ◌∷◌, map, drop, refl, sym, ap, ◌∙◌, arith, Some}
 use Rattle.std.proofs.lemmas.Bool.Decides.{eqb_tells}
+use Rattle.std.proofs.lemmas.Bool.{eqb-true}
+use Rattle.std.proofs.lemmas.List.{map-id}
+use Rattle.std.proofs.Math.Bool.{and-false}
 use Rattle.std.specs.Prelude.{slice_get}
 use Rattle.signal_graph.specs.Graph.{is_in}
 use Rattle.node_versions.specs.declared.entry.Entry.{Entry}
 use Rattle.node_versions.specs.declared.entry.State.{State}
 use Rattle.node_versions.specs.Entries.{IsUnique, has, at, behind}
+use Rattle.node_versions.proofs.Places.{at-has}
 use Rattle.flow_model.specs.Machine.State.{LiveCall, call_of, change_call}
 use Rattle.std.specs.Prelude.{is_some}
 use Rattle.flow_model.specs.Machine.Changes.{hands_on, tell_call}
 use Rattle.flow_model.specs.Machine.Sets.{put}
 use Rattle.flow_model.specs.Kept.Lawful.{AreDistinct}
-use Rattle.flow_model.proofs.OneList.StatesAndPlaces.{at-has, behind-has}
-use Rattle.flow_model.proofs.General.Truths.{same_number}
+use Rattle.flow_model.proofs.OneList.StatesAndPlaces.{behind-has}
 use Rattle.flow_model.proofs.OneStep.VersionsStayFresh.{head-distinct, tail-distinct}
 use Rattle.flow_state.specs.Booked.{wanting}
 use Rattle.retrofit.specs.Telling.{told_by}
@@ -69,16 +72,12 @@ told_if b n c = elim b [ true ↦ wanting n c | false ↦ c ]
 abbrev told_entry : ℕ → Entry → LiveCall → LiveCall
 told_entry n e c = told_if (hands_on e.state && (c.version == e.version)) n c
 
-map-same : (cs : List LiveCall) → map (λ (c : LiveCall). c) cs ≡ cs
-map-same [] = refl
-map-same (c ∷ cs) = ap (λ (xs : List LiveCall). c ∷ xs) (map-same cs)
-
 told-map : (n : ℕ) (e : Entry) (cs : List LiveCall) → AreApart cs → told_by n e cs ≡ map (told_entry n e) cs
 told-map n e cs h = go (hands_on e.state)
   where
     go : (b : Bool) → elim b as (λ _. List LiveCall) [ true ↦ change_call e.version (wanting n) cs | false ↦ cs ] ≡ map (λ (c : LiveCall). told_if (b && (c.version == e.version)) n c) cs
     go true = change-map e.version (wanting n) cs h
-    go false = sym (map-same cs)
+    go false = sym (map-id cs)
 
 -- ---- the entries behind
 
@@ -108,7 +107,7 @@ map-map f g [] = refl
 map-map f g (c ∷ cs) = ap (λ (xs : List LiveCall). g (f c) ∷ xs) (map-map f g cs)
 
 rest-map : (n : ℕ) (es : List Entry) (cs : List LiveCall) → AreApart cs → told_rest n es cs ≡ map (told_call n es) cs
-rest-map n [] cs h = sym (map-same cs)
+rest-map n [] cs h = sym (map-id cs)
 rest-map n (e ∷ es) cs h =
     let more = map-apart (told_entry n e) (λ c. told_if-version (hands_on e.state && (c.version == e.version)) n c) cs h in
     ap (told_rest n es) (told-map n e cs h) ∙ rest-map n es (map (told_entry n e) cs) more ∙ map-map (told_entry n e) (told_call n es) cs
@@ -126,10 +125,6 @@ at-here test e es v h = let k = at-has test es v in grind (arith, eqb_tells, h, 
 at-further : (test : State → Bool) (e : Entry) (es : List Entry) (v : ℕ) → (v == e.version) ≡ false → at test (e ∷ es) v ≡ at test es v
 at-further test e es v h = grind (arith, eqb_tells, h)
 
-never : (b : Bool) → (b && false) ≡ false
-never true = refl
-never false = refl
-
 call-told : (n : ℕ) (es : List Entry) (c : LiveCall) → IsUnique es → told_call n es c ≡ told_if (at hands_on es c.version) n c
 call-told n [] c h = refl
 call-told n (e ∷ es) c h = go (c.version == e.version) refl (call-told n es c h.1)
@@ -137,10 +132,10 @@ call-told n (e ∷ es) c h = go (c.version == e.version) refl (call-told n es c 
     go : (b : Bool) → (c.version == e.version) ≡ b → (told_call n es c ≡ told_if (at hands_on es c.version) n c) → told_call n (e ∷ es) c ≡ told_if (at hands_on (e ∷ es) c.version) n c
     go true k r =
         let told = hands_on e.state && (c.version == e.version) in
-        let away : has es c.version ≡ false = ap (has es) (same_number c.version e.version k) ∙ h.0 in
+        let away : has es c.version ≡ false = ap (has es) (eqb-true c.version e.version k) ∙ h.0 in
         silent-call n es (told_if told n c) (ap (has es) (told_if-version told n c) ∙ away) ∙ ap (λ (b : Bool). told_if b n c) (sym (at-here hands_on e es c.version away))
     go false k r =
-        ap (λ (b : Bool). told_call n es (told_if (hands_on e.state && b) n c)) k ∙ ap (λ (b : Bool). told_call n es (told_if b n c)) (never (hands_on e.state))
+        ap (λ (b : Bool). told_call n es (told_if (hands_on e.state && b) n c)) k ∙ ap (λ (b : Bool). told_call n es (told_if b n c)) (and-false (hands_on e.state))
         ∙ r ∙ ap (λ (b : Bool). told_if b n c) (sym (at-further hands_on e es c.version k))
 
 -- ---- what stands behind the entry at an index
@@ -189,4 +184,4 @@ not-behind (e ∷ es) t v h = let r = not-behind es t v in grind (arith, r)
 
 -- none is told where the call has no entry
 pub none-tells : (n t : ℕ) (es : List Entry) (cs : List LiveCall) → has es t ≡ false → cs ≡ map (tell_call es t n) cs
-none-tells n t es cs h = sym (map-same cs) ∙ map-ext (λ c. c) (tell_call es t n) (λ c. ap (λ (b : Bool). record c { wanted = elim ((b && at hands_on es c.version) && not (is_in n c.open_nodes)) as (λ _. List ℕ) [ true ↦ put n c.wanted | false ↦ c.wanted ] }) (sym (not-behind es t c.version h))) cs
+none-tells n t es cs h = sym (map-id cs) ∙ map-ext (λ c. c) (tell_call es t n) (λ c. ap (λ (b : Bool). record c { wanted = elim ((b && at hands_on es c.version) && not (is_in n c.open_nodes)) as (λ _. List ℕ) [ true ↦ put n c.wanted | false ↦ c.wanted ] }) (sym (not-behind es t c.version h))) cs
