@@ -4,15 +4,7 @@ use Rattle.node_versions.specs.declared.entry.State.TheVariants as modes
 use Rattle.node_versions.specs.Entries.{has}
 use Rattle.flow_model.specs.Machine.State.{Core, Cell, entries, outs}
 use Rattle.flow_model.specs.Machine.Changes.{ensure_mark, enter, place_entry}
-use Rattle.flow_model.proofs.OneStep.SameLengths.{change_at-length}
 use Rattle.flow_state.proofs.OneCell.{cell-changed}
-
-pub marked-length : (s : Core) (t m : ℕ) → length (ensure_mark s t m).cells ≡ length s.cells
-marked-length s t m = go (has (entries s m) t)
-  where
-    go : (b : Bool) → length (elim b as (λ _. Core) [ true ↦ s | false ↦ enter s t m modes.Mark ]).cells ≡ length s.cells
-    go true = refl
-    go false = change_at-length m (place_entry s t modes.Mark) s.cells
 
 pub marked-outs : (s : Core) (t m : ℕ) → m < length s.cells → outs (ensure_mark s t m) m ≡ outs s m
 marked-outs s t m h = go (has (entries s m) t)

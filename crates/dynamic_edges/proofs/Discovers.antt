@@ -1,34 +1,32 @@
 -- What the first part of Discover, and Drop, ask and make.
 use Rattle.std.proofs.Common.{◌≡◌, ℕ, ◌<◌, true, false, length, refl, sym, ap, ◌∙◌, subst, arith}
+use Rattle.script_tree.proofs.Truths.{and_right}
 use Rattle.signal_graph.specs.Graph.{Graph}
 use Rattle.node_versions.specs.Entries.{Versions, has_out, with_out, with_outs}
 use Rattle.flow_model.specs.declared.step.Step.TheVariants.{Discover, Drop}
-use Rattle.flow_model.specs.Machine.State.{Core, Cell, live}
+use Rattle.flow_model.specs.Machine.State.{Core, Cell}
 use Rattle.flow_model.specs.Machine.Words.{due}
 use Rattle.flow_model.specs.Machine.Changes.{ensure_mark, add_edge, drop_edge, remove_first}
 use Rattle.flow_model.specs.Machine.Steps.{allowed, has_room_for}
-use Rattle.flow_model.proofs.OneStep.WhoMayStep.{and_right, discover-due, drop-due, at_front-executes, executes-live}
-use Rattle.flow_model.proofs.OneStep.WhoMayStep.{due-can_work}
-use Rattle.flow_model.proofs.OneStep.WhoMayStep.{can_work-at_front}
+use Rattle.flow_model.proofs.OneStep.WhoMayStep.{discover-due, drop-due}
+use Rattle.flow_model.proofs.Lengths.EdgesAreWork.{ensured-length}
+use Rattle.flow_model.proofs.OrderStays.AfterEachStep.{due-live}
 use Rattle.flow_state.specs.Booked.{Booked, with_book}
 use Rattle.flow_state.specs.Fitting.{IsBookOf, IsListStep, MakesList, list_of, choosers}
 use Rattle.flow_state.specs.Joining.{MakesJoined}
 use Rattle.entering.specs.Marking.{CanMark, SomeCanMark, Marks}
 use Rattle.flow_state.proofs.OneCell.{cell-inside, cell-changed, book-same}
-use Rattle.dynamic_edges.proofs.Cells.{marked-length, marked-outs}
+use Rattle.dynamic_edges.proofs.Cells.{marked-outs}
 use Rattle.dynamic_edges.proofs.EdgeRoom.{edge-room, discover-no_edge}
 
 in-cells : (graph : Graph) (s : Core) (m : ℕ) (list : Versions) → list ≡ list_of graph s m → 0 < length list.entries → m < length s.cells
 in-cells graph s m list is some = cell-inside s.cells m (subst (λ (v : Versions). 0 < length v.entries) is some)
 
-due-live : (graph : Graph) (s : Core) (t n : ℕ) → due graph s t n ≡ true → live s t ≡ true
-due-live graph s t n h = executes-live s t (at_front-executes graph s t n (can_work-at_front graph s t n (due-can_work graph s t n h)))
-
 can-mark : (graph : Graph) (s : Core) (book : Booked) (m : ℕ) (list : Versions) (t n : ℕ) → IsBookOf graph s book → list ≡ list_of graph s m → 0 < length list.entries → due graph s t n ≡ true → has_room_for s t m ≡ true → CanMark graph s book m list t
 can-mark graph s book m list t n fits is some h room = record { fits = fits; is_list = is; node = in-cells graph s m list is some; is_live = due-live graph s t n h; room = room }
 
 in-marked : (s : Core) (t m : ℕ) → m < length s.cells → m < length (ensure_mark s t m).cells
-in-marked s t m h = let count = marked-length s t m in omega (arith, count, h)
+in-marked s t m h = let count = ensured-length s t m in omega (arith, count, h)
 
 -- ---- Discover
 
