@@ -1,6 +1,6 @@
 // The value of a script.
 
-ghost use Rattle.std.specs.Prelude.{◌≡◌};
+ghost use Rattle.std.specs.Prelude.{◌≡◌, IfSome};
 ghost use Rattle.script_tree.specs.Eval.{on_numbers, on_truths, strict, as_truth, unary, given, eval};
 ghost use Rattle.script_tree.specs.Tree.{tree_of};
 
@@ -37,6 +37,7 @@ fn on_truths(op: Binary, a: bool, b: bool) -> Value
     }
 }
 
+#[inline(always)]
 fn strict(op: Binary, left: Value, right: Value) -> Value
     ensures { result ≡ strict op left right }
 {
@@ -84,43 +85,77 @@ fn given(values: &[Value], index: u32) -> Value
     }
 }
 
+// What a script is evaluated over: the values of its inputs, of the picks and of `acc`, handed down a tree as one reference.
+#[derive(Clone, Copy)]
+struct Over<'a> {
+    inputs: &'a [Value],
+    picks: &'a [Value],
+    acc: Value,
+}
+
 impl Expr {
     /// The value over the values of the inputs, of the picks and of `acc`. Takes no memory.
     /// It goes down the tree by recursion, once for each operator on the way.
     pub fn eval(&self, inputs: &[Value], picks: &[Value], acc: Value) -> Value
         ensures { result ≡ eval (tree_of self.now) inputs.now picks.now acc }
     {
+        self.value(&Over { inputs, picks, acc })
+    }
+
+    // The value where there is no operator. Most operands are such leaves, and are told without a call.
+    #[inline(always)]
+    fn leaf(&self, over: &Over) -> Option<Value>
+        ensures { IfSome result (λ value. value ≡ eval (tree_of self.now) over.now.inputs.now over.now.picks.now over.now.acc) }
+    {
+        match self {
+            Expr::Number(z) => Some(Value::Int(*z)),
+            Expr::Truth(b) => Some(Value::Bool(*b)),
+            Expr::Input(index) => Some(given(over.inputs, *index)),
+            Expr::Pick(index) => Some(given(over.picks, *index)),
+            Expr::Acc => Some(over.acc),
+            _ => None,
+        }
+    }
+
+    fn value(&self, over: &Over) -> Value
+        ensures { result ≡ eval (tree_of self.now) over.now.inputs.now over.now.picks.now over.now.acc }
+    {
         match self {
             Expr::Number(z) => Value::Int(*z),
             Expr::Truth(b) => Value::Bool(*b),
-            Expr::Input(index) => given(inputs, *index),
-            Expr::Pick(index) => given(picks, *index),
-            Expr::Acc => acc,
-            Expr::Unary(op, operand) => unary(*op, operand.eval(inputs, picks, acc)),
-            Expr::Binary(Binary::OrElse, left, right) => match left.eval(inputs, picks, acc) {
-                Value::Fault(_) => right.eval(inputs, picks, acc),
+            Expr::Input(index) => given(over.inputs, *index),
+            Expr::Pick(index) => given(over.picks, *index),
+            Expr::Acc => over.acc,
+            Expr::Unary(op, operand) => unary(*op, operand.value(over)),
+            Expr::Binary(Binary::OrElse, left, right) => match left.value(over) {
+                Value::Fault(_) => right.value(over),
                 value => value,
             },
-            Expr::Binary(Binary::And, left, right) => match left.eval(inputs, picks, acc) {
-                Value::Bool(b) if b => as_truth(right.eval(inputs, picks, acc)),
+            Expr::Binary(Binary::And, left, right) => match left.value(over) {
+                Value::Bool(b) if b => as_truth(right.value(over)),
                 Value::Int(_) => Value::Fault(Fault::Kind),
                 value => value,
             },
-            Expr::Binary(Binary::Or, left, right) => match left.eval(inputs, picks, acc) {
-                Value::Bool(b) if !b => as_truth(right.eval(inputs, picks, acc)),
+            Expr::Binary(Binary::Or, left, right) => match left.value(over) {
+                Value::Bool(b) if !b => as_truth(right.value(over)),
                 Value::Int(_) => Value::Fault(Fault::Kind),
                 value => value,
             },
             Expr::Binary(op, left, right) => {
-                let left = left.eval(inputs, picks, acc);
-                strict(*op, left, right.eval(inputs, picks, acc))
+                if let Some(first) = left.leaf(over) {
+                    if let Some(second) = right.leaf(over) {
+                        return strict(*op, first, second);
+                    }
+                }
+                let first = left.value(over);
+                strict(*op, first, right.value(over))
             }
-            Expr::If(test, first, second) => match test.eval(inputs, picks, acc) {
+            Expr::If(test, first, second) => match test.value(over) {
                 Value::Bool(b) => {
                     if b {
-                        first.eval(inputs, picks, acc)
+                        first.value(over)
                     } else {
-                        second.eval(inputs, picks, acc)
+                        second.value(over)
                     }
                 }
                 Value::Int(_) => Value::Fault(Fault::Kind),

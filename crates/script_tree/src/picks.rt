@@ -62,6 +62,10 @@ impl Picks {
     pub fn copy(&self) -> Picks
         ensures { result ≡ self.now }
     {
+        // Most nodes have no picks: they are told without a call that copies none.
+        if self.items.is_empty() {
+            return Picks::new();
+        }
         let mut items = ArrayVec::new();
         let _ = items.try_extend_from_slice(self.items.as_slice());
         Picks { items }
