@@ -13,19 +13,12 @@ use Rattle.signal_graph.specs.Evaluation.{CanEvaluate}
 use Rattle.flow_model.specs.Machine.State as state
 use Rattle.flow_model.specs.Machine.Words.{gathered_of, value_or, finds, body_over}
 use Rattle.flow_state.specs.Booked.{Booked, work_at}
-use Rattle.flow_state.specs.declared.row.Held.{Held}
-use Rattle.flow_state.specs.declared.row.Held.TheVariants as held
 use Rattle.flow_state.specs.declared.found.Found.{Found}
 use Rattle.flow_state.specs.declared.found.Found.TheVariants.{Candidate, Fault as Faulted}
 use Rattle.flow_state.specs.Found.{selection_of}
 use Rattle.flow_state.specs.declared.outcome.Outcome.{Outcome}
 use Rattle.flow_state.specs.declared.outcome.Outcome.TheVariants as outcome
 use Rattle.flow_state.specs.declared.outcome.Answer.{Answer}
-
--- the values that are held, each with its node
-abbrev pub held_pairs : Held → List (ℕ × Value)
-held_pairs (held.Few pairs) = pairs
-held_pairs (held.Many pairs) = pairs
 
 -- the value that is gathered of a node
 abbrev pub read_from : List (ℕ × Value) → ℕ → Value

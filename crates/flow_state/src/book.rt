@@ -25,6 +25,7 @@ ghost use Rattle.flow_state.specs.Jobs.{found_items, answer_in, IsJob};
 use crate::asked::sets_by_node;
 use crate::found::Finding;
 use crate::job::Job;
+use crate::job_room::JobRoom;
 use crate::outcome::Answer;
 use crate::room::Room;
 use crate::seating::Seating;
@@ -438,9 +439,16 @@ impl Book {
         self.shelves.body(node)
     }
 
-    /// The job of a node for a call: its scripts where nothing is found yet, else its body. `acc` is the node's value
-    /// before the call. Takes no memory.
-    pub fn job<'g>(&self, graph: &'g Graph, version: u32, node: u32, acc: Value) -> Job<'g>
+    /// The job of a node for a call, over a copy of what is gathered, in the room: its scripts where nothing is found yet,
+    /// else its body. `acc` is the node's value before the call. Takes no memory.
+    pub fn job<'g, 'r>(
+        &self,
+        graph: &'g Graph,
+        version: u32,
+        node: u32,
+        acc: Value,
+        room: &'r mut JobRoom,
+    ) -> Job<'g, 'r>
         requires nodes { node_count self.now ≡ length graph.now.nodes }
         requires job { IsJob graph.now node (found_items (work_at self.now node).found) }
         requires few { length (work_at self.now node).gathered ≤ 68 }
@@ -451,7 +459,7 @@ impl Book {
             version,
             node,
             acc,
-            gathered: self.shelves.held(node),
+            gathered: self.shelves.held(node, room),
             found: self.shelves.found_items(node),
         }
     }

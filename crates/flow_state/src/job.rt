@@ -17,7 +17,7 @@ ghost use Rattle.flow_state.specs.Jobs.{read_from, found_as, outcome_in, outcome
 
 use crate::found::{Found, FoundList};
 use crate::outcome::{Answer, Outcome};
-use crate::row::{Held, Row, held_slice};
+use crate::row::Row;
 use crate::shelf::gathered_near;
 use script_tree::limits::INPUTS;
 use script_tree::script::Script;
@@ -27,30 +27,30 @@ use signal_graph::node::{Node, Selector};
 use std::marker::Model;
 
 /// The evaluation of a node's scripts or of its body for a call, over what was gathered when the job was made. Contracts
-/// see its answer. It borrows the graph, and may be dropped.
+/// see its answer. It borrows the graph, and the room in which what was gathered lies, and may be dropped.
 #[derive(Drop)]
-pub struct Job<'g> {
+pub struct Job<'g, 'r> {
     pub(crate) graph: &'g Graph,
     pub(crate) version: u32,
     pub(crate) node: u32,
     pub(crate) acc: Value,
-    pub(crate) gathered: Held,
+    pub(crate) gathered: &'r [(u32, Value)],
     pub(crate) found: Option<FoundList>,
 }
 
-impl<'g> Model for Job<'g> {
+impl<'g, 'r> Model for Job<'g, 'r> {
     ghost use Rattle.flow_state.specs.declared.outcome.Answer.{Answer};
-    ghost use Rattle.flow_state.specs.Jobs.{answer_of, held_pairs, IsJob};
+    ghost use Rattle.flow_state.specs.Jobs.{answer_of, IsJob};
     ghost use Rattle.flow_state.specs.Booked.{AreApart};
 
     ghost Value = { Answer };
 
-    ghost view = { λ j. answer_of j.graph.now j.version j.node (held_pairs j.gathered) j.acc j.found };
+    ghost view = { λ j. answer_of j.graph.now j.version j.node j.gathered.now j.acc j.found };
 
-    ghost invariant = { λ j. (IsJob j.graph.now j.node j.found) × AreApart (held_pairs j.gathered) };
+    ghost invariant = { λ j. (IsJob j.graph.now j.node j.found) × AreApart j.gathered.now };
 }
 
-impl Job<'_> {
+impl Job<'_, '_> {
     /// The node whose job it is.
     pub fn node(&self) -> u32
         ensures { result ≡ self.now.node }
@@ -63,7 +63,7 @@ impl Job<'_> {
         ensures { result ≡ self.now }
     {
         let node = self.graph.node(self.node);
-        let outcome = outcome(node, held_slice(&self.gathered), self.acc, &self.found);
+        let outcome = outcome(node, self.gathered, self.acc, &self.found);
         Answer {
             version: self.version,
             node: self.node,

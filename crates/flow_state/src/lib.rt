@@ -4,6 +4,7 @@
 pub use book::Book;
 pub use found::{Finding, Found, FoundList};
 pub use job::Job;
+pub use job_room::JobRoom;
 pub use outcome::{Answer, Outcome};
 pub use room::Room;
 
@@ -12,6 +13,7 @@ mod book;
 mod counts;
 mod found;
 mod job;
+mod job_room;
 mod outcome;
 mod room;
 mod row;

@@ -10,12 +10,12 @@ ghost use Rattle.flow_state.specs.Found.{found_of, found_option};
 ghost use Rattle.flow_state.specs.Shelves.{work_on, on_shelf, empty_shelves, laid_out};
 ghost use Rattle.signal_graph.specs.Graph.{body_of};
 ghost use Rattle.signal_graph.specs.Evaluation.{CanEvaluate};
-ghost use Rattle.flow_state.specs.Jobs.{found_items, items_of, held_pairs, outcome_of, HasFew, FitsBody};
+ghost use Rattle.flow_state.specs.Jobs.{found_items, items_of, outcome_of, HasFew, FitsBody};
 
 use crate::found::{Finding, FoundList};
 use crate::job::outcome;
+use crate::job_room::JobRoom;
 use crate::outcome::Outcome;
-use crate::row::{FEW_PAIRS, FewPairs, Held, Pairs};
 use script_tree::limits::SELECTORS;
 use script_tree::memory::OutOfMemory;
 use script_tree::value::{Fault, Value};
@@ -105,13 +105,13 @@ impl Shelves {
     }
 
     /// A copy of all gathered values of a node, no two of one node.
-    pub(crate) fn held(&self, node: u32) -> Held
+    pub(crate) fn held<'r>(&self, node: u32, room: &'r mut JobRoom) -> &'r [(u32, Value)]
         requires inside { node < length self.now.works }
         requires few { length (work_on self.now node).gathered ≤ 68 }
-        ensures pairs { held_pairs result ≡ (work_on self.now node).gathered }
+        ensures pairs { result.now ≡ (work_on self.now node).gathered }
         ensures apart { AreApart (work_on self.now node).gathered }
     {
-        held_of(self.part(node))
+        room.fill(self.part(node))
     }
 
     /// What a node's selectors have selected, where something is found.
@@ -214,39 +214,6 @@ fn items_of(found: &Finding) -> FoundList
         Finding::Gives(_) => FoundList::new(),
         Finding::Selects(list) => list.copy(),
     }
-}
-
-// A copy of what is gathered.
-fn held_of(gathered: &[(u32, Value)]) -> Held
-    requires { length gathered.now ≤ 68 }
-    ensures { held_pairs result ≡ gathered.now }
-{
-    if gathered.len() > FEW_PAIRS {
-        return Held::Many(pairs_of(gathered));
-    }
-    Held::Few(few_of(gathered))
-}
-
-fn few_of(gathered: &[(u32, Value)]) -> FewPairs
-    requires { length gathered.now ≤ 4 }
-    ensures { result ≡ gathered.now }
-{
-    let mut pairs = FewPairs::new();
-    for (node, value) in gathered {
-        pairs.push(*node, *value);
-    }
-    pairs
-}
-
-fn pairs_of(gathered: &[(u32, Value)]) -> Pairs
-    requires { length gathered.now ≤ 68 }
-    ensures { result ≡ gathered.now }
-{
-    let mut pairs = Pairs::new();
-    for (node, value) in gathered {
-        pairs.push(*node, *value);
-    }
-    pairs
 }
 
 /// The value that is gathered of a node, at once where it stands at this place. No two values are gathered of one node.

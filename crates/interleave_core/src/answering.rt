@@ -12,7 +12,7 @@ ghost use Rattle.interleave_core.specs.Whole.{after, IsDue};
 
 use crate::core_state::Core;
 use flow_model::laws::lawful_stays;
-use flow_state::{Answer, Job};
+use flow_state::{Answer, Job, JobRoom};
 use script_tree::value::{Fault, Value};
 use signal_graph::node::NodeKind;
 
@@ -29,15 +29,15 @@ impl<'g> Core<'g> {
     }
 
     /// The evaluation that is due at a node for a call, of the node's scripts or of its body, to be made elsewhere: contracts see its
-    /// answer, which is what its step finds in this state. Takes no memory.
-    pub fn job(&self, version: u32, node: u32) -> Job<'g>
+    /// answer, which is what its step finds in this state. What it is over is copied into the room. Takes no memory.
+    pub fn job<'r>(&self, version: u32, node: u32, room: &'r mut JobRoom) -> Job<'g, 'r>
         requires { IsDue self.now.graph self.now.state version node }
         ensures scripts { allowed self.now.graph self.now.state (step.Evaluate version node) ≡ true → step_of result ≡ step.Evaluate version node }
         ensures body { allowed self.now.graph self.now.state (step.Body version node) ≡ true → step_of result ≡ step.Body version node }
         ensures right { IsRight self.now.graph self.now.state result }
     {
         let acc = self.acc(version, node);
-        self.book.job(self.graph, version, node, acc)
+        self.book.job(self.graph, version, node, acc, room)
     }
 
     // Evaluate: what the node's scripts find is kept.

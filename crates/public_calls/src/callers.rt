@@ -14,7 +14,8 @@ use std::marker::Brand;
 use std::sync::Wait;
 use std::test::Fail;
 use sweeper::{
-    Advance, Begun, Ended, Live, Move, Naming, Pass, PassList, Refusal, Sweeper, open_sweeper,
+    Advance, Begun, Ended, JobRoom, Live, Move, Naming, Pass, PassList, Refusal, Sweeper,
+    open_sweeper,
 };
 
 const READ: &[u8] = b"source a = 1\nthread\nread a\n";
@@ -26,8 +27,13 @@ enum Gone<J: Naming> {
 }
 
 // What a call does next.
-fn go_on<J: Naming, R: Wait>(rt: &R, sweeper: &Sweeper<'_, J>, live: Live<J>) -> Gone<J> {
-    match sweeper.advance(rt, live) {
+fn go_on<J: Naming, R: Wait>(
+    rt: &R,
+    sweeper: &Sweeper<'_, J>,
+    live: Live<J>,
+    room: &mut JobRoom,
+) -> Gone<J> {
+    match sweeper.advance(rt, live, room) {
         Advance::Stepped(live) => Gone::On(live),
         Advance::Evaluate(live, job) => {
             let answer = job.evaluate();
@@ -44,8 +50,9 @@ fn go_on<J: Naming, R: Wait>(rt: &R, sweeper: &Sweeper<'_, J>, live: Live<J>) ->
 // Goes on with a call until it has ended.
 fn finish<J: Naming, R: Wait>(rt: &R, sweeper: &Sweeper<'_, J>, live: Live<J>) -> Pass<J> {
     let mut live = live;
+    let mut room = JobRoom::new();
     for _ in rt.forever() {
-        match go_on(rt, sweeper, live) {
+        match go_on(rt, sweeper, live, &mut room) {
             Gone::On(next) => live = next,
             Gone::Ended(pass) => return pass,
         }

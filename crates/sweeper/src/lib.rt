@@ -12,6 +12,7 @@ mod shared;
 mod token;
 mod weight;
 
+pub use flow_state::JobRoom;
 pub use interleave_core::Refusal;
 pub use list::PassList;
 pub use moves::Move;

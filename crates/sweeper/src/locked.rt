@@ -47,7 +47,7 @@ use flow_model::laws::{
 };
 use flow_model::stored_laws::{histories_have_bounds, states_are_bounded};
 use flow_model::{Cause, Step, Turn};
-use flow_state::{Answer, Room};
+use flow_state::{Answer, JobRoom, Room};
 use interleave_core::{Core, Refusal};
 use node_set::NodeSet;
 use script_tree::items::Items;
@@ -446,24 +446,29 @@ impl<'g, J: Naming> Locked<'g, J> {
     }
 
     /// Makes the step that comes next for a live call, or says why there is none, or gives the job that comes next.
-    pub(crate) fn advance(&mut self, live: Live<J>) -> Advance<'g, J>
+    pub(crate) fn advance<'r>(&mut self, live: Live<J>, room: &'r mut JobRoom) -> Advance<'g, 'r, J>
         ensures later { IsLater J.graph J.callers J.limit live.caller live.front self.old.moves }
         ensures answer { Advances J.graph J.callers J.limit live self.old.moves result }
     {
         let met = self.meet(live);
         let turn = self.next(met.version);
-        self.take(met, turn)
+        self.take(met, turn, room)
     }
 
     /// The same at a given node.
-    pub(crate) fn advance_at(&mut self, live: Live<J>, node: u32) -> Advance<'g, J>
+    pub(crate) fn advance_at<'r>(
+        &mut self,
+        live: Live<J>,
+        node: u32,
+        room: &'r mut JobRoom,
+    ) -> Advance<'g, 'r, J>
         requires { node < length J.graph.nodes }
         ensures later { IsLater J.graph J.callers J.limit live.caller live.front self.old.moves }
         ensures answer { AdvancesAt J.graph J.callers J.limit live node self.old.moves result }
     {
         let met = self.meet(live);
         let turn = self.next_at(met.version, node);
-        self.take(met, turn)
+        self.take(met, turn, room)
     }
 
     // What comes next for a live call.
@@ -518,39 +523,39 @@ impl<'g, J: Naming> Locked<'g, J> {
     }
 
     // What a turn of a live call comes to.
-    fn take(&mut self, met: Met, turn: Turn) -> Advance<'g, J>
+    fn take<'r>(&mut self, met: Met, turn: Turn, room: &'r mut JobRoom) -> Advance<'g, 'r, J>
         requires met { IsMet J.graph J.callers J.limit met self.old.moves }
         requires free { is_out met.caller self.old.out ≡ false }
         requires turn { IsTurnOf J.graph (state J.graph J.callers J.limit self.old.moves) met.version turn }
         ensures { Takes J.graph J.callers J.limit (met_at J.graph J.callers J.limit met self.old.moves) turn result }
     {
         match turn {
-            Turn::Step(step) => self.take_step(met, step),
-            Turn::NotYet(cause) => self.take_cause(met, cause),
+            Turn::Step(step) => self.take_step(met, step, room),
+            Turn::NotYet(cause) => Advance::NotYet(self.take_cause(met, cause), cause),
             Turn::Ready => Advance::Ready(self.live(met)),
         }
     }
 
-    // What it comes to that there is no step now.
-    fn take_cause(&mut self, met: Met, cause: Cause) -> Advance<'g, J>
+    // A live call that has no step now. What is in its way is noted.
+    fn take_cause(&mut self, met: Met, cause: Cause) -> Live<J>
         requires met { IsMet J.graph J.callers J.limit met self.old.moves }
         requires free { is_out met.caller self.old.out ≡ false }
-        ensures { Takes J.graph J.callers J.limit (met_at J.graph J.callers J.limit met self.old.moves) (turns.NotYet cause) result }
+        ensures { result ≡ met_at J.graph J.callers J.limit met self.old.moves }
     {
         self.note_cause(met.caller, met.version, cause);
-        Advance::NotYet(self.live(met), cause)
+        self.live(met)
     }
 
     // What a step that comes next comes to.
-    fn take_step(&mut self, met: Met, step: Step) -> Advance<'g, J>
+    fn take_step<'r>(&mut self, met: Met, step: Step, room: &'r mut JobRoom) -> Advance<'g, 'r, J>
         requires met { IsMet J.graph J.callers J.limit met self.old.moves }
         requires free { is_out met.caller self.old.out ≡ false }
         requires turn { IsTurnOf J.graph (state J.graph J.callers J.limit self.old.moves) met.version (turns.Step step) }
         ensures { Takes J.graph J.callers J.limit (met_at J.graph J.callers J.limit met self.old.moves) (turns.Step step) result }
     {
         match step {
-            Step::Evaluate { node, .. } => self.hand_out(met, node),
-            Step::Body { node, .. } => self.hand_out(met, node),
+            Step::Evaluate { node, .. } => self.hand_out(met, node, room),
+            Step::Body { node, .. } => self.hand_out(met, node, room),
             _ => Advance::Stepped(self.step(met, step)),
         }
     }
@@ -570,7 +575,7 @@ impl<'g, J: Naming> Locked<'g, J> {
     }
 
     // The job of an evaluation that is due, unless it is out already.
-    fn hand_out(&mut self, met: Met, node: u32) -> Advance<'g, J>
+    fn hand_out<'r>(&mut self, met: Met, node: u32, room: &'r mut JobRoom) -> Advance<'g, 'r, J>
         requires met { IsMet J.graph J.callers J.limit met self.old.moves }
         requires free { is_out met.caller self.old.out ≡ false }
         requires due { IsDue J.graph (state J.graph J.callers J.limit self.old.moves) met.version node }
@@ -585,7 +590,7 @@ impl<'g, J: Naming> Locked<'g, J> {
             return Advance::NotYet(self.live(met), Cause::JobOut { node });
         }
         met.out.insert(node);
-        let job = self.core.job(met.version, node);
+        let job = self.core.job(met.version, node, room);
         Advance::Evaluate(self.live(met), job)
     }
 

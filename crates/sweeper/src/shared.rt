@@ -21,7 +21,7 @@ use crate::token::{Advance, Begun, Ended, Live, Pass};
 use crate::weight::heavy_nodes;
 use call_log::Log;
 use chronicle::Writer;
-use flow_state::Answer;
+use flow_state::{Answer, JobRoom};
 use node_set::NodeSet;
 use script_tree::memory::OutOfMemory;
 use signal_graph::call::{Call, ValueList};
@@ -99,13 +99,19 @@ impl<'g, J: Naming> Sweeper<'g, J> {
     }
 
     /// Makes the step that comes next for a live call, or says why there is none, or hands out the job of the evaluation that comes
-    /// next. Such a job counts as out until its answer is put. Locks. Takes no memory.
-    pub fn advance<R: Wait>(&self, rt: &R, live: Live<J>) -> Advance<'g, J>
+    /// next. Such a job counts as out until its answer is put; the values that it is over lie in the room, so a second job that is out
+    /// at the same time needs a room of its own. Locks. Takes no memory.
+    pub fn advance<'r, R: Wait>(
+        &self,
+        rt: &R,
+        live: Live<J>,
+        room: &'r mut JobRoom,
+    ) -> Advance<'g, 'r, J>
         ensures { (f : List AnyMove) × IsLater J.graph J.callers J.limit live.caller live.front f
             × Advances J.graph J.callers J.limit live f result }
     {
         let mut locked = self.locked.lock(rt);
-        let advance = locked.advance(live);
+        let advance = locked.advance(live, room);
         let freed = locked.take_freed();
         drop(locked);
         self.wake(freed);
@@ -113,13 +119,19 @@ impl<'g, J: Naming> Sweeper<'g, J> {
     }
 
     /// The same at a given node, which need not be the least open one.
-    pub fn advance_at<R: Wait>(&self, rt: &R, live: Live<J>, node: u32) -> Advance<'g, J>
+    pub fn advance_at<'r, R: Wait>(
+        &self,
+        rt: &R,
+        live: Live<J>,
+        node: u32,
+        room: &'r mut JobRoom,
+    ) -> Advance<'g, 'r, J>
         requires { node < length J.graph.nodes }
         ensures { (f : List AnyMove) × IsLater J.graph J.callers J.limit live.caller live.front f
             × AdvancesAt J.graph J.callers J.limit live node f result }
     {
         let mut locked = self.locked.lock(rt);
-        let advance = locked.advance_at(live, node);
+        let advance = locked.advance_at(live, node, room);
         let freed = locked.take_freed();
         drop(locked);
         self.wake(freed);

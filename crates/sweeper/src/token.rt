@@ -83,11 +83,11 @@ pub enum Begun<J: Naming> {
 }
 
 /// What a live call came to.
-pub enum Advance<'g, J: Naming> {
+pub enum Advance<'g, 'r, J: Naming> {
     /// A step was made.
     Stepped(Live<J>),
     /// A job is to be evaluated, and its answer handed in. No step was made.
-    Evaluate(Live<J>, Job<'g>),
+    Evaluate(Live<J>, Job<'g, 'r>),
     /// There is no step now, for this reason.
     NotYet(Live<J>, Cause),
     /// Nothing is left but the call's end.

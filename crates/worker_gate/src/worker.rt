@@ -13,7 +13,7 @@ use signal_graph::call::Call;
 use signal_graph::log::{Refused, RefusedList, Why};
 use std::alloc::Global;
 use std::sync::Wait;
-use sweeper::{Advance, Begun, Ended, Live, Naming, Pass, Refusal, Sweeper};
+use sweeper::{Advance, Begun, Ended, JobRoom, Live, Naming, Pass, Refusal, Sweeper};
 
 /// A call that goes on, or has ended.
 pub enum Gone<J: Naming> {
@@ -48,11 +48,12 @@ fn go_on<J: Naming, G: Gate, R: Wait>(
     live: Live<J>,
     gate: &G,
     turn: &mut Turn<'_>,
+    room: &mut JobRoom,
 ) -> Gone<J>
     ensures { HasGone J.limit live result }
 {
     turn.step(rt);
-    match sweeper.advance(rt, live) {
+    match sweeper.advance(rt, live, room) {
         Advance::Stepped(live) => Gone::On(live),
         Advance::Evaluate(live, job) => {
             turn.evaluate(sweeper.is_heavy(job.node()));
@@ -75,6 +76,7 @@ fn finish<J: Naming, G: Gate, R: Wait>(
     live: Live<J>,
     gate: &G,
     turn: &mut Turn<'_>,
+    room: &mut JobRoom,
 ) -> Pass<J>
     ensures caller { result.caller ≡ live.caller }
     ensures sees { Sees live.caller live.front result.front }
@@ -82,7 +84,7 @@ fn finish<J: Naming, G: Gate, R: Wait>(
 {
     let mut live = live;
     for _ in rt.forever() {
-        match go_on(rt, sweeper, live, gate, turn) {
+        match go_on(rt, sweeper, live, gate, turn, room) {
             Gone::On(next) => live = next,
             Gone::Ended(pass) => return pass,
         }
@@ -100,6 +102,7 @@ fn make_call<J: Naming, G: Gate, R: Wait>(
     number: u32,
     gate: &G,
     turn: &mut Turn<'_>,
+    room: &mut JobRoom,
     refused: &mut RefusedList,
 ) -> (Pass<J>, bool)
     requires { IsWithin call.now }
@@ -109,7 +112,7 @@ fn make_call<J: Naming, G: Gate, R: Wait>(
     let caller = pass.caller();
     turn.step(rt);
     match sweeper.begin(rt, alloc, pass, call) {
-        Begun::Live(live) => (finish(rt, sweeper, live, gate, turn), true),
+        Begun::Live(live) => (finish(rt, sweeper, live, gate, turn, room), true),
         Begun::Refused(pass, refusal) => {
             let listed = list(refused, caller, number, refusal);
             (pass, listed)
@@ -163,9 +166,14 @@ pub(crate) fn make_script<J: Naming, G: Gate, R: Wait>(
     ensures made { HasMadeIt J.graph J.limit pass.caller script.now pass.front result.0.front refused.new result.1 }
 {
     let mut pass = pass;
+    // All jobs of the script lie there, one after the other.
+    let mut room = JobRoom::new();
+    let room = &mut room;
     for (index, call) in script.iter().enumerate() {
         let number = 1 + index as u32;
-        let (next, taken) = make_call(rt, alloc, sweeper, pass, call, number, gate, turn, refused);
+        let (next, taken) = make_call(
+            rt, alloc, sweeper, pass, call, number, gate, turn, room, refused,
+        );
         pass = next;
         if !taken {
             return (pass, false);
