@@ -1,15 +1,22 @@
 // Whose turn it is to make steps.
 
+use std::hint::spin_loop;
 use std::sync::{Mutex, MutexGuard, Wait};
 
-// How many steps a worker makes in one turn, where it neither waits nor comes to a heavy script.
-const STEPS: u32 = 256;
+// After so many steps a turn ends with the call that is under way.
+const STEPS: u32 = 8192;
+
+// No turn has more steps: a call that goes on for longer goes on in a later turn.
+const MOST_STEPS: u32 = 16_384;
+
+// How often a worker that comes from a heavy script looks whether the turnstile is free before it sleeps there.
+const LOOKS: u32 = 3000;
 
 /// A worker's turn at a turnstile, which it may not have yet. It is given up when this is dropped.
 ///
 /// A turnstile is a lock that guards nothing, which workers pass one at a time to make a stretch of steps. Each step is still one lock
 /// of the sweeper. But while one worker has its turn the others don't ask for that lock, which would else go to another thread at each
-/// step.
+/// step. A turn ends between two calls where it can: a call that lives while others have their turns is in their way.
 #[derive(Drop)]
 pub(crate) struct Turn<'t> {
     turnstile: &'t Mutex<()>,
@@ -31,12 +38,41 @@ impl<'t> Turn<'t> {
         }
     }
 
-    /// Before a step: waits for a turn, unless this worker has it and steps are left of it.
+    /// Before a call begins: waits for a turn, unless this worker has one in which it has not made its steps yet.
+    pub(crate) fn begin_call<R: Wait>(&mut self, rt: &R) {
+        if self.left <= MOST_STEPS - STEPS {
+            self.left = 0;
+        }
+        self.step(rt);
+    }
+
+    /// Before a step of a call: waits for a turn, unless this worker has it and steps are left of it.
     pub(crate) fn step<R: Wait>(&mut self, rt: &R) {
         if self.left == 0 {
             self.take(rt);
         }
         self.left = self.left.saturating_sub(1);
+    }
+
+    /// Before an answer is put, which counts as a step. Where heavy scripts are evaluated turns are short: so who gave its turn up for
+    /// one looks for a while whether it has its next turn before it sleeps.
+    pub(crate) fn put_answer<R: Wait>(&mut self, rt: &R) {
+        if self.is_used && self.held.is_none() {
+            self.look();
+        }
+        self.step(rt);
+    }
+
+    // Passes the turnstile if that gets free soon.
+    fn look(&mut self) {
+        for _ in 0..LOOKS {
+            if let Some(held) = self.turnstile.try_lock() {
+                self.held = Some(held);
+                self.left = MOST_STEPS;
+                return;
+            }
+            spin_loop();
+        }
     }
 
     // Lets others pass, and waits for a turn of all steps.
@@ -45,7 +81,7 @@ impl<'t> Turn<'t> {
         if self.is_used {
             self.held = Some(self.turnstile.lock(rt));
         }
-        self.left = STEPS;
+        self.left = MOST_STEPS;
     }
 
     /// Before a wait: gives the turn up.

@@ -59,6 +59,7 @@ fn go_on<J: Naming, G: Gate, R: Wait>(
             turn.evaluate(sweeper.is_heavy(job.node()));
             gate.at(rt, live.caller(), job.node());
             let answer = job.evaluate();
+            turn.put_answer(rt);
             Gone::On(sweeper.put(rt, live, answer))
         }
         Advance::NotYet(live, _) => {
@@ -110,7 +111,7 @@ fn make_call<J: Naming, G: Gate, R: Wait>(
     ensures taken { MatchBool result.1 (IsTaken J.graph J.limit pass.caller number call.now pass.front result.0.front refused.old refused.new) (Sees pass.caller pass.front result.0.front) }
 {
     let caller = pass.caller();
-    turn.step(rt);
+    turn.begin_call(rt);
     match sweeper.begin(rt, alloc, pass, call) {
         Begun::Live(live) => (finish(rt, sweeper, live, gate, turn, room), true),
         Begun::Refused(pass, refusal) => {
