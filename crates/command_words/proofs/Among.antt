@@ -1,11 +1,11 @@
 -- Options of kinds that may be given, none twice: one after the other, each of a kind that may still be given.
-use Rattle.std.proofs.Common.{◌≡◌, Bool, true, false, List, [], ◌∷◌, map, refl, sym, ap, true≢false}
-use Rattle.std.specs.Prelude.{◌≢◌, ⊤, IsTrue}
-use Rattle.std.specs.List.{AllByRecursion}
+use Rattle.std.proofs.Common.{◌≡◌, ℕ, zero, suc, ◌<◌, Bool, true, false, List, [], ◌∷◌, map, length, refl, sym, ap, true≢false, arith}
+use Rattle.std.specs.Prelude.{◌≢◌, ⊤, IsTrue, slice_index_or}
+use Rattle.std.specs.List.{AllByRecursion, AllPairs}
 use Rattle.command_words.specs.declared.kinds.Kind.{Kind}
 use Rattle.command_words.specs.declared.kinds.Kind.TheVariants.{Json, Versions}
 use Rattle.command_words.specs.declared.kinds.Kinds.{Kinds}
-use Rattle.command_words.specs.Words.{Given, kind_of, has, NoneTwice}
+use Rattle.command_words.specs.Words.{Given, kind_of, has}
 use Rattle.command_words.specs.Kinds.{without}
 
 abbrev pub AreAmong : Kinds → List Given → Type 0
@@ -40,19 +40,54 @@ without_keeps free Json Versions apart h = h
 without_keeps free Versions Json apart h = h
 without_keeps free Versions Versions apart h = absurd (apart refl)
 
+-- ---- no kind twice, kind by kind
+
+abbrev NoneTwice : List Kind → Type 0
+NoneTwice [] = ⊤
+NoneTwice (kind ∷ kinds) = AllByRecursion (λ other. kind ≢ other) kinds × NoneTwice kinds
+
+apart_at : (kind : Kind) (kinds : List Kind) (k : ℕ) (d : Kind) → AllByRecursion (λ other. kind ≢ other) kinds → k < length kinds
+    → kind ≢ slice_index_or kinds k d
+apart_at kind [] k d all within = absurd (omega (arith, within))
+apart_at kind (x ∷ xs) zero d all within = all.0
+apart_at kind (x ∷ xs) (suc k) d all within = apart_at kind xs k d all.1 (omega (arith, within))
+
+pub all_apart : (kinds : List Kind) → NoneTwice kinds → AllPairs (λ a b. a ≢ b) kinds
+all_apart [] none i j d less within = absurd (omega (arith, within))
+all_apart (x ∷ xs) none zero zero d less within = absurd (omega (arith, less))
+all_apart (x ∷ xs) none zero (suc j) d less within = apart_at x xs j d none.0 (omega (arith, within))
+all_apart (x ∷ xs) none (suc i) zero d less within = absurd (omega (arith, less))
+all_apart (x ∷ xs) none (suc i) (suc j) d less within = all_apart xs none.1 i j d (omega (arith, less)) (omega (arith, within))
+
+each_apart : (kind : Kind) (others : List Kind) → ((k : ℕ) (d : Kind) → k < length others → kind ≢ slice_index_or others k d)
+    → AllByRecursion (λ other. kind ≢ other) others
+each_apart kind [] all = tt
+each_apart kind (x ∷ xs) all = (all zero x (omega arith), each_apart kind xs (λ k d within. all (suc k) d (omega (arith, within))))
+
+none_twice : (kinds : List Kind) → AllPairs (λ a b. a ≢ b) kinds → NoneTwice kinds
+none_twice [] apart = tt
+none_twice (x ∷ xs) apart = (
+  each_apart x xs (λ k d within. apart zero (suc k) d (omega arith) (omega (arith, within))),
+  none_twice xs (λ i j d less within. apart (suc i) (suc j) d (omega (arith, less)) (omega (arith, within))),
+)
+
 -- ---- both ways
 
 abbrev May : Kinds → List Kind → Type 0
 May free kinds = AllByRecursion (λ kind. IsTrue (has free kind)) kinds
 
-pub among_kept : (free : Kinds) (given : List Given) → May free (map kind_of given) → NoneTwice (map kind_of given) → AreAmong free given
-among_kept free [] may once = tt
-among_kept free (option ∷ given) may once = (may.0, among_kept (without free (kind_of option)) given (fewer given once.0 may.1) once.1)
+kept : (free : Kinds) (given : List Given) → May free (map kind_of given) → NoneTwice (map kind_of given) → AreAmong free given
+kept free [] may once = tt
+kept free (option ∷ given) may once = (may.0, kept (without free (kind_of option)) given (fewer given once.0 may.1) once.1)
   where
     fewer : (rest : List Given) → AllByRecursion (λ other. kind_of option ≢ other) (map kind_of rest) → May free (map kind_of rest)
         → May (without free (kind_of option)) (map kind_of rest)
     fewer [] apart may = tt
     fewer (o ∷ rest) apart may = (without_keeps free (kind_of option) (kind_of o) apart.0 may.0, fewer rest apart.1 may.1)
+
+pub among_kept : (free : Kinds) (given : List Given) → May free (map kind_of given) → AllPairs (λ a b. a ≢ b) (map kind_of given)
+    → AreAmong free given
+among_kept free given may once = kept free given may (none_twice (map kind_of given) once)
 
 pub among_may : (free : Kinds) (given : List Given) → AreAmong free given → May free (map kind_of given)
 among_may free [] among = tt
@@ -62,15 +97,17 @@ among_may free (option ∷ given) among = (among.0, more given (among_may (witho
     more [] may = tt
     more (o ∷ rest) may = (without_less free (kind_of option) (kind_of o) may.0, more rest may.1)
 
-pub among_once : (free : Kinds) (given : List Given) → AreAmong free given → NoneTwice (map kind_of given)
-among_once free [] among = tt
-among_once free (option ∷ given) among = (
+once : (free : Kinds) (given : List Given) → AreAmong free given → NoneTwice (map kind_of given)
+once free [] among = tt
+once free (option ∷ given) among = (
   apart given (among_may (without free (kind_of option)) given among.1),
-  among_once
-      (without free (kind_of option)) given among.1,
+  once (without free (kind_of option)) given among.1,
 )
   where
     apart : (rest : List Given) → May (without free (kind_of option)) (map kind_of rest)
         → AllByRecursion (λ other. kind_of option ≢ other) (map kind_of rest)
     apart [] may = tt
     apart (o ∷ rest) may = (without_other free (kind_of option) (kind_of o) may.0, apart rest may.1)
+
+pub among_once : (free : Kinds) (given : List Given) → AreAmong free given → AllPairs (λ a b. a ≢ b) (map kind_of given)
+among_once free given among = all_apart (map kind_of given) (once free given among)

@@ -68,14 +68,35 @@ verb_ascii verb.Print = refl
 verb_ascii verb.Check = refl
 verb_ascii verb.Make = refl
 
-operand_ascii : (takes : Bool) (words : List Text) (number : ℕ) → IsOperand takes words number → list_all is_ascii words ≡ true
+-- an operand, by whether there is one
+abbrev IsTaken : Bool → List Text → ℕ → Type 0
+IsTaken false words number = (words ≡ []) × (number ≡ 0)
+IsTaken true words number = (text : Text) × (words ≡ text ∷ []) × IsNumber text × (number ≡ digits_value 10 text)
+
+taken : (verb : Verb) (words : List Text) (number : ℕ) → IsOperand verb words number → IsTaken (takes_number verb) words number
+taken verb.Run words number is = is
+taken verb.Replay words number is = is
+taken verb.Serial words number is = is
+taken verb.Print words number is = is
+taken verb.Check words number is = is
+taken verb.Make words number is = is
+
+is_operand : (verb : Verb) (words : List Text) (number : ℕ) → IsTaken (takes_number verb) words number → IsOperand verb words number
+is_operand verb.Run words number is = is
+is_operand verb.Replay words number is = is
+is_operand verb.Serial words number is = is
+is_operand verb.Print words number is = is
+is_operand verb.Check words number is = is
+is_operand verb.Make words number is = is
+
+operand_ascii : (takes : Bool) (words : List Text) (number : ℕ) → IsTaken takes words number → list_all is_ascii words ≡ true
 operand_ascii false words number is = subst (λ ws. list_all is_ascii ws ≡ true) (sym is.0) refl
 operand_ascii true words number is = subst (λ ws. list_all is_ascii ws ≡ true) (sym is.1) (rw (digits_ascii is.0 is.2.digits.1) refl)
 
 pub line_text : (words : List Text) (command : Command) → AsksFor words command → All IsUtf8 words
 line_text words command a =
-    let behind = list_all-append is_ascii a.operand a.options
-    ∙ rw (operand_ascii (takes_number a.verb) a.operand a.number a.takes, blocks_ascii a.given a.options a.are.blocks) refl in
+    let operand = operand_ascii (takes_number a.verb) a.operand a.number (taken a.verb a.operand a.number a.takes) in
+    let behind = list_all-append is_ascii a.operand a.options ∙ rw (operand, blocks_ascii a.given a.options a.are.blocks) refl in
     subst (All IsUtf8) (sym a.words_are) (all_text (word_of a.verb ∷ (a.operand ++ a.options)) (rw (verb_ascii a.verb, behind) refl))
 
 -- not all are, where one isn't
@@ -144,7 +165,7 @@ pub ruleset options_asked = (options_given, options_denied)
 
 -- ---- the operand and the options behind a command's word
 
-same_behind : (takes : Bool) (xs ys before after : List Text) (m n : ℕ) → IsOperand takes xs m → IsOperand takes ys n
+same_behind : (takes : Bool) (xs ys before after : List Text) (m n : ℕ) → IsTaken takes xs m → IsTaken takes ys n
     → xs ++ before ≡ ys ++ after → (m ≡ n) × (before ≡ after)
 same_behind false xs ys before after m n f g e =
     (f.1 ∙ sym g.1, ap (λ ws. ws ++ before) (sym f.0) ∙ e ∙ ap (λ ws. ws ++ after) g.0)
@@ -152,7 +173,7 @@ same_behind true xs ys before after m n f g e =
     let same : f.0 ∷ before ≡ g.0 ∷ after = ap (λ ws. ws ++ before) (sym f.1) ∙ e ∙ ap (λ ws. ws ++ after) g.1 in
     (f.3 ∙ ap (digits_value 10) (ap first same) ∙ sym g.3, ap tail same)
 
-asks : (verb : Verb) (operand options : List Text) (number : ℕ) (command : Command) → IsOperand (takes_number verb) operand number
+asks : (verb : Verb) (operand options : List Text) (number : ℕ) (command : Command) → IsTaken (takes_number verb) operand number
     → AsksByOptions verb number options command → AsksFor (word_of verb ∷ (operand ++ options)) command
 asks verb operand options number command takes by = record {
   verb = verb;
@@ -161,23 +182,23 @@ asks verb operand options number command takes by = record {
   options = options;
   given = by.given;
   words_are = refl;
-  takes = takes;
+  takes = is_operand verb operand number takes;
   are = by.are;
   command_is = by.command_is;
 }
 
-asks_none : (verb : Verb) (operand options : List Text) (number : ℕ) (command : Command) → IsOperand (takes_number verb) operand number
+asks_none : (verb : Verb) (operand options : List Text) (number : ℕ) (command : Command) → IsTaken (takes_number verb) operand number
     → AreNoOptions (kinds_of verb) options → AsksFor (word_of verb ∷ (operand ++ options)) command → ⊥
 asks_none verb operand options number command takes none a =
     let same = one_verb a.verb verb (sym (ap first a.words_are)) in
-    let operands = subst (λ v. IsOperand (takes_number v) a.operand a.number) same a.takes in
+    let operands = subst (λ v. IsTaken (takes_number v) a.operand a.number) same (taken a.verb a.operand a.number a.takes) in
     let behind = (same_behind (takes_number verb) operand a.operand options a.options number a.number takes operands
     (ap tail a.words_are)).1 in
     let are = subst (λ v. AreOptions (kinds_of v) a.given a.options) same a.are in
     none.none a.given (subst (AreOptions (kinds_of verb) a.given) (sym behind) are)
 
 reads_words : (verb : Verb) (operand options : List Text) (number : ℕ) (r : Result Command WordsFault)
-    → IsOperand (takes_number verb) operand number → ReadsOptions verb number options r → ReadsWords (word_of verb ∷ (operand ++ options)) r
+    → IsTaken (takes_number verb) operand number → ReadsOptions verb number options r → ReadsWords (word_of verb ∷ (operand ++ options)) r
 reads_words verb operand options number (Ok command) takes read = asks verb operand options number command takes read
 reads_words verb operand options number (Err Refused) takes read = λ command. asks_none verb operand options number command takes read
 reads_words verb operand options number (Err Memory) takes read = tt
@@ -186,7 +207,7 @@ reads_words verb operand options number (Err Memory) takes read = tt
 pub plain_read : (verb : Verb) (word : Text) (options : List Text) (r : Result Command WordsFault) → word ≡ word_of verb
     → takes_number verb ≡ false → ReadsOptions verb 0 options r → ReadsWords (word ∷ options) r
 plain_read verb word options r is takes read = subst (λ (w : Text). ReadsWords (w ∷ options) r) (sym is)
-    (reads_words verb [] options 0 r (subst (λ t. IsOperand t [] 0) (sym takes) (refl, refl)) read)
+    (reads_words verb [] options 0 r (subst (λ t. IsTaken t [] 0) (sym takes) (refl, refl)) read)
 
 pub named_read : (verb : Verb) (word : Text) (behind : List Text) (r : Result Command WordsFault) → word ≡ word_of verb
     → ReadsWords (word_of verb ∷ behind) r → ReadsWords (word ∷ behind) r
@@ -196,16 +217,17 @@ pub ruleset command_laws = (no_verb, plain_read, named_read)
 
 -- a command with a number
 pub numbered_read : (verb : Verb) (text : Text) (options : List Text) (number : ℕ) (r : Result Command WordsFault)
-    → takes_number verb ≡ true → IsNumber text → number ≡ digits_value 10 text → ReadsOptions verb number options r → ReadsWords (word_of verb ∷ text ∷ options) r
+    → takes_number verb ≡ true → IsNumber text → number ≡ digits_value 10 text → ReadsOptions verb number options r
+    → ReadsWords (word_of verb ∷ text ∷ options) r
 numbered_read verb text options number r takes is same read =
-    reads_words verb (text ∷ []) options number r (subst (λ t. IsOperand t (text ∷ []) number) (sym takes) (text, refl, is, same)) read
+    reads_words verb (text ∷ []) options number r (subst (λ t. IsTaken t (text ∷ []) number) (sym takes) (text, refl, is, same)) read
 
 -- what stands behind the word of a command that takes a number begins with one
 has_number : (verb : Verb) (behind : List Text) (command : Command) → takes_number verb ≡ true → AsksFor (word_of verb ∷ behind) command
     → (text : Text) × (rest : List Text) × IsNumber text × (behind ≡ text ∷ rest)
 has_number verb behind command takes a =
     let same = one_verb a.verb verb (sym (ap first a.words_are)) in
-    let operand = subst (λ t. IsOperand t a.operand a.number) (ap takes_number same ∙ takes) a.takes in
+    let operand = subst (λ t. IsTaken t a.operand a.number) (ap takes_number same ∙ takes) (taken a.verb a.operand a.number a.takes) in
     (operand.0, a.options, operand.2, ap tail a.words_are ∙ ap (λ ws. ws ++ a.options) operand.1)
 
 pub none_behind : (verb : Verb) (command : Command) → takes_number verb ≡ true → AsksFor (word_of verb ∷ []) command → ⊥
@@ -224,9 +246,9 @@ pub one_command : (words : List Text) (a b : Command) → AsksFor words a → As
 one_command words a b x y =
     let words_same = sym x.words_are ∙ y.words_are in
     let same = one_verb x.verb y.verb (ap first words_same) in
-    let operands = subst (λ v. IsOperand (takes_number v) x.operand x.number) same x.takes in
-    let behind = same_behind (takes_number y.verb) x.operand y.operand x.options y.options x.number y.number operands y.takes
-    (ap tail words_same) in
+    let operands = subst (λ v. IsTaken (takes_number v) x.operand x.number) same (taken x.verb x.operand x.number x.takes) in
+    let behind = same_behind (takes_number y.verb) x.operand y.operand x.options y.options x.number y.number operands
+    (taken y.verb y.operand y.number y.takes) (ap tail words_same) in
     let given = one_given x.given y.given x.options x.are.blocks (subst (AreBlocks y.given) (sym behind.1) y.are.blocks) in
     x.command_is ∙ ap (λ v. asked v x.number (versions_in x.given) (json_in x.given)) same
     ∙ ap (λ n. asked y.verb n (versions_in x.given) (json_in x.given)) behind.0

@@ -14,7 +14,7 @@ use Rattle.command_words.specs.Kinds.{without}
 use Rattle.command_words.specs.Blocks.{Begins, BeginsWithNone, AreSome}
 use Rattle.command_words.specs.Tests.{is_limit, is_limit_within}
 use Rattle.command_words.proofs.Limits.{both, limit_spelled, limit_tested}
-use Rattle.command_words.proofs.Among.{AreAmong, among_kept, among_may, among_once}
+use Rattle.command_words.proofs.Among.{AreAmong, all_apart, among_kept, among_may, among_once}
 use Rattle.command_words.proofs.Blocks.{Text, one_option, one_rest, not_empty}
 
 -- ---- the first block
@@ -99,7 +99,7 @@ pub ruleset behind_laws = (behind_begins, nothing_behind, no_limit_behind)
 
 pub none_are : (kinds : Kinds) (words : List Text) → length words ≡ 0 → AreSome kinds words
 none_are kinds (w ∷ ws) none = absurd (omega (arith, none))
-none_are kinds [] none = record { given = []; are = record { blocks = refl; may = tt; once = tt } }
+none_are kinds [] none = record { given = []; are = record { blocks = refl; may = tt; once = all_apart [] tt } }
 
 pub no_block : (kinds : Kinds) (words : List Text) → (words ≡ [] → ⊥) → BeginsWithNone words → AreNoOptions kinds words
 no_block kinds words some none = record { none = from }

@@ -2,7 +2,7 @@
 -- any order, none twice.
 use Rattle.std.specs.Prelude.{◌≡◌, ◌≢◌, ℕ, ◌<◌, ◌≤◌, ◌^◌, Bool, true, false, IsTrue, ⊤, ◌⊎◌}
 use Rattle.std.specs.Prelude.{List, [], ◌∷◌, ◌++◌, codes, length, map, Result, Ok, Err}
-use Rattle.std.specs.List.{AllByRecursion}
+use Rattle.std.specs.List.{AllByRecursion, AllPairs}
 use Rattle.std.specs.Str.Parse.{IsNumeral, digits_value}
 use Rattle.script_tree.specs.declared.limits.TheConstants.{VERSIONS}
 use Rattle.command_words.specs.declared.command.Command.{Command}
@@ -43,11 +43,6 @@ AreBlocks [] words = words ≡ []
 AreBlocks (option ∷ given) words = (block : List (List ℕ)) × (rest : List (List ℕ)) × (words ≡ block ++ rest) × IsBlock option block
     × AreBlocks given rest
 
--- no kind is there twice
-abbrev pub NoneTwice : List Kind → Type 0
-NoneTwice [] = ⊤
-NoneTwice (kind ∷ kinds) = AllByRecursion (λ other. kind ≢ other) kinds × NoneTwice kinds
-
 -- a kind is one of these
 abbrev pub has : Kinds → Kind → Bool
 has kinds kind.Json = kinds.json
@@ -57,7 +52,7 @@ has kinds kind.Versions = kinds.versions
 pub record AreOptions (kinds : Kinds) (given : List Given) (words : List (List ℕ)) : Type 0 where
   pub blocks : AreBlocks given words
   pub may : AllByRecursion (λ kind. IsTrue (has kinds kind)) (map kind_of given)
-  pub once : NoneTwice (map kind_of given)
+  pub once : AllPairs (λ a b. a ≢ b) (map kind_of given)
 
 -- words that are no options
 pub record AreNoOptions (kinds : Kinds) (words : List (List ℕ)) : Type 0 where
@@ -83,13 +78,12 @@ pub record IsNumber (text : List ℕ) : Type 0 where
   pub few : length text ≤ 20
   pub within : digits_value 10 text < 2 ^ 64
 
--- words are the operand of a command, which says this number: one word where the command takes a number; else none, and 0 stands for none
-abbrev pub IsOperand : Bool → List (List ℕ) → ℕ → Type 0
-IsOperand false words number = (words ≡ []) × (number ≡ 0)
-IsOperand true words number = (text : List ℕ) × (words ≡ text ∷ []) × IsNumber text × (number ≡ digits_value 10 text)
+-- words are the operand of a command, which says this number: one word for `make`; else none, and 0 stands for none
+abbrev pub IsOperand : Verb → List (List ℕ) → ℕ → Type 0
+IsOperand verb.Make words number = (text : List ℕ) × (words ≡ text ∷ []) × IsNumber text × (number ≡ digits_value 10 text)
+IsOperand other words number = (words ≡ []) × (number ≡ 0)
 
--- ---- commands: for each its word, whether it takes a number, the kinds of options that it has, and what it is with the number and the
--- options that are given
+-- ---- commands: for each its word, the kinds of options that it has, and what it is with the number and the options that are given
 
 abbrev pub word_of : Verb → List ℕ
 word_of verb.Run = codes "run"
@@ -99,13 +93,10 @@ word_of verb.Print = codes "print"
 word_of verb.Check = codes "check"
 word_of verb.Make = codes "make"
 
+-- whether it takes a number
 abbrev pub takes_number : Verb → Bool
-takes_number verb.Run = false
-takes_number verb.Replay = false
-takes_number verb.Serial = false
-takes_number verb.Print = false
-takes_number verb.Check = false
 takes_number verb.Make = true
+takes_number other = false
 
 abbrev pub kinds_of : Verb → Kinds
 kinds_of verb.Run = record { json = true; versions = true }
@@ -131,7 +122,7 @@ pub record AsksFor (words : List (List ℕ)) (command : Command) : Type 0 where
   pub options : List (List ℕ)
   pub given : List Given
   pub words_are : words ≡ word_of verb ∷ (operand ++ options)
-  pub takes : IsOperand (takes_number verb) operand number
+  pub takes : IsOperand verb operand number
   pub are : AreOptions (kinds_of verb) given options
   pub command_is : command ≡ asked verb number (versions_in given) (json_in given)
 
