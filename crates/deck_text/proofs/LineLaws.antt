@@ -6,7 +6,7 @@ use Rattle.deck_text.specs.Lines.{is_line_feed, lines}
 take_next : (n b : ℕ) (text : List ℕ) → take (1 + n) (b ∷ text) ≡ b ∷ take n text
 take_next n b text = let e : 1 + n ≡ suc n = omega arith in ap (λ k. take k (b ∷ text)) e
 
-drop_next : (n b : ℕ) (text : List ℕ) → drop (1 + n + 1) (b ∷ text) ≡ drop (n + 1) text
+pub drop_next : (n b : ℕ) (text : List ℕ) → drop (1 + n + 1) (b ∷ text) ≡ drop (n + 1) text
 drop_next n b text = let e : 1 + n + 1 ≡ suc (n + 1) = omega arith in ap (λ k. drop k (b ∷ text)) e
 
 lines_from : (b : ℕ) (text : List ℕ) (v : Bool) → is_line_feed b ≡ v → lines (b ∷ text) ≡ before_first is_line_feed (b ∷ text) ∷ lines (after_first is_line_feed (b ∷ text))

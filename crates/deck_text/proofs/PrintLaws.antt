@@ -1,21 +1,20 @@
 -- Printing lists item by item.
-use Rattle.std.proofs.Common.{◌≡◌, ℕ, zero, suc, ◌+◌, ◌<◌, ◌≤◌, List, [], ◌∷◌, ◌++◌, length, get_or, drop, refl, sym, ap, subst, arith, add-zero, add-one, drop-cons}
+use Rattle.std.proofs.Common.{◌≡◌, ℕ, zero, suc, ◌+◌, ◌<◌, ◌≤◌, List, [], ◌∷◌, ◌++◌, length, get_or, drop, refl, ap, subst, arith}
 use Rattle.std.specs.Prelude.{map, codes}
 use Rattle.std.specs.List.{All, AllByRecursion}
 use Rattle.std.proofs.lemmas.List.Elements.{All-from_recursion, All-tail}
 use Rattle.script_tree.specs.declared.value.Value.TheVariants.{Fault as Faulty}
 use Rattle.script_tree.specs.declared.value.Fault.TheVariants.{Kind}
 use Rattle.signal_graph.specs.declared.node.Node.TheVariants.{Source, Signal, Fold, Choose}
-use Rattle.std.proofs.lemmas.List.{drop_all}
+use Rattle.std.proofs.lemmas.List.{drop_all, drop_more}
 use Rattle.script_tree.specs.declared.value.Value.{Value}
+use Rattle.script_tree.proofs.Lists.{drop_item}
 use Rattle.signal_graph.specs.declared.call.Call.{Call}
 use Rattle.signal_graph.specs.declared.node.Selector.{Selector}
 use Rattle.signal_graph.specs.declared.node.Node.{Node}
-use Rattle.signal_graph.specs.Graph.{Graph, IsGraph, IsNode, AreNodes, IsSelector, name_at, node_at}
+use Rattle.signal_graph.specs.Graph.{Graph, IsGraph, IsNode, IsSelector, name_at, node_at}
+use Rattle.signal_graph.proofs.GraphNodes.{node_is}
 use Rattle.deck_text.specs.Appended.{with_word, with_set, with_call, with_thread, with_selector, with_node, with_names, with_more_names, with_sets, with_more_sets, with_looks, with_selectors, with_calls, with_threads, with_more_selectors, with_nodes, CandidatesBelow}
-
-drop_item : {A : Type 0} (xs : List A) (k : ℕ) (x : A) → k < length xs → x ≡ get_or xs k x → drop k xs ≡ x ∷ drop (k + 1) xs
-drop_item xs k x h e = rw (add-one, drop-cons xs k x) (ap (λ y. y ∷ drop (suc k) xs) (sym e))
 
 same_further : {A : Type 0} (xs : List A) (k : ℕ) (d e : A) → k < length xs → get_or xs k d ≡ get_or xs k e
 same_further [] k d e h = absurd (omega arith)
@@ -54,12 +53,9 @@ thread_next text threads k calls h e = ap (with_threads text) (drop_item threads
 pub threads_done : (text : List ℕ) (threads : List (List Call)) (k : ℕ) → length threads ≤ k → with_threads text (drop k threads) ≡ text
 threads_done text threads k h = ap (with_threads text) (drop_all k threads h)
 
-drop_number : (ns : List ℕ) (k : ℕ) → k < length ns → drop k ns ≡ get_or ns k 0 ∷ drop (k + 1) ns
-drop_number ns k h = rw (add-one, drop-cons ns k 0) refl
-
 pub candidate_next : (graph : Graph) (text : List ℕ) (ns : List ℕ) (k : ℕ) → k < length ns
     → with_more_names text (map (name_at graph) (drop k ns)) ≡ with_more_names (with_word (text ++ 44 ∷ []) (name_at graph (get_or ns k 0))) (map (name_at graph) (drop (k + 1) ns))
-candidate_next graph text ns k h = ap (λ (xs : List ℕ). with_more_names text (map (name_at graph) xs)) (drop_number ns k h)
+candidate_next graph text ns k h = ap (λ (xs : List ℕ). with_more_names text (map (name_at graph) xs)) (drop_more ns k 0 h)
 
 pub candidates_done : (graph : Graph) (text : List ℕ) (ns : List ℕ) (k : ℕ) → length ns ≤ k → with_more_names text (map (name_at graph) (drop k ns)) ≡ text
 candidates_done graph text ns k h = ap (λ xs. with_more_names text (map (name_at graph) xs)) (drop_all k ns h)
@@ -70,14 +66,6 @@ selector_next graph text selectors k s h e = ap (with_more_selectors graph text)
 
 pub selectors_done : (graph : Graph) (text : List ℕ) (selectors : List Selector) (k : ℕ) → length selectors ≤ k → with_more_selectors graph text (drop k selectors) ≡ text
 selectors_done graph text selectors k h = ap (with_more_selectors graph text) (drop_all k selectors h)
-
--- the node at an index, counted from k
-node_is : (names : List (List ℕ)) (k : ℕ) (nodes : List Node) (i : ℕ) (d : Node) → AreNodes names k nodes → i < length nodes → IsNode names (k + i) (get_or nodes i d)
-node_is names k [] i d h below = absurd (omega arith)
-node_is names k (node ∷ rest) zero d h below = rw add-zero h.0
-node_is names k (node ∷ rest) (suc i) d h below =
-    let further : (k + 1) + i ≡ k + suc i = omega arith in
-    subst (λ n. IsNode names n (get_or rest i d)) further (node_is names (k + 1) rest i d h.1 (omega arith))
 
 all_below : (n bound : ℕ) (ms : List ℕ) → AllByRecursion (λ m. m < n) ms → n ≤ bound → All (λ m. m < bound) ms
 all_below n bound ms h le = λ k d below. omega (arith, All-from_recursion (λ m. m < n) ms h k d below)

@@ -3,6 +3,7 @@ use Rattle.std.proofs.Common.{◌≡◌, ℕ, Bool, true, false, List, [], ◌�
 use Rattle.std.specs.Prelude.{◌-◌, if◌then◌else◌, codes, slice_get, take_while, Some}
 use Rattle.std.specs.List.{AllByRecursion, list_all}
 use Rattle.std.specs.Option.{option_map_or}
+use Rattle.std.proofs.lemmas.Bool.{and_parts}
 use Rattle.script_tree.specs.Names.{is_word}
 use Rattle.expr_script.specs.Cut.{begins_word}
 use Rattle.expr_script.specs.Joined.{gap, behind, joined, IsWhole, StandApart}
@@ -11,7 +12,6 @@ use Rattle.expr_script.proofs.FoundCut.{run_bytes, second_no_word}
 use Rattle.deck_lines.specs.Cuts.{each_behind}
 use Rattle.deck_lines.specs.Forms.{Words, IsName, one_each, with_commas}
 use Rattle.deck_lines.proofs.Wholes.{name_word}
-use Rattle.deck_lines.proofs.Wording.{both}
 use Rattle.deck_text.specs.Appended.{ends_with_word, with_word, with_names, with_more_names}
 
 -- a text with a word or a sign behind it, and a space between two words
@@ -110,7 +110,7 @@ sign_put text sign e = by_test (ends_with_word text)
 
 name_begins : (name : List ℕ) → IsName name → begins_word name ≡ true
 name_begins [] n = absurd (omega (arith, (name_word [] n).some))
-name_begins (b ∷ bs) n = (both (is_word b) (list_all is_word bs) (name_word (b ∷ bs) n).all).0
+name_begins (b ∷ bs) n = (and_parts (is_word b) (list_all is_word bs) (name_word (b ∷ bs) n).all).0
 
 pub name_put : (text name : List ℕ) → IsName name → with_word text name ≡ put text name
 name_put text name n = word_put text name (name_begins name n)
