@@ -4,6 +4,7 @@ use Rattle.std.specs.Prelude.{not, ◌&&◌, if◌then◌else◌, nat_lt, nat_le
 use Rattle.std.specs.List.{AllByRecursion, list_all}
 use Rattle.std.proofs.lemmas.Bool.Decides.{Decides-ltb, nat_tests}
 use Rattle.std.proofs.lemmas.Fmt.{length-decimal-le}
+use Rattle.std.proofs.lemmas.Bool.{and_parts}
 use Rattle.script_tree.specs.declared.limits.TheConstants.{NAME_BYTES}
 use Rattle.script_tree.specs.declared.expr.Binary.{Binary}
 use Rattle.script_tree.specs.declared.expr.Binary.TheVariants.{OrElse, Or, And, Equal, Unequal, Less, AtMost, Greater, AtLeast, Add, Subtract, Multiply, Divide, Remainder}
@@ -16,7 +17,6 @@ use Rattle.expr_script.specs.Joined.{between, behind}
 use Rattle.expr_script.specs.Printed.{sign_text, token_text}
 use Rattle.expr_script.proofs.CutBack.{length_behind}
 use Rattle.deck_lines.specs.Forms.{IsName}
-use Rattle.separate_decks.proofs.Naming.{both}
 
 -- a word of no more bytes than a name may have
 abbrev pub Short : List ℕ → Type 0
@@ -24,9 +24,9 @@ Short word = length word ≤ NAME_BYTES
 
 pub name_short : (name : List ℕ) → IsName name → Short name
 name_short name h =
-    let some = both (starts_well name) (list_all is_word name && (nat_le (length name) NAME_BYTES && not (is_reserved name))) h in
-    let all = both (list_all is_word name) (nat_le (length name) NAME_BYTES && not (is_reserved name)) some.1 in
-    let few = (both (nat_le (length name) NAME_BYTES) (not (is_reserved name)) all.1).0 in
+    let some = and_parts (starts_well name) (list_all is_word name && (nat_le (length name) NAME_BYTES && not (is_reserved name))) h in
+    let all = and_parts (list_all is_word name) (nat_le (length name) NAME_BYTES && not (is_reserved name)) some.1 in
+    let few = (and_parts (nat_le (length name) NAME_BYTES) (not (is_reserved name)) all.1).0 in
     grind (arith, nat_tests, few)
 
 gap_short : (last w : List ℕ) → length (between last w) ≤ 1
@@ -93,5 +93,5 @@ token_short names Stray h e = omega arith
 pub tokens_short : (names : List (List ℕ)) (ts : List Token) → AllByRecursion Short names → list_all is_short ts ≡ true → AllByRecursion Short (map (token_text names) ts)
 tokens_short names [] h e = tt
 tokens_short names (t ∷ ts) h e =
-    let parts = both (is_short t) (list_all is_short ts) e in
+    let parts = and_parts (is_short t) (list_all is_short ts) e in
     (token_short names t h parts.0, tokens_short names ts h parts.1)

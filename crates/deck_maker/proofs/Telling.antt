@@ -5,12 +5,14 @@ use Rattle.std.specs.List.{AllByRecursion, list_all}
 use Rattle.std.proofs.lemmas.Bool.Decides.{nat_tests}
 use Rattle.std.proofs.lemmas.List.{length-map}
 use Rattle.std.proofs.lemmas.List.Elements.{All-nil, All-from_recursion}
+use Rattle.std.proofs.lemmas.Bool.{and_parts}
 use Rattle.script_tree.specs.declared.limits.TheConstants.{LEVELS, LINE_BYTES}
 use Rattle.script_tree.specs.declared.value.Value.TheVariants.{Int}
 use Rattle.script_tree.specs.declared.expr.Binary.TheVariants.{Add, Subtract}
 use Rattle.script_tree.specs.Names.{is_name}
 use Rattle.script_tree.specs.Tree.{Tree, Input, Acc, Join}
 use Rattle.script_tree.specs.Scripts.{Scripted}
+use Rattle.script_tree.proofs.Lists.{all_append}
 use Rattle.script_grammar.specs.Grammar.{tokens, nested}
 use Rattle.script_grammar.specs.Canonical.{canonical}
 use Rattle.script_grammar.proofs.Printing.{canonical_script}
@@ -23,12 +25,10 @@ use Rattle.signal_graph.specs.declared.call.Call.TheVariants.{Fire, Read}
 use Rattle.deck_lines.specs.declared.line.Line.TheVariants.{Declares, Thread, Calls}
 use Rattle.deck_lines.specs.Forms.{IsName, with_commas}
 use Rattle.deck_lines.specs.Kept.{IsCall, SetsWell}
-use Rattle.deck_lines.proofs.Judging.{all_both}
 use Rattle.deck_text.specs.Calls.{IsThread}
 use Rattle.deck_text.specs.Kept.{IsDeck, IsCanonical}
 use Rattle.separate_decks.specs.Draws.{skip, draw}
 use Rattle.separate_decks.specs.Workload.{all_names, name_of, two, second, over, source, fold, signal_tree, signal, choice_tree, choose, sources, folds, signals, rows, all_kinds, named, workload_declarations, AreAccepted, no_nodes, workload_graph, call_of, draws_of_call, calls_of, state_after_calls, threads, workload_scripts}
-use Rattle.separate_decks.proofs.Naming.{both}
 use Rattle.separate_decks.proofs.Declaring.{draw_low, fold_leaves, signal_no_acc, signal_no_picks}
 use Rattle.separate_decks.proofs.Keeping.{all_are_names, name_is_one, fold_kept, signal_kept, choice_kept}
 use Rattle.deck_maker.proofs.Saying.{Canons, source_said, signal_said, fold_said, choose_said, thread_said, fire_said, read_said}
@@ -43,8 +43,8 @@ record IsTame (tree : Tree) : Type 0 where
 
 within_limit : (ns : List ℕ) (j : ℕ) → list_all (λ n. nat_le n LEVELS) ns ≡ true → slice_index ns j ≤ LEVELS
 within_limit [] j h = omega arith
-within_limit (n ∷ ns) zero h = let low = (both (nat_le n LEVELS) (list_all (λ m. nat_le m LEVELS) ns) h).0 in grind (arith, nat_tests, low)
-within_limit (n ∷ ns) (suc j) h = within_limit ns j (both (nat_le n LEVELS) (list_all (λ m. nat_le m LEVELS) ns) h).1
+within_limit (n ∷ ns) zero h = let low = (and_parts (nat_le n LEVELS) (list_all (λ m. nat_le m LEVELS) ns) h).0 in grind (arith, nat_tests, low)
+within_limit (n ∷ ns) (suc j) h = within_limit ns j (and_parts (nat_le n LEVELS) (list_all (λ m. nat_le m LEVELS) ns) h).1
 
 shallow : (script : Scripted) → IsTame script.tree → IsShallow script
 shallow script t = record {
@@ -140,7 +140,7 @@ choose_told k p a b c d hp ha hb hc hd name h =
           name_short name h,
           (
             omega arith,
-            all_both Short part [] (all_both Short (printed_words script) among (script_short script (one_short p hp, tt) choice_tame)
+            all_append Short part [] (all_append Short (printed_words script) among (script_short script (one_short p hp, tt) choice_tame)
                 (omega arith, (one_short a ha, (omega arith, (one_short b hb, (omega arith, (one_short c hc, (omega arith, (one_short d hd, tt))))))))) tt,
           ),
         ),
@@ -178,7 +178,7 @@ rows_told k m zero x some few = tt
 rows_told k m (suc n) x some few =
     let y = skip 15 x in
     let low = λ (j : ℕ). drawn_low y j (m + 5) (omega arith) (omega (arith, few)) in
-    all_both IsTold (signals m 5 x) (choose (draw y 1 (m + 5)) (draw y 2 (m + 5) ∷ (draw y 3 (m + 5) ∷ (draw y 4 (m + 5) ∷ (draw y 5 (m + 5) ∷ [])))) ∷ rows (m + 6) n (skip 20 x))
+    all_append IsTold (signals m 5 x) (choose (draw y 1 (m + 5)) (draw y 2 (m + 5) ∷ (draw y 3 (m + 5) ∷ (draw y 4 (m + 5) ∷ (draw y 5 (m + 5) ∷ [])))) ∷ rows (m + 6) n (skip 20 x))
     (signals_told k m 5 x some (omega (arith, few))) (
       choose_told k (draw y 1 (m + 5)) (draw y 2 (m + 5)) (draw y 3 (m + 5)) (draw y 4 (m + 5)) (draw y 5 (m + 5)) (low 1) (low 2) (low 3) (low 4) (low 5),
       rows_told k (m + 6) n (skip 20 x) (omega arith) (omega (arith, few)),
@@ -188,14 +188,14 @@ all_told : Canons → (x : ℕ) → AllByRecursion IsTold (all_kinds x)
 unfolding all_kinds
 all_told k x =
     let rest = rows 72 24 (skip 80 x) in
-    all_both IsTold (sources 64 x) (folds 0 8 (skip 64 x) ++ rest) (sources_told 64 x)
-    (all_both IsTold (folds 0 8 (skip 64 x)) rest (folds_told k 0 8 (skip 64 x) (omega arith)) (rows_told k 72 24 (skip 80 x) (omega arith) (omega arith)))
+    all_append IsTold (sources 64 x) (folds 0 8 (skip 64 x) ++ rest) (sources_told 64 x)
+    (all_append IsTold (folds 0 8 (skip 64 x)) rest (folds_told k 0 8 (skip 64 x) (omega arith)) (rows_told k 72 24 (skip 80 x) (omega arith) (omega arith)))
 
 named_told : (names : List (List ℕ)) (kinds : List DeclKind) → list_all is_name names ≡ true → AllByRecursion IsTold kinds → AllByRecursion (λ (d : List ℕ × DeclKind). IsCanonical (Declares d.0 d.1)) (named names kinds)
 named_told [] kinds h k = tt
 named_told (name ∷ names) [] h k = tt
 named_told (name ∷ names) (kind ∷ kinds) h k =
-    let parts = both (is_name name) (list_all is_name names) h in
+    let parts = and_parts (is_name name) (list_all is_name names) h in
     (k.0 name parts.0, named_told names kinds parts.1 k.1)
 
 -- a call of the workload is one of a deck, and its line is said
