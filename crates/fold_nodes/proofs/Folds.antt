@@ -1,9 +1,11 @@
 -- What a fold's new value asks and makes.
 use Rattle.std.proofs.Common.{◌≡◌, ℕ, ◌<◌, ◌⊎◌, inl, inr, Bool, true, false, not, ◌&&◌, List, [], Option, Some, None, refl, sym, ap, ◌∙◌, true≢false}
+use Rattle.std.proofs.lemmas.Bool.{or_cases}
 use Rattle.std.specs.Option.{IsSome, is_some}
 use Rattle.script_tree.specs.declared.value.Fault.TheVariants.{NoChoice}
 use Rattle.script_tree.specs.declared.value.Value.{Value}
 use Rattle.script_tree.specs.declared.value.Value.TheVariants.{Fault as Faulty}
+use Rattle.script_tree.proofs.Truths.{and_left, and_right}
 use Rattle.signal_graph.specs.declared.node.Node.{Node}
 use Rattle.signal_graph.specs.declared.node.Node.TheVariants.{Source, Signal, Fold, Choose}
 use Rattle.signal_graph.specs.declared.node.NodeKind.TheVariants as kinds
@@ -17,8 +19,7 @@ use Rattle.flow_model.specs.Machine.State.{Gives}
 use Rattle.flow_model.specs.Machine.Words.{touched, is_found, set_value, value_gathered, value_without, value_by, value_now, picks_of_found, finds}
 use Rattle.flow_model.specs.Machine.Changes.{closed}
 use Rattle.flow_model.specs.Machine.Steps.{allowed, is_worked_out}
-use Rattle.flow_model.proofs.General.Truths.{or_cases}
-use Rattle.flow_model.proofs.OneStep.WhoMayStep.{and_left, and_right, at_front-heads}
+use Rattle.flow_model.proofs.OneStep.WhoMayStep.{at_front-heads}
 use Rattle.flow_state.specs.Booked.{Booked, live_in, node_count, work_at, on_call, on_work}
 use Rattle.flow_model.specs.Parts.Books.{Work, forgotten}
 use Rattle.flow_state.specs.Fitting.{IsListStep, MakesList}
