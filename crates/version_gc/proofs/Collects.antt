@@ -6,36 +6,19 @@ use Rattle.std.specs.Option.{is_some}
 use Rattle.std.specs.Prelude.{nat_lt}
 use Rattle.signal_graph.specs.Graph.{Graph}
 use Rattle.node_versions.specs.declared.entry.Entry.{Entry}
-use Rattle.node_versions.specs.Entries.{Versions, IsUnique, EndedIsPrefix, HasEndedPrefix, has, at, behind, is_done, last_done, collected, with_entries}
+use Rattle.node_versions.specs.Entries.{Versions, HasEndedPrefix, at, is_done, last_done, collected, with_entries}
 use Rattle.flow_model.specs.declared.step.Step.TheVariants.{Collect}
 use Rattle.flow_model.specs.Machine.State.{Cell, call_of, ended, live, entries}
 use Rattle.std.specs.Prelude.{is_some}
 use Rattle.flow_model.specs.Machine.Steps.{allowed, collect}
 use Rattle.flow_model.proofs.OneList.InOrder.{on_calls}
-use Rattle.flow_model.proofs.OneList.StatesAndPlaces.{behind-has}
+use Rattle.flow_model.proofs.Known.ListsAnswer.{prefix-of}
 use Rattle.flow_state.specs.Booked.{Booked, live_in, with_book}
 use Rattle.flow_model.specs.Parts.Books.{Book}
 use Rattle.flow_state.proofs.OneCell.{cell-inside, cell-changed, book-same}
 use Rattle.flow_state.specs.Fitting.{IsListStep, MakesList, list_of}
 
 -- ---- the ended entries come first
-
-none-ended : (gone : ℕ → Bool) (es : List Entry) → ((v : ℕ) → has es v ≡ true → gone v ≡ false) → filter (on_calls gone) es ≡ []
-none-ended gone [] h = refl
-none-ended gone (e ∷ es) h =
-    let first = h e.version in
-    let r = none-ended gone es (λ v k. h v (grind (arith, k))) in
-    grind (arith, eqb_tells, first, r)
-
-prefix : (gone : ℕ → Bool) (es : List Entry) → IsUnique es → ((u v : ℕ) → behind es u v ≡ true → gone v ≡ true → gone u ≡ true) → EndedIsPrefix (on_calls gone) es
-prefix gone [] once h = tt
-prefix gone (e ∷ es) once h =
-    let more = prefix gone es once.1 (λ u v b. h u v (let p = behind-has es u v b in let o = once.0 in grind (arith, eqb_tells, b, p, o))) in
-    go (gone e.version) refl more
-  where
-    go : (b : Bool) → gone e.version ≡ b → EndedIsPrefix (on_calls gone) es → elim b as (λ _. Type 0) [ true ↦ EndedIsPrefix (on_calls gone) es | false ↦ filter (on_calls gone) es ≡ [] ]
-    go true k more = more
-    go false k more = none-ended gone es (λ v b. let q = h e.version v in grind (arith, eqb_tells, b, k, q))
 
 some-done : (gone : ℕ → Bool) (es : List Entry) (u : ℕ) → gone u ≡ true → at is_done es u ≡ true → is_some (last_done (filter (on_calls gone) es)) ≡ true
 some-done gone [] u g h = absurd (true≢false (sym h))
@@ -55,7 +38,7 @@ in-state graph book n list h =
     let kept = h.fits.lawful.ended_is_prefix in
     let some = kept.done n (cell-inside s.cells n (some-entry _ _ h.allowed)) in
     record {
-      prefix = prefix (λ u. not (live s u)) (entries s n) (h.fits.lawful.one_entry n) (λ u v b. flips (live s v) (live s u) (kept.prefix n u v b));
+      prefix = prefix-of (λ u. not (live s u)) (entries s n) (h.fits.lawful.one_entry n) (λ u v b. flips (live s v) (live s u) (kept.prefix n u v b));
       done = some-done (λ u. not (live s u)) (entries s n) some.0 (ap not some.1) some.2;
     }
 
