@@ -4,18 +4,19 @@ use Rattle.std.specs.Prelude.{◌==◌}
 use Rattle.std.specs.List.{AllByRecursion}
 use Rattle.std.proofs.lemmas.List.{map-append}
 use Rattle.std.proofs.lemmas.List.Elements.{filter-append}
+use Rattle.std.proofs.lemmas.Bool.{or_parts}
 use Rattle.chronicle.specs.declared.entry.Entry.{Entry}
 use Rattle.chronicle.specs.Entries.{events, has_key, entries_of, WithoutKey, IsPrefixWithAll}
 use Rattle.chronicle.specs.Keys.{is_out}
 use Rattle.chronicle.specs.Prefixes.{IsPrefix}
-use Rattle.chronicle.proofs.KeyLaws.{neither, out_apart}
+use Rattle.chronicle.proofs.KeyLaws.{out_apart}
 use Rattle.chronicle.proofs.PrefixLaws.{prefix-map}
 
 module _ {E : Type 0} where
   -- an entry that is not one of a key above 0 has other keys
   pub other_keys : (k : ℕ) (e : Entry E) → 0 < k → has_key k e ≡ false → ((k == e.first_key) ≡ false) × ((k == e.second_key) ≡ false)
   other_keys zero e above is = absurd (omega arith)
-  other_keys (suc k) e above is = neither (suc k == e.first_key) (suc k == e.second_key) is
+  other_keys (suc k) e above is = or_parts (suc k == e.first_key) (suc k == e.second_key) is
 
   -- an entry whose keys are in is not one of a key that is out
   pub has_key-in : (out : List ℕ) (k : ℕ) (e : Entry E) → is_out k out ≡ true → is_out e.first_key out ≡ false → is_out e.second_key out ≡ false → has_key k e ≡ false

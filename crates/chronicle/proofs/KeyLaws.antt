@@ -3,21 +3,13 @@ use Rattle.std.proofs.Common.{◌≡◌, ◌≢◌, ℕ, zero, suc, ◌<◌, Boo
 use Rattle.std.specs.Prelude.{◌==◌, ◌||◌}
 use Rattle.std.specs.List.{list_any}
 use Rattle.std.proofs.lemmas.Bool.Decides.{nat_tests}
+use Rattle.std.proofs.lemmas.Bool.{or_parts}
+use Rattle.std.proofs.Math.Bool.{or-true}
+use Rattle.script_tree.proofs.Numbers.{equal_to_itself}
 use Rattle.chronicle.specs.Keys.{is_out, all_but, out_with, out_without, AreDifferent}
 
 pub false≢true : false ≡ true → ⊥
 false≢true e = true≢false (sym e)
-
-or_true : (b : Bool) → (b || true) ≡ true
-or_true true = refl
-or_true false = refl
-
-pub neither : (a b : Bool) → (a || b) ≡ false → (a ≡ false) × (b ≡ false)
-neither true b is = absurd (true≢false is)
-neither false b is = (refl, is)
-
-pub equal_to_itself : (k : ℕ) → (k == k) ≡ true
-equal_to_itself k = grind (arith, nat_tests)
 
 pub differs : (x k : ℕ) → x ≢ k → (x == k) ≡ false
 differs x k apart = grind (arith, nat_tests)
@@ -39,7 +31,7 @@ out_apart out (suc k) (suc x) at away = among_apart out (suc k) (suc x) at away
 pub is_out-with : (out : List ℕ) (k x : ℕ) → is_out x out ≡ true → is_out x (out_with k out) ≡ true
 is_out-with out k zero at = absurd (false≢true at)
 is_out-with out zero (suc x) at = at
-is_out-with out (suc k) (suc x) at = rw at (or_true (suc x == suc k))
+is_out-with out (suc k) (suc x) at = rw at (or-true (suc x == suc k))
 
 -- a key above 0 is out once a note of it is made
 pub is_out-with_itself : (out : List ℕ) (k : ℕ) → 0 < k → is_out k (out_with k out) ≡ true
@@ -117,7 +109,7 @@ is_out-met out k (suc x) at = by_test (k == suc x) refl
 all_but-away : (out : List ℕ) (k : ℕ) → list_any (λ y. k == y) out ≡ false → all_but k out ≡ out
 all_but-away [] k away = refl
 all_but-away (z ∷ zs) k away =
-    let parts : ((k == z) ≡ false) × (list_any (λ y. k == y) zs ≡ false) = neither (k == z) (list_any (λ y. k == y) zs) away in
+    let parts : ((k == z) ≡ false) × (list_any (λ y. k == y) zs ≡ false) = or_parts (k == z) (list_any (λ y. k == y) zs) away in
     rw parts.0 (ap (λ l. z ∷ l) (all_but-away zs k parts.1))
 
 -- a note that is made and taken back leaves the keys as they were

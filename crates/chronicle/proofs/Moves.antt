@@ -3,6 +3,7 @@ use Rattle.std.proofs.Common.{◌≡◌, ◌≢◌, ℕ, zero, suc, ◌+◌, ◌
 use Rattle.std.specs.Prelude.{◌==◌, slice_index}
 use Rattle.std.specs.List.{AllByRecursion}
 use Rattle.std.proofs.lemmas.Bool.Decides.{nat_tests}
+use Rattle.script_tree.proofs.Numbers.{equal_to_itself}
 use mathlib.Core.Option.{some, some-ne-none, some-injective}
 use lib.ListN.{get_elem?}
 use Rattle.atomic_table.specs.Table.{State, Me, Step, keeps, opening, Allows, Splits, Joins}
@@ -16,7 +17,7 @@ use Rattle.chronicle.specs.Keys.{is_out, out_with, out_without}
 use Rattle.chronicle.specs.Rule.{WasNoteOf, IsTrueView, IsKept}
 use Rattle.chronicle.specs.Steps.{made, note_made, note_out, note_back, Appends, Loads}
 use Rattle.chronicle.proofs.EntryLaws.{has_key-in, with_all_refl, with_all-push}
-use Rattle.chronicle.proofs.KeyLaws.{out_apart, equal_to_itself, is_out-with, is_out-with_itself, is_out-without, different-with, different-without}
+use Rattle.chronicle.proofs.KeyLaws.{out_apart, is_out-with, is_out-with_itself, is_out-without, different-with, different-without}
 
 module _ {A : Type 0} where
   -- where an item of a list with one more item stands
