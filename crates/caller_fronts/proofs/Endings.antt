@@ -1,10 +1,10 @@
 -- Callers whose call has ended.
 use Rattle.std.proofs.Common.{◌≡◌, ℕ, ◌≤◌, ◌<◌, Bool, true, false, cond, ◌==◌, List, [], ◌∷◌, length, filter, Option, Some, refl, sym, ap, subst, arith, true≢false}
+use Rattle.std.proofs.lemmas.Bool.{or_left, eq-eqb, both_ways}
 use Rattle.std.specs.Prelude.{is_some}
 use Rattle.signal_graph.specs.Graph.{is_in}
 use Rattle.flow_model.specs.Machine.State.{LiveCall, call_of, call_or}
 use Rattle.flow_model.specs.Machine.Steps.{has_call, without_call}
-use Rattle.flow_model.proofs.General.Truths.{equal_test, is_not_true, or_left}
 
 abbrev calls_by : ℕ → List LiveCall → List LiveCall
 calls_by k cs = filter (λ (c : LiveCall). c.caller == k) cs
@@ -30,7 +30,7 @@ found-counts k t (c ∷ cs) l w = go (c.version == t) (c.caller == k) refl l w (
         → (is_some (call_of cs t) ≡ true → (call_or (call_of cs t)).caller ≡ k → 0 < length (calls_by k cs))
         → 0 < length (cond b (c ∷ calls_by k cs) (calls_by k cs))
     go v true e l w r = omega arith
-    go true false e l w r = absurd (is_not_true _ e (equal_test c.caller k w))
+    go true false e l w r = absurd (both_ways _ e (eq-eqb c.caller k w))
     go false false e l w r = r l w
 
 no_more : (cs : List LiveCall) → length cs ≤ 0 → cs ≡ []
@@ -49,7 +49,7 @@ ended-idle k t (c ∷ cs) one l w = go (c.version == t) (c.caller == k) refl one
         → (is_some (call_of cs t) ≡ true → (call_or (call_of cs t)).caller ≡ k → 0 < length (calls_by k cs))
         → has_call k (elim v as (λ _. List LiveCall) [ true ↦ without_call t cs | false ↦ c ∷ without_call t cs ]) ≡ false
     go true true e one l w r f = fewer-idle k t cs (no_more (calls_by k cs) (omega (arith, one)))
-    go true false e one l w r f = absurd (is_not_true _ e (equal_test c.caller k w))
+    go true false e one l w r f = absurd (both_ways _ e (eq-eqb c.caller k w))
     go false true e one l w r f = let more = f l w in absurd (omega (arith, one, more))
     go false false e one l w r f = rw e (r one l w)
 
@@ -57,9 +57,9 @@ ended-idle k t (c ∷ cs) one l w = go (c.version == t) (c.caller == k) refl one
 pub any-idle : (cs : List LiveCall) → ((t : ℕ) → is_some (call_of cs t) ≡ true → has_call (call_or (call_of cs t)).caller cs ≡ false) → cs ≡ []
 any-idle [] h = refl
 any-idle (c ∷ cs) h =
-    let e : call_of (c ∷ cs) c.version ≡ Some c = itself (c.version == c.version) (equal_test c.version c.version refl) in
+    let e : call_of (c ∷ cs) c.version ≡ Some c = itself (c.version == c.version) (eq-eqb c.version c.version refl) in
     let none : has_call c.caller (c ∷ cs) ≡ false = subst (λ (o : Option LiveCall). has_call (call_or o).caller (c ∷ cs) ≡ false) e (h c.version (ap is_some e)) in
-    absurd (is_not_true _ none (or_left _ _ (equal_test c.caller c.caller refl)))
+    absurd (both_ways _ none (or_left _ _ (eq-eqb c.caller c.caller refl)))
   where
     itself : (b : Bool) → b ≡ true → elim b as (λ _. Option LiveCall) [ true ↦ Some c | false ↦ call_of cs c.version ] ≡ Some c
     itself true h = refl
@@ -68,4 +68,4 @@ any-idle (c ∷ cs) h =
 -- a list in which nothing is
 pub nothing_in : (ns : List ℕ) → ((n : ℕ) → is_in n ns ≡ true → ⊥) → ns ≡ []
 nothing_in [] h = refl
-nothing_in (n ∷ ns) h = absurd (h n (or_left _ _ (equal_test n n refl)))
+nothing_in (n ∷ ns) h = absurd (h n (or_left _ _ (eq-eqb n n refl)))

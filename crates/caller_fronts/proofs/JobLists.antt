@@ -1,6 +1,6 @@
 -- Jobs that are out, by their nodes.
-use Rattle.std.proofs.Common.{◌≡◌, ℕ, Bool, true, false, cond, not, ◌||◌, ◌==◌, nat_lt, List, [], ◌∷◌, map, Some, None, Result, Ok, Err, refl, sym, ap, ◌∙◌, subst}
-use Rattle.script_tree.specs.declared.value.Fault.{Fault}
+use Rattle.std.proofs.Common.{◌≡◌, ℕ, Bool, true, false, cond, not, ◌||◌, ◌==◌, nat_lt, List, [], ◌∷◌, map, Some, None, refl, sym, ap, ◌∙◌, subst}
+use Rattle.std.proofs.lemmas.Bool.{eqb-true}
 use Rattle.signal_graph.specs.Graph.{Graph, is_in}
 use Rattle.flow_model.specs.declared.step.Step.TheVariants as steps
 use Rattle.flow_model.specs.Machine.Sets.{put, take_out}
@@ -8,17 +8,18 @@ use Rattle.flow_model.specs.Machine.State.{Core}
 use Rattle.flow_model.specs.Machine.State as state
 use Rattle.flow_model.specs.Machine.Words.{found_now, body_now}
 use Rattle.flow_model.specs.Machine.Steps.{allowed}
-use Rattle.flow_model.proofs.General.Truths.{same_number}
+use Rattle.flow_model.proofs.Work.WorkAtOneNode.{evaluate-not_found, body-found}
 use Rattle.flow_state.specs.declared.found.Found.{Found}
-use Rattle.flow_state.specs.declared.found.Found.TheVariants.{Candidate, Fault as Faulted}
 use Rattle.flow_state.specs.declared.outcome.Outcome.{Outcome}
 use Rattle.flow_state.specs.declared.outcome.Outcome.TheVariants as outcome
 use Rattle.flow_state.specs.declared.outcome.Answer.{Answer}
 use Rattle.flow_state.specs.Answers.{step_for, step_of, IsOutcome, IsRight}
 use Rattle.flow_state.specs.Found.{selection_of}
-use Rattle.flow_state.specs.Jobs.{outcome_in, found_as}
+use Rattle.flow_state.specs.Jobs.{outcome_in}
+use Rattle.flow_state.proofs.JobLemmas.{found_back}
+use Rattle.flow_state.proofs.Outcomes.{outcome-right}
 use Rattle.caller_fronts.specs.Jobs.{job_at, jobs_at, job_of, with_job, without_job}
-use Rattle.caller_fronts.proofs.TokensStay.{evaluate-not_found, body-is_found, job-evaluate, job-body}
+use Rattle.caller_fronts.proofs.TokensStay.{job-evaluate, job-body}
 
 -- ---- by nodes
 
@@ -30,7 +31,7 @@ job-out graph s t n (x ∷ xs) answer h = go (x == n) refl h (λ k. job-out grap
     go : (b : Bool) → (x == n) ≡ b → cond b (Some (job_at graph s t x)) (job_of n (jobs_at graph s t xs)) ≡ Some answer
         → (job_of n (jobs_at graph s t xs) ≡ Some answer → (is_in n xs ≡ true) × (answer ≡ job_at graph s t n))
         → ((b || is_in n xs) ≡ true) × (answer ≡ job_at graph s t n)
-    go true e h k = let same : job_at graph s t x ≡ answer = cc in (refl, sym same ∙ ap (job_at graph s t) (same_number x n e))
+    go true e h k = let same : job_at graph s t x ≡ answer = cc in (refl, sym same ∙ ap (job_at graph s t) (eqb-true x n e))
     go false e h k = k h
 
 pub job-some : (graph : Graph) (s : Core) (t n : ℕ) (nodes : List ℕ) → is_in n nodes ≡ true → job_of n (jobs_at graph s t nodes) ≡ Some (job_at graph s t n)
@@ -39,7 +40,7 @@ job-some graph s t n (x ∷ xs) h = go (x == n) refl h (λ k. job-some graph s t
   where
     go : (b : Bool) → (x == n) ≡ b → (b || is_in n xs) ≡ true → (is_in n xs ≡ true → job_of n (jobs_at graph s t xs) ≡ Some (job_at graph s t n))
         → cond b (Some (job_at graph s t x)) (job_of n (jobs_at graph s t xs)) ≡ Some (job_at graph s t n)
-    go true e h k = ap (λ (m : ℕ). Some (job_at graph s t m)) (same_number x n e)
+    go true e h k = ap (λ (m : ℕ). Some (job_at graph s t m)) (eqb-true x n e)
     go false e h k = k h
 
 pub job-none : (graph : Graph) (s : Core) (t n : ℕ) (nodes : List ℕ) → is_in n nodes ≡ false → job_of n (jobs_at graph s t nodes) ≡ None
@@ -74,34 +75,20 @@ job-less graph s t n (x ∷ xs) = go (x == n) (job-less graph s t n xs)
 
 -- ---- jobs are right
 
-selections-back : (rs : List (Result ℕ Fault)) → map selection_of (map found_as rs) ≡ rs
-selections-back [] = refl
-selections-back (Ok c ∷ rs) = ap (λ (xs : List (Result ℕ Fault)). Ok c ∷ xs) (selections-back rs)
-selections-back (Err f ∷ rs) = ap (λ (xs : List (Result ℕ Fault)). Err f ∷ xs) (selections-back rs)
-
-found-back : (fs : List Found) → map found_as (map selection_of fs) ≡ fs
-found-back [] = refl
-found-back (Candidate c ∷ fs) = ap (λ (xs : List Found). Candidate c ∷ xs) (found-back fs)
-found-back (Faulted f ∷ fs) = ap (λ (xs : List Found). Faulted f ∷ xs) (found-back fs)
-
 in-step : (t n : ℕ) (found : state.Found) → step_for t n (outcome_in found) ≡ steps.Evaluate t n
 in-step t n (state.Gives v) = refl
 in-step t n (state.Selects rs) = refl
-
-in-right : (graph : Graph) (s : Core) (t n : ℕ) (found : state.Found) → found_now graph s t n ≡ found → IsOutcome graph s t n (outcome_in found)
-in-right graph s t n (state.Gives v) is = is
-in-right graph s t n (state.Selects rs) is = is ∙ ap state.Selects (sym (selections-back rs))
 
 pub evaluate-right : (graph : Graph) (s : Core) (t n : ℕ) → allowed graph s (steps.Evaluate t n) ≡ true
     → (step_of (job_at graph s t n) ≡ steps.Evaluate t n) × IsRight graph s (job_at graph s t n)
 evaluate-right graph s t n a =
     let is = sym (job-evaluate graph s t n (evaluate-not_found graph s t n a)) in
-    subst (λ (j : Answer). (step_of j ≡ steps.Evaluate t n) × IsRight graph s j) is (in-step t n (found_now graph s t n), in-right graph s t n (found_now graph s t n) refl)
+    subst (λ (j : Answer). (step_of j ≡ steps.Evaluate t n) × IsRight graph s j) is (in-step t n (found_now graph s t n), outcome-right graph s t n (found_now graph s t n) refl)
 
 pub body-right : (graph : Graph) (s : Core) (t n : ℕ) → allowed graph s (steps.Body t n) ≡ true
     → (step_of (job_at graph s t n) ≡ steps.Body t n) × IsRight graph s (job_at graph s t n)
 body-right graph s t n a =
-    subst (λ (j : Answer). (step_of j ≡ steps.Body t n) × IsRight graph s j) (sym (job-body graph s t n (body-is_found graph s t n a))) (refl, refl)
+    subst (λ (j : Answer). (step_of j ≡ steps.Body t n) × IsRight graph s j) (sym (job-body graph s t n (body-found graph s t n a))) (refl, refl)
 
 -- ---- an answer that is right is the job
 
@@ -120,7 +107,7 @@ outcome-found graph s t n u m (outcome.Value v) is right =
 outcome-found graph s t n u m (outcome.Found list) is right =
     let version : u ≡ t = cc in let node : m ≡ n = cc in
     let found : found_now graph s t n ≡ state.Selects (map selection_of list) = subst (λ (x : ℕ). found_now graph s x n ≡ state.Selects (map selection_of list)) version (subst (λ (y : ℕ). found_now graph s u y ≡ state.Selects (map selection_of list)) node right) in
-    made u t m n (outcome.Found list) _ version node (ap outcome.Found (sym (found-back list)) ∙ ap outcome_in (sym found))
+    made u t m n (outcome.Found list) _ version node (ap outcome.Found (sym (found_back list)) ∙ ap outcome_in (sym found))
 outcome-found graph s t n u m (outcome.Body v) is right = absurd (cc)
 
 outcome-body : (graph : Graph) (s : Core) (t n u m : ℕ) (o : Outcome) → step_for u m o ≡ steps.Body t n → IsOutcome graph s u m o
@@ -139,4 +126,4 @@ evaluate-is graph s t n answer a is right =
 pub body-is : (graph : Graph) (s : Core) (t n : ℕ) (answer : Answer) → allowed graph s (steps.Body t n) ≡ true → step_of answer ≡ steps.Body t n → IsRight graph s answer
     → answer ≡ job_at graph s t n
 body-is graph s t n answer a is right =
-    outcome-body graph s t n answer.version answer.node answer.outcome is right ∙ sym (job-body graph s t n (body-is_found graph s t n a))
+    outcome-body graph s t n answer.version answer.node answer.outcome is right ∙ sym (job-body graph s t n (body-found graph s t n a))

@@ -2,14 +2,15 @@
 use Rattle.std.proofs.Common.{◌≡◌, ℕ, zero, suc, ◌<◌, Bool, true, false, not, ◌||◌, ◌==◌, List, [], ◌∷◌, ◌++◌, refl, sym, ap, ◌∙◌, subst, arith}
 use Rattle.std.proofs.lemmas.List.{map-append}
 use Rattle.std.proofs.lemmas.Bool.Decides.{eqb_tells}
+use Rattle.std.proofs.lemmas.Bool.{and_from}
 use Rattle.signal_graph.specs.Graph.{Graph}
 use Rattle.chronicle.specs.declared.entry.Entry.{Entry}
 use Rattle.chronicle.specs.Entries.{events, has_key, WithoutKey, IsPrefixWithAll}
 use Rattle.flow_model.specs.Machine.State.{Core, opening}
-use Rattle.flow_model.specs.Machine.Histories.{Move, may, after_move, after_moves, may_all, state, is_history}
+use Rattle.flow_model.specs.Machine.Histories.{Move, may, after_move, after_moves, state, is_history}
 use Rattle.flow_model.specs.Follows.Others.{none_by, caller_of}
 use Rattle.flow_model.proofs.Histories.Moves.{after_parts}
-use Rattle.flow_model.proofs.General.Truths.{and_make}
+use Rattle.flow_model.proofs.Schedules.SchedulesMakeHistories.{may_all-more}
 use Rattle.caller_fronts.specs.Fronts.{IsLater}
 use Rattle.caller_fronts.specs.Keys.{AreKeyed}
 
@@ -40,7 +41,7 @@ other_key (suc k) e c some h is = subst (λ (x : ℕ). (x == suc k) ≡ false) i
 keyed-others : (graph : Graph) (k : ℕ) (s : Core) (es : List (Entry Move)) → 0 < k → AreKeyed graph s es → WithoutKey k es → none_by graph k s (events es) ≡ true
 keyed-others graph k s [] some keyed without = refl
 keyed-others graph k s (e ∷ es) some keyed without =
-    and_make _ _ (ap not (other_key k e (caller_of s e.event) some without.0 keyed.0)) (keyed-others graph k (after_move graph s e.event) es some keyed.2 without.1)
+    and_from _ _ (ap not (other_key k e (caller_of s e.event) some without.0 keyed.0)) (keyed-others graph k (after_move graph s e.event) es some keyed.2 without.1)
 
 pub front-later : (graph : Graph) (callers limit k : ℕ) (xs ys : List (Entry Move)) → 0 < k → is_history graph callers limit (events ys) ≡ true
     → AreKeyed graph (opening graph callers limit) ys → IsPrefixWithAll k xs ys → IsLater graph callers limit k (events xs) (events ys)
@@ -52,19 +53,6 @@ front-later graph callers limit k xs ys some history keyed p = record {
       (keyed-rest graph (opening graph callers limit) xs p.rest (subst (AreKeyed graph (opening graph callers limit)) (sym p.joined) keyed)) p.none_left;
 }
 
-may-more : (graph : Graph) (moves : List Move) (s : Core) (move : Move) → may_all graph s moves ≡ true → may graph (after_moves graph s moves) move ≡ true → may_all graph s (moves ++ move ∷ []) ≡ true
-may-more graph [] s move h m = single (may graph s move) m
-  where
-    single : (b : Bool) → b ≡ true → elim b as (λ _. Bool) [ true ↦ true | false ↦ false ] ≡ true
-    single b k = subst (λ (x : Bool). elim x as (λ _. Bool) [ true ↦ true | false ↦ false ] ≡ true) (sym k) refl
-may-more graph (x ∷ xs) s move h m = go (may graph s x) h (λ k. may-more graph xs (after_move graph s x) move k m)
-  where
-    go : (b : Bool) → elim b as (λ _. Bool) [ true ↦ may_all graph (after_move graph s x) xs | false ↦ false ] ≡ true
-        → (may_all graph (after_move graph s x) xs ≡ true → may_all graph (after_move graph s x) (xs ++ move ∷ []) ≡ true)
-        → elim b as (λ _. Bool) [ true ↦ may_all graph (after_move graph s x) (xs ++ move ∷ []) | false ↦ false ] ≡ true
-    go true k r = r k
-    go false k r = k
-
 pub history-more : (graph : Graph) (callers limit : ℕ) (moves : List Move) (move : Move) → is_history graph callers limit moves ≡ true → may graph (state graph callers limit moves) move ≡ true
     → (is_history graph callers limit (moves ++ move ∷ []) ≡ true) × (state graph callers limit (moves ++ move ∷ []) ≡ after_move graph (state graph callers limit moves) move)
-history-more graph callers limit moves move h m = (may-more graph moves (opening graph callers limit) move h m, after_parts graph moves (move ∷ []) (opening graph callers limit))
+history-more graph callers limit moves move h m = (may_all-more graph moves (opening graph callers limit) move h m, after_parts graph moves (move ∷ []) (opening graph callers limit))

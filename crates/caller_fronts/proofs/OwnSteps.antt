@@ -1,28 +1,21 @@
 -- A live call after steps that are not its end.
 use Rattle.std.proofs.Common.{◌≡◌, ◌≢◌, ⊎_elim, ℕ, Bool, true, false, ◌==◌, List, Some, refl, sym, ap, ◌∙◌, subst}
+use Rattle.std.proofs.lemmas.Bool.{or_cases, and_parts, eqb-true}
 use Rattle.std.specs.Prelude.{is_some}
 use Rattle.signal_graph.specs.Graph.{Graph, is_in}
 use Rattle.flow_model.specs.declared.step.Step.{Step}
 use Rattle.flow_model.specs.declared.step.Step.TheVariants as steps
 use Rattle.flow_model.specs.Machine.Keys.{version_of_step, is_own_step}
 use Rattle.flow_model.specs.Machine.Sets.{put, take_out}
-use Rattle.flow_model.specs.Machine.State.{Core, LiveCall, call, live}
+use Rattle.flow_model.specs.Machine.State.{Core, call, live}
 use Rattle.flow_model.specs.Machine.Steps.{apply}
 use Rattle.flow_model.specs.Machine.Histories.{Make}
 use Rattle.flow_model.specs.Follows.Others.{caller_of, caller_of_version}
-use Rattle.flow_model.proofs.General.Truths.{same_number, or_cases, and_both}
 use Rattle.flow_model.proofs.General.Sets.{in-put, in-take_out}
 use Rattle.flow_model.proofs.OneStep.CallsLiveOn.{Continues, IsEnd, step-continues}
-use Rattle.flow_model.proofs.OneStep.SameCallers.{Stable}
 use Rattle.flow_model.proofs.OneList.CallsAndCells.{without_call-other}
 use Rattle.caller_fronts.specs.Keys.{key_for}
 use Rattle.caller_fronts.specs.Tokens.{IsEvaluationDue}
-
-pub caller-stable : Stable (λ (c : LiveCall). c.caller)
-caller-stable = record { opens = λ n outs c. refl; starts = λ c. refl; closes = λ n b c. refl; counts = λ c. refl; looks = λ v c. refl; tells = λ es t n c. refl }
-
-pub call-stable : Stable (λ (c : LiveCall). c.call)
-call-stable = record { opens = λ n outs c. refl; starts = λ c. refl; closes = λ n b c. refl; counts = λ c. refl; looks = λ v c. refl; tells = λ es t n c. refl }
 
 -- the caller of a turn's step
 pub step-whose : (s : Core) (k t : ℕ) (step : Step) → (call s t).caller ≡ k → (is_own_step step ≡ true → version_of_step step ≡ Some t) → caller_of s (Make step) ≡ key_for k step
@@ -44,11 +37,11 @@ step-lives graph s step t l no_end = ⊎_elim
 
 pub fewer-due : (graph : Graph) (s : Core) (t n : ℕ) (nodes : List ℕ) → ((m : ℕ) → is_in m nodes ≡ true → IsEvaluationDue graph s t m)
     → (m : ℕ) → is_in m (take_out n nodes) ≡ true → IsEvaluationDue graph s t m
-fewer-due graph s t n nodes due m i = due m (and_both _ _ (sym (in-take_out m n nodes) ∙ i)).0
+fewer-due graph s t n nodes due m i = due m (and_parts _ _ (sym (in-take_out m n nodes) ∙ i)).0
 
 pub more-due : (graph : Graph) (s : Core) (t n : ℕ) (nodes : List ℕ) → ((m : ℕ) → is_in m nodes ≡ true → IsEvaluationDue graph s t m) → IsEvaluationDue graph s t n
     → (m : ℕ) → is_in m (put n nodes) ≡ true → IsEvaluationDue graph s t m
 more-due graph s t n nodes due new m i = ⊎_elim
-    (λ (e : (m == n) ≡ true). subst (IsEvaluationDue graph s t) (sym (same_number m n e)) new)
+    (λ (e : (m == n) ≡ true). subst (IsEvaluationDue graph s t) (sym (eqb-true m n e)) new)
     (λ (e : is_in m nodes ≡ true). due m e)
     (or_cases (m == n) (is_in m nodes) (sym (in-put m n nodes) ∙ i))

@@ -1,6 +1,8 @@
 -- Moves after which no call lives, and who has seen the last move.
 use Rattle.std.proofs.Common.{◌≡◌, ◌≢◌, ◌⊎◌, inl, inr, ⊎_elim, ℕ, Bool, true, false, ◌==◌, List, [], ◌∷◌, ◌++◌, Option, Some, refl, sym, ap, ◌∙◌, append-nil, append_assoc, subst, true≢false}
+use Rattle.std.proofs.lemmas.Bool.{eq-eqb, both_ways}
 use Rattle.std.specs.Prelude.{is_some}
+use Rattle.script_tree.proofs.Truths.{not_and_parts}
 use Rattle.signal_graph.specs.declared.call.Call.{Call}
 use Rattle.signal_graph.specs.Graph.{Graph}
 use Rattle.flow_model.specs.declared.step.Step.{Step}
@@ -8,11 +10,9 @@ use Rattle.flow_model.specs.Machine.State.{Core, LiveCall, call_of, live, openin
 use Rattle.flow_model.specs.Machine.Steps.{apply, begin, new_call}
 use Rattle.flow_model.specs.Machine.Histories.{Move, Begin, Make, after_move, after_moves, state}
 use Rattle.flow_model.specs.Follows.Others.{none_by, caller_of}
-use Rattle.flow_model.proofs.General.Truths.{equal_test, is_not_true}
 use Rattle.flow_model.proofs.Histories.Moves.{after_parts}
 use Rattle.flow_model.proofs.OneStep.CallsLiveOn.{Continues, IsEnd, step-continues}
 use Rattle.caller_fronts.specs.Fronts.{IsLater, IsEndLast, RestsAtEnds}
-use Rattle.caller_fronts.proofs.OwnCalls.{first_other}
 
 -- ---- whether a call lives
 
@@ -22,7 +22,7 @@ some-live s t l none = true≢false (sym l ∙ ap (λ (cs : List LiveCall). is_s
 any-live : (s : Core) (cs : List LiveCall) → s.calls ≡ cs → cs ≢ [] → (t : ℕ) × (live s t ≡ true)
 any-live s [] e some = absurd (some refl)
 any-live s (c ∷ cs) e some =
-    (c.version, ap (λ (l : List LiveCall). is_some (call_of l c.version)) e ∙ itself (c.version == c.version) (equal_test c.version c.version refl))
+    (c.version, ap (λ (l : List LiveCall). is_some (call_of l c.version)) e ∙ itself (c.version == c.version) (eq-eqb c.version c.version refl))
   where
     itself : (b : Bool) → b ≡ true → is_some (elim b as (λ _. Option LiveCall) [ true ↦ Some c | false ↦ call_of cs c.version ]) ≡ true
     itself true h = refl
@@ -84,8 +84,8 @@ same-ends (a ∷ xs) (b ∷ ys) x y e =
     (ap (λ (m : Move). m ∷ xs) h.0 ∙ ap (λ (l : List Move). b ∷ l) r.0, r.1)
 
 none-last : (graph : Graph) (k : ℕ) (s : Core) (xs : List Move) (x : Move) → none_by graph k s (xs ++ x ∷ []) ≡ true → (caller_of (after_moves graph s xs) x == k) ≡ false
-none-last graph k s [] x h = (first_other (caller_of s x == k) _ h).0
-none-last graph k s (y ∷ ys) x h = none-last graph k (after_move graph s y) ys x (first_other (caller_of s y == k) _ h).1
+none-last graph k s [] x h = (not_and_parts (caller_of s x == k) _ h).0
+none-last graph k s (y ∷ ys) x h = none-last graph k (after_move graph s y) ys x (not_and_parts (caller_of s y == k) _ h).1
 
 pub last-seen : (graph : Graph) (callers limit k : ℕ) (front earlier : List Move) (move : Move) → IsLater graph callers limit k front (earlier ++ move ∷ [])
     → caller_of (state graph callers limit earlier) move ≡ k → front ≡ earlier ++ move ∷ []
@@ -99,5 +99,5 @@ last-seen graph callers limit k front earlier move l mine = ⊎_elim
     = none-last graph k (state graph callers limit front) e.0 e.1 (subst (λ (r : List Move). none_by graph k (state graph callers limit front) r ≡ true) e.2 l.others) in
     let at : q ≡ state graph callers limit earlier = sym (after_parts graph front e.0 (opening graph callers limit)) ∙ ap (state graph callers limit) same.0 in
     let is : caller_of q e.1 ≡ k = ap (λ (s : Core). caller_of s e.1) at ∙ ap (caller_of (state graph callers limit earlier)) same.1 ∙ mine in
-    absurd (is_not_true _ other (equal_test _ k is)))
+    absurd (both_ways _ other (eq-eqb _ k is)))
     (ends l.rest)

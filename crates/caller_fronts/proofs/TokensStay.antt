@@ -1,13 +1,14 @@
 -- What a caller finds again in a later history.
-use Rattle.std.proofs.Common.{◌≡◌, inl, inr, ⊎_elim, ℕ, Bool, true, false, not, List, [], ◌∷◌, map, refl, sym, ap, ap₂, ◌∙◌, subst}
+use Rattle.std.proofs.Common.{◌≡◌, inl, inr, ⊎_elim, ℕ, Bool, true, false, List, [], ◌∷◌, map, refl, sym, ap, ap₂, ◌∙◌, subst}
+use Rattle.std.proofs.lemmas.Bool.{or_left, or_right, eq-eqb}
 use Rattle.signal_graph.specs.Graph.{Graph, is_in}
 use Rattle.flow_model.specs.declared.step.Step.TheVariants as steps
 use Rattle.flow_model.specs.Machine.State.{Core, opening}
 use Rattle.flow_model.specs.Machine.Words.{is_found, found_now, body_now}
 use Rattle.flow_model.specs.Machine.Steps.{allowed}
 use Rattle.flow_model.specs.Machine.Histories.{Move, after_moves, may_all, state, is_history}
-use Rattle.flow_model.proofs.General.Truths.{and_both, equal_test, or_right, or_left}
 use Rattle.flow_model.proofs.Histories.Moves.{may_parts, after_parts}
+use Rattle.flow_model.proofs.Work.WorkAtOneNode.{evaluate-not_found, body-found}
 use Rattle.flow_state.specs.declared.outcome.Outcome.TheVariants as outcome
 use Rattle.flow_state.specs.declared.outcome.Answer.{Answer}
 use Rattle.flow_state.specs.Jobs.{outcome_in}
@@ -27,16 +28,6 @@ rest_may graph callers limit k front later l =
     (may_parts graph front l.rest (opening graph callers limit) (subst (λ (ms : List Move). is_history graph callers limit ms ≡ true) (sym l.joined) l.history)).1
 
 -- ---- jobs
-
-not_found : (b : Bool) → not b ≡ true → b ≡ false
-not_found true h = absurd (cc)
-not_found false h = refl
-
-pub evaluate-not_found : (graph : Graph) (s : Core) (t n : ℕ) → allowed graph s (steps.Evaluate t n) ≡ true → is_found s n ≡ false
-evaluate-not_found graph s t n a = not_found (is_found s n) (and_both _ (not (is_found s n)) a).1
-
-pub body-is_found : (graph : Graph) (s : Core) (t n : ℕ) → allowed graph s (steps.Body t n) ≡ true → is_found s n ≡ true
-body-is_found graph s t n a = (and_both _ (is_found s n) (and_both _ _ (and_both _ _ a).0).0).1
 
 pub job-evaluate : (graph : Graph) (s : Core) (t n : ℕ) → is_found s n ≡ false → job_at graph s t n ≡ record { version = t; node = n; outcome = outcome_in (found_now graph s t n) }
 job-evaluate graph s t n is = ap (λ (b : Bool). job b) is
@@ -69,11 +60,11 @@ job-stays graph s q t n e b due = ⊎_elim
     ∙ ap (λ x. record { version = t; node = n; outcome = outcome_in x }) k.1 ∙ sym (job-evaluate graph s t n (evaluate-not_found graph s t n a)))
     (λ (a : allowed graph s (steps.Body t n) ≡ true).
     let k = b a in
-    job-body graph q t n (body-is_found graph q t n k.0)
-    ∙ ap (λ v. record { version = t; node = n; outcome = outcome.Body v }) k.1 ∙ sym (job-body graph s t n (body-is_found graph s t n a)))
+    job-body graph q t n (body-found graph q t n k.0)
+    ∙ ap (λ v. record { version = t; node = n; outcome = outcome.Body v }) k.1 ∙ sym (job-body graph s t n (body-found graph s t n a)))
     due
 
 pub maps-same : (f g : ℕ → Answer) (nodes : List ℕ) → ((n : ℕ) → is_in n nodes ≡ true → f n ≡ g n) → map f nodes ≡ map g nodes
 maps-same f g [] h = refl
 maps-same f g (x ∷ xs) h =
-    ap₂ (λ (j : Answer) (js : List Answer). j ∷ js) (h x (or_left _ _ (equal_test x x refl))) (maps-same f g xs (λ n i. h n (or_right _ _ i)))
+    ap₂ (λ (j : Answer) (js : List Answer). j ∷ js) (h x (or_left _ _ (eq-eqb x x refl))) (maps-same f g xs (λ n i. h n (or_right _ _ i)))

@@ -1,5 +1,5 @@
 -- A caller without a live call.
-use Rattle.std.proofs.Common.{◌≡◌, ◌<◌, ◌≤◌, ◌∙◌, ◌==◌, ℕ, Bool, true, false, not, ◌||◌, ◌&&◌, nat_le, nat_lt, List, [], ◌∷◌, length, Option, Some, None, is_some, is_none, refl, sym, ap, arith}
+use Rattle.std.proofs.Common.{◌≡◌, ◌<◌, ◌≤◌, ◌∙◌, ◌==◌, ℕ, Bool, true, false, not, ◌&&◌, nat_le, nat_lt, List, [], ◌∷◌, length, Option, Some, None, is_some, is_none, refl, sym, ap, arith}
 use Rattle.std.proofs.lemmas.Bool.{le-leb, lt-ltb}
 use Rattle.script_tree.specs.declared.limits.TheConstants.{SETS, LOOKS}
 use Rattle.signal_graph.specs.declared.call.Call.{Call}
@@ -14,10 +14,7 @@ use Rattle.node_versions.specs.Entries.{Versions}
 use Rattle.flow_state.specs.Booked.{Booked}
 use Rattle.interleave_core.specs.Whole.{Whole, whole_of}
 use Rattle.interleave_core.specs.Beginning.{is_free, refused_in, AllCanBegin}
-
-or_some : (b : Bool) (x : ℕ) (rest : Option ℕ) (any : Bool) → is_some rest ≡ any → is_some (elim b [ true ↦ Some x | false ↦ rest ]) ≡ (b || any)
-or_some true x rest any h = refl
-or_some false x rest any h = h
+use Rattle.retrofit.proofs.Helps.{or_some}
 
 pub version-some : (caller : ℕ) (cs : List LiveCall) → is_some (version_of caller cs) ≡ has_call caller cs
 version-some caller [] = refl

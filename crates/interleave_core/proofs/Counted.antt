@@ -2,7 +2,7 @@
 use Rattle.std.proofs.Common.{◌≡◌, ℕ, zero, suc, ◌+◌, ◌<◌, Bool, true, false, not, ◌&&◌, ◌||◌, ◌==◌, List, [], ◌∷◌, ◌++◌, length, map, filter, take, replicate, get_or, refl, sym, ap, ◌∙◌, subst, arith}
 use Rattle.std.specs.List.{range_with_len, AllByRecursion}
 use Rattle.std.proofs.Math.Seq.{take-suc}
-use Rattle.std.proofs.lemmas.List.{ext_get_or}
+use Rattle.std.proofs.lemmas.List.{ext_get_or, map-id}
 use Rattle.std.proofs.lemmas.List.Folds.{list_any-append}
 use Rattle.std.proofs.lemmas.List.FromFn.{length-map-range_with_len, get_or-map-range_with_len, map-range_with_len_more}
 use Rattle.std.proofs.lemmas.List.Elements.{filter-append}
@@ -10,27 +10,21 @@ use Rattle.std.proofs.lemmas.Bool.Decides.{eqb_tells}
 use Rattle.signal_graph.specs.declared.node.Node.{Node}
 use Rattle.signal_graph.specs.declared.node.Node.TheVariants.{Source, Signal, Fold, Choose}
 use Rattle.signal_graph.specs.declared.node.Selector.{Selector}
-use Rattle.signal_graph.specs.Graph.{Graph, node_at, numbers, numbers_from, selectors_of, is_in, IsNode, IsSelector}
+use Rattle.signal_graph.specs.Graph.{Graph, node_at, numbers, selectors_of, is_in, IsNode, IsSelector}
+use Rattle.signal_graph.proofs.Members.{numbers_range}
 use Rattle.flow_model.specs.Kept.Lawful.{lists_candidate}
 use Rattle.flow_state.specs.Fitting.{choosers}
-use Rattle.interleave_core.specs.Choosers.{number_at, one_if, IsUpTo, Tells}
+use Rattle.flow_state.specs.Seats.{one_if, count_at}
+use Rattle.interleave_core.specs.Choosers.{IsUpTo, Tells}
 
 -- ---- ranges
-
-pub numbers_range : (n : ℕ) (nodes : List Node) → numbers_from n nodes ≡ range_with_len n (length nodes)
-numbers_range n [] = refl
-numbers_range n (x ∷ xs) = ap (λ ys. n ∷ ys) (numbers_range (n + 1) xs)
 
 pub numbers_are : (graph : Graph) → numbers graph ≡ range_with_len 0 (length graph.nodes)
 numbers_are graph = numbers_range 0 graph.nodes
 
-map_same : (ns : List ℕ) → map (λ (n : ℕ). n) ns ≡ ns
-map_same [] = refl
-map_same (n ∷ ns) = ap (λ ms. n ∷ ms) (map_same ns)
-
 pub range_more : (n : ℕ) → range_with_len 0 (n + 1) ≡ range_with_len 0 n ++ n ∷ []
-range_more n = sym (map_same (range_with_len 0 (n + 1))) ∙ map-range_with_len_more (λ (k : ℕ). k) 0 n n (omega arith)
-    ∙ ap (λ (ms : List ℕ). ms ++ n ∷ []) (map_same (range_with_len 0 n))
+range_more n = sym (map-id (range_with_len 0 (n + 1))) ∙ map-range_with_len_more (λ (k : ℕ). k) 0 n n (omega arith)
+    ∙ ap (λ (ms : List ℕ). ms ++ n ∷ []) (map-id (range_with_len 0 n))
 
 pub length-append : {X : Type 0} (xs ys : List X) → length (xs ++ ys) ≡ length xs + length ys
 length-append [] ys = omega arith
@@ -57,9 +51,9 @@ lists graph m n = lists_candidate m (selectors_of (node_at graph n))
 pub record IsCounted (graph : Graph) (n : ℕ) (counts marks : List ℕ) : Type 0 where
   pub counts_size : length counts ≡ length graph.nodes
   pub marks_size : length marks ≡ length graph.nodes
-  pub counted : (m : ℕ) → m < length graph.nodes → number_at counts m ≡ length (passing (lists graph m) n)
+  pub counted : (m : ℕ) → m < length graph.nodes → count_at counts m ≡ length (passing (lists graph m) n)
 
-zeros_at : (n m : ℕ) → number_at (replicate n 0) m ≡ 0
+zeros_at : (n m : ℕ) → count_at (replicate n 0) m ≡ 0
 zeros_at zero m = refl
 zeros_at (suc n) zero = refl
 zeros_at (suc n) (suc m) = zeros_at n m
@@ -72,13 +66,13 @@ pub counting_begins : (graph : Graph) (counts marks : List ℕ) → counts ≡ r
     → marks ≡ replicate (length graph.nodes) 0 → IsUpTo 0 counts marks × IsCounted graph 0 counts marks
 counting_begins graph counts marks c m = (
   record {
-    within = λ k. let e = ap (λ ns. number_at ns k) m ∙ zeros_at (length graph.nodes) k in omega (arith, e);
-    counted = λ k. let e = ap (λ ns. number_at ns k) c ∙ zeros_at (length graph.nodes) k in omega (arith, e);
+    within = λ k. let e = ap (λ ns. count_at ns k) m ∙ zeros_at (length graph.nodes) k in omega (arith, e);
+    counted = λ k. let e = ap (λ ns. count_at ns k) c ∙ zeros_at (length graph.nodes) k in omega (arith, e);
   },
   record {
     counts_size = ap length c ∙ length-zeros (length graph.nodes);
     marks_size = ap length m ∙ length-zeros (length graph.nodes);
-    counted = λ k h. ap (λ ns. number_at ns k) c ∙ zeros_at (length graph.nodes) k;
+    counted = λ k h. ap (λ ns. count_at ns k) c ∙ zeros_at (length graph.nodes) k;
   },
 )
 
@@ -88,7 +82,7 @@ counting_more graph n a b c d u so t = record {
   counts_size = t.counts_size ∙ so.counts_size;
   marks_size = t.marks_size ∙ so.marks_size;
   counted = λ m h.
-      let new : one_if (lists graph m n && not (number_at b m == n + 1)) ≡ one_if (lists graph m n) = ap (λ (x : Bool). one_if (lists graph m n && not x)) (unmarked m) ∙ ap one_if (and_true (lists graph m n)) in
+      let new : one_if (lists graph m n && not (count_at b m == n + 1)) ≡ one_if (lists graph m n) = ap (λ (x : Bool). one_if (lists graph m n && not x)) (unmarked m) ∙ ap one_if (and_true (lists graph m n)) in
       let was = so.counted m h in
       let more = ap length (passing_more (lists graph m) n) ∙ length-append (passing (lists graph m) n) _ in
       let one = one_more (lists graph m n) n in
@@ -96,7 +90,7 @@ counting_more graph n a b c d u so t = record {
       omega (arith, new, was, more, one, told);
 }
   where
-    unmarked : (m : ℕ) → (number_at b m == n + 1) ≡ false
+    unmarked : (m : ℕ) → (count_at b m == n + 1) ≡ false
     unmarked m = let h = u.within m in grind (arith, eqb_tells, h)
 
     and_true : (x : Bool) → (x && not false) ≡ x

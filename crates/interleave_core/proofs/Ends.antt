@@ -2,7 +2,7 @@
 use Rattle.std.proofs.Common.{◌≡◌, ℕ, zero, suc, ◌+◌, ◌<◌, ◌⊎◌, inl, inr, Bool, true, false, ◌==◌, List, [], ◌∷◌, Option, Some, None, length, map, get_or, refl, sym, ap, ◌∙◌, subst, arith}
 use Rattle.std.specs.Prelude.{slice_get}
 use Rattle.std.specs.Option.{IsSome, option_or}
-use Rattle.std.proofs.lemmas.Bool.{true≢false, false≢true}
+use Rattle.std.proofs.lemmas.Bool.{true≢false, false≢true, or_left, or_right, eqb-true, eq-eqb, cases_Bool}
 use Rattle.std.proofs.lemmas.List.{get_or_default}
 use Rattle.std.proofs.lemmas.Option.{get_or_from_slice_get}
 use Rattle.script_tree.specs.declared.value.Value.{Value}
@@ -12,7 +12,6 @@ use Rattle.node_versions.specs.Entries.{Versions, IsUnique, has, at, is_done, la
 use Rattle.flow_model.specs.Machine.State.{Core, Cell, entries}
 use Rattle.flow_model.specs.Machine.Histories.{last_values}
 use Rattle.flow_model.specs.Parts.Books.{Work}
-use Rattle.flow_model.proofs.General.Truths.{true_or_false, same_number, equal_test, or_left, or_right}
 use Rattle.flow_state.specs.Booked.{Booked}
 use Rattle.flow_state.specs.Fitting.{list_of}
 use Rattle.interleave_core.specs.Whole.{cells_of, state_of, IsWhole}
@@ -27,7 +26,7 @@ pub record IsLast (es : List Entry) (v : ℕ) : Type 0 where
   pub all : up_to es v ≡ es
 
 only_one : (x : Entry) → IsLast (x ∷ []) x.version
-only_one x = let t = equal_test x.version x.version refl in record {
+only_one x = let t = eq-eqb x.version x.version refl in record {
   has_entry = or_left _ _ t;
   all = ap (λ (b : Bool). elim b as (λ _. List Entry) [ true ↦ x ∷ [] | false ↦ x ∷ [] ]) t;
 }
@@ -36,10 +35,10 @@ pub last_is : (es : List Entry) (i : ℕ) (e : Entry) → IsUnique es → i + 1 
 last_is [] i e u h got = absurd (omega (arith, h))
 last_is (x ∷ []) zero e u h got = subst (λ (y : Entry). IsLast (x ∷ []) y.version) (get_or_from_slice_get (x ∷ []) 0 e e got) (only_one x)
 last_is (x ∷ y ∷ es) zero e u h got = absurd (omega (arith, h))
-last_is (x ∷ xs) (suc i) e u h got = go (true_or_false (x.version == e.version)) (last_is xs i e u.1 (omega (arith, h)) got)
+last_is (x ∷ xs) (suc i) e u h got = go (cases_Bool (x.version == e.version)) (last_is xs i e u.1 (omega (arith, h)) got)
   where
     go : ((x.version == e.version) ≡ true) ⊎ ((x.version == e.version) ≡ false) → IsLast xs e.version → IsLast (x ∷ xs) e.version
-    go (inl t) r = absurd (true≢false (sym r.has_entry ∙ subst (λ (v : ℕ). has xs v ≡ false) (same_number x.version e.version t) u.0))
+    go (inl t) r = absurd (true≢false (sym r.has_entry ∙ subst (λ (v : ℕ). has xs v ≡ false) (eqb-true x.version e.version t) u.0))
     go (inr f) r = record {
       has_entry = or_right _ _ r.has_entry;
       all = ap (λ (b : Bool). elim b as (λ _. List Entry) [ true ↦ x ∷ [] | false ↦ x ∷ up_to xs e.version ]) f

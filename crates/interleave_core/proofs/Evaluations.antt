@@ -1,47 +1,48 @@
 -- What evaluations need, and that their answers are right.
-use Rattle.std.proofs.Common.{◌≡◌, ℕ, zero, suc, ◌+◌, ◌<◌, ◌≤◌, true, false, inl, inr, List, [], ◌∷◌, length, map, get_or, Option, Some, None, Result, Ok, Err, is_some, refl, sym, ap, ◌∙◌, subst, arith}
+use Rattle.std.proofs.Common.{◌≡◌, ℕ, zero, suc, ◌+◌, ◌<◌, ◌≤◌, true, false, inl, inr, List, [], ◌∷◌, length, map, Option, Some, None, is_some, refl, sym, ap, ◌∙◌, subst, arith}
 use Rattle.std.specs.Prelude.{slice_index_or}
 use Rattle.std.specs.List.{AllByRecursion}
 use Rattle.std.specs.Option.{IsSome}
 use Rattle.std.proofs.lemmas.List.{length-map}
 use Rattle.script_tree.specs.declared.limits.TheConstants.{INPUTS, SELECTORS}
-use Rattle.script_tree.specs.declared.value.Fault.{Fault}
 use Rattle.script_tree.specs.declared.value.Fault.TheVariants.{Kind}
 use Rattle.script_tree.specs.declared.value.Value.{Value}
 use Rattle.script_tree.specs.declared.value.Value.TheVariants.{Fault as Faulty}
 use Rattle.script_tree.specs.Scripts.{Scripted, IsBody}
+use Rattle.script_tree.proofs.Truths.{and_left}
 use Rattle.signal_graph.specs.declared.node.Node.{Node}
 use Rattle.signal_graph.specs.declared.node.Node.TheVariants.{Source, Signal, Fold, Choose}
 use Rattle.signal_graph.specs.declared.node.NodeKind.TheVariants as kinds
 use Rattle.signal_graph.specs.declared.node.Selector.{Selector}
-use Rattle.signal_graph.specs.Graph.{Graph, IsGraph, IsNode, IsSelector, Kept, Resolves, node_at, inputs_of, body_of, kind_of}
+use Rattle.signal_graph.specs.Graph.{Graph, IsGraph, IsNode, IsSelector, node_at, inputs_of, body_of, kind_of}
 use Rattle.signal_graph.specs.Evaluation.{CanEvaluate}
 use Rattle.signal_graph.proofs.GraphNodes.{all_can_evaluate, node_is}
+use Rattle.signal_graph.proofs.ScriptNames.{few_names}
 use Rattle.node_versions.specs.Entries.{Versions, has, before, last_done, value_before}
 use Rattle.flow_model.specs.declared.step.Step.TheVariants as step
 use Rattle.flow_model.specs.Machine.Keys.{list_of_step}
 use Rattle.flow_model.specs.Machine.State as state
-use Rattle.flow_model.specs.Machine.State.{Core, Cell, no_cell, cell, entries}
-use Rattle.flow_model.specs.Machine.Words.{at_front, finds, found_now, body_over, value_gathered, selections_of}
+use Rattle.flow_model.specs.Machine.State.{Core, no_cell, cell, entries}
+use Rattle.flow_model.specs.Machine.Words.{at_front, finds, body_over, value_gathered, selections_of}
 use Rattle.flow_model.specs.Machine.Steps.{allowed}
 use Rattle.flow_model.specs.Kept.Lawful.{IsLawful}
 use Rattle.flow_model.specs.Parts.Books.{Work, work_in, no_work}
-use Rattle.flow_model.proofs.OneStep.WhoMayStep.{and_left, at_front-heads, executes-live, evaluate-at_front, body-at_front}
+use Rattle.flow_model.proofs.OneStep.WhoMayStep.{at_front-heads, executes-live, evaluate-at_front, body-at_front}
 use Rattle.flow_model.proofs.Histories.FoundUntilDone.{heads-entry}
 use Rattle.flow_model.proofs.Work.WorkAtOneNode.{evaluate-not_found, body-found}
 use Rattle.flow_model.proofs.Known.Bounds.{has-bounds}
 use Rattle.flow_model.proofs.Known.ListsAnswer.{lists-answer}
-use Rattle.flow_state.specs.Booked.{Booked, work_at}
-use Rattle.flow_state.specs.declared.outcome.Answer.{Answer}
+use Rattle.flow_model.proofs.Lengths.WorthFalls.{head-there}
+use Rattle.flow_state.specs.Booked.{Booked}
 use Rattle.flow_state.specs.declared.outcome.Outcome.{Outcome}
 use Rattle.flow_state.specs.declared.outcome.Outcome.TheVariants as outcome
 use Rattle.flow_state.specs.Answers.{step_for, step_of, IsOutcome, IsRight}
 use Rattle.flow_state.specs.Found.{selection_of}
-use Rattle.flow_state.specs.Jobs.{read_from, found_as, outcome_in, items_of, found_items, outcome_of, answer_of, HasFew, FitsBody, IsJob}
+use Rattle.flow_state.specs.Jobs.{read_from, found_as, outcome_in, items_of, found_items, outcome_of, answer_of, HasFew, FitsBody, IsJob, answer_in}
+use Rattle.flow_state.proofs.Outcomes.{selections-back, outcome-right}
 use Rattle.interleave_core.specs.Whole.{Whole, cells_of, state_of, whole_of, IsWhole, IsDue}
 use Rattle.interleave_core.proofs.Fits.{all_nodes}
 use Rattle.interleave_core.proofs.StepsMade.{CanMake, can_here}
-use Rattle.interleave_core.proofs.NodesRead.{front-there}
 
 -- ---- where a call evaluates
 
@@ -50,7 +51,7 @@ due-front graph s t n (inl a) = evaluate-at_front graph s t n a
 due-front graph s t n (inr a) = body-at_front graph s t n a
 
 pub due-there : (graph : Graph) (s : Core) → IsLawful graph s → (t n : ℕ) → IsDue graph s t n → n < length graph.nodes
-due-there graph s h t n a = front-there graph s h t n (due-front graph s t n a)
+due-there graph s h t n a = head-there graph s h t n (due-front graph s t n a)
 
 pub due-entry : (graph : Graph) (s : Core) → IsLawful graph s → (t n : ℕ) → IsDue graph s t n → has (entries s n) t ≡ true
 due-entry graph s h t n a = heads-entry graph s h t n (at_front-heads graph s t n (due-front graph s t n a))
@@ -70,25 +71,21 @@ work-there (w ∷ ws) [] n h = absurd (omega (arith, h))
 work-there (w ∷ ws) (l ∷ ls) zero h = refl
 work-there (w ∷ ws) (l ∷ ls) (suc n) h = work-there ws ls n (omega (arith, h))
 
-few-names : (names : List (List ℕ)) (script : Scripted) (inputs : List ℕ) → Resolves names script inputs → Kept script
-    → length inputs ≤ INPUTS
-few-names names script inputs r k = omega (arith, k.few, length-map inputs (λ n. get_or names n []), ap length r)
-
 few-each : (names : List (List ℕ)) (n : ℕ) (selectors : List Selector) → AllByRecursion (IsSelector names n) selectors
     → AllByRecursion (λ (x : Selector). length x.inputs ≤ INPUTS) selectors
 few-each names n [] h = tt
-few-each names n (x ∷ xs) h = (few-names names x.script x.inputs h.0.resolves h.0.kept, few-each names n xs h.1)
+few-each names n (x ∷ xs) h = (few_names names x.script x.inputs h.0.resolves h.0.kept, few-each names n xs h.1)
 
 has-few : (names : List (List ℕ)) (n : ℕ) (node : Node) → IsNode names n node → HasFew node
 has-few names n (Source start) h = tt
-has-few names n (Signal script inputs) h = few-names names script inputs h.2 h.4
-has-few names n (Fold start script inputs) h = few-names names script inputs h.2 h.4
+has-few names n (Signal script inputs) h = few_names names script inputs h.2 h.4
+has-few names n (Fold start script inputs) h = few_names names script inputs h.2 h.4
 has-few names n (Choose selectors body inputs) h = few-each names n selectors h.2
 
 few-inputs : (node : Node) (names : List (List ℕ)) (n : ℕ) → IsNode names n node → length (inputs_of node) ≤ INPUTS
 few-inputs (Source start) names n h = omega arith
-few-inputs (Signal script inputs) names n h = few-names names script inputs h.2 h.4
-few-inputs (Fold start script inputs) names n h = few-names names script inputs h.2 h.4
+few-inputs (Signal script inputs) names n h = few_names names script inputs h.2 h.4
+few-inputs (Fold start script inputs) names n h = few_names names script inputs h.2 h.4
 few-inputs (Choose selectors body inputs) names n h = h.5
 
 fits-nothing : (body : Option Scripted) → FitsBody body None
@@ -141,18 +138,9 @@ due-few graph g s h t n a =
 
 -- ---- its answer
 
-selections-back : (rs : List (Result ℕ Fault)) → map selection_of (map found_as rs) ≡ rs
-selections-back [] = refl
-selections-back (Ok c ∷ rs) = ap (λ xs. Ok c ∷ xs) (selections-back rs)
-selections-back (Err f ∷ rs) = ap (λ xs. Err f ∷ xs) (selections-back rs)
-
 items-back : (f : state.Found) → map selection_of (items_of f) ≡ selections_of (Some f)
 items-back (state.Gives v) = refl
 items-back (state.Selects rs) = selections-back rs
-
-outcome-right : (graph : Graph) (s : Core) (t n : ℕ) (x : state.Found) → found_now graph s t n ≡ x → IsOutcome graph s t n (outcome_in x)
-outcome-right graph s t n (state.Gives v) e = e
-outcome-right graph s t n (state.Selects rs) e = e ∙ ap state.Selects (sym (selections-back rs))
 
 -- Only a fold reads its value before the call.
 finds-same : (node : Node) (read : ℕ → Value) (acc before : Value) → (kind_of node ≡ kinds.Fold → acc ≡ before)
@@ -219,23 +207,19 @@ due_below {graph} {book} {lists} t n kept due =
     let many = all_nodes graph book lists kept in
     omega (arith, node, many)
 
--- the answer of the job that a book gives
-abbrev pub booked_answer : Graph → Booked → ℕ → ℕ → Value → Answer
-booked_answer graph book t n acc = answer_of graph t n (work_at book n).gathered acc (found_items (work_at book n).found)
-
 pub same_answer : {graph : Graph} {book : Booked} {lists : List Versions} (t n : ℕ) (acc : Value) → IsWhole graph book lists
-    → booked_answer graph book t n acc
+    → answer_in graph book t n acc
     ≡ answer_of graph t n (cell (state_of book.book lists) n).gathered acc (found_items (cell (state_of book.book lists) n).found)
 same_answer {graph} {book} {lists} t n acc kept =
     ap (λ (w : Work). answer_of graph t n w.gathered acc (found_items w.found)) (work-there book.book.works lists n kept.many)
 
 pub scripts_answered : {graph : Graph} {book : Booked} {lists : List Versions} {seen : Whole} (t n : ℕ) (acc : Value)
-    → CanMake graph book lists seen (step.Evaluate t n) → step_of (booked_answer graph book t n acc) ≡ step.Evaluate t n
+    → CanMake graph book lists seen (step.Evaluate t n) → step_of (answer_in graph book t n acc) ≡ step.Evaluate t n
 scripts_answered {graph} {book} {lists} t n acc can =
     ap step_of (same_answer t n acc can.kept) ∙ answer-scripts graph (state_of book.book lists) t n acc (can_here can)
 
 pub body_answered : {graph : Graph} {book : Booked} {lists : List Versions} {seen : Whole} (t n : ℕ) (acc : Value)
-    → CanMake graph book lists seen (step.Body t n) → step_of (booked_answer graph book t n acc) ≡ step.Body t n
+    → CanMake graph book lists seen (step.Body t n) → step_of (answer_in graph book t n acc) ≡ step.Body t n
 body_answered {graph} {book} {lists} t n acc can =
     ap step_of (same_answer t n acc can.kept) ∙ answer-body graph (state_of book.book lists) t n acc (can_here can)
 
@@ -245,9 +229,9 @@ IsAcc graph s t n acc = kind_of (node_at graph n) ≡ kinds.Fold → acc ≡ val
 
 pub right_answered : {graph : Graph} {book : Booked} {lists : List Versions} {seen : Whole} (t n : ℕ) (acc : Value)
     → IsWhole graph book lists → whole_of graph book lists ≡ seen → IsAcc seen.graph seen.state t n acc
-    → IsRight seen.graph seen.state (booked_answer graph book t n acc)
+    → IsRight seen.graph seen.state (answer_in graph book t n acc)
 right_answered {graph} {book} {lists} t n acc kept view reads =
     let here = subst (λ (w : Whole). IsAcc w.graph w.state t n acc) (sym view) reads in
     let right = answer-right graph (state_of book.book lists) t n acc here in
-    subst (λ (w : Whole). IsRight w.graph w.state (booked_answer graph book t n acc)) view
+    subst (λ (w : Whole). IsRight w.graph w.state (answer_in graph book t n acc)) view
     (subst (IsRight graph (state_of book.book lists)) (sym (same_answer t n acc kept)) right)

@@ -22,10 +22,6 @@ cells-many [] (l ∷ ls) h = absurd (omega (arith, h))
 cells-many (w ∷ ws) [] h = refl
 cells-many (w ∷ ws) (l ∷ ls) h = ap suc (cells-many ws ls (omega (arith, h)))
 
-pub length-works : (cs : List Cell) → length (map work_in cs) ≡ length cs
-length-works [] = refl
-length-works (c ∷ cs) = ap suc (length-works cs)
-
 pub fits : (graph : Graph) (book : Booked) (lists : List Versions) → IsWhole graph book lists
     → IsBookOf graph (state_of book.book lists) book
 fits graph book lists kept = record {

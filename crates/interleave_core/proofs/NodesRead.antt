@@ -1,29 +1,28 @@
 -- The nodes at which steps read are nodes of the graph.
 use Rattle.std.proofs.Common.{◌≡◌, ℕ, ◌<◌, ◌==◌, true, List, ◌⊎◌, inl, inr, Some, length, ◌∙◌, arith}
 use Rattle.std.proofs.lemmas.List.Folds.{list_any-append}
+use Rattle.std.proofs.lemmas.Bool.{or_cases, or_left}
+use Rattle.script_tree.proofs.Truths.{and_left}
 use Rattle.signal_graph.specs.Graph.{Graph, IsGraph, node_at, is_in, inputs_of}
+use Rattle.signal_graph.proofs.Members.{get-in}
 use Rattle.flow_model.specs.declared.step.Step.TheVariants as step
 use Rattle.flow_model.specs.Machine.State.{Core, call}
 use Rattle.flow_model.specs.Machine.Words.{at_front, is_candidate, prior_picks, next_look}
 use Rattle.flow_model.specs.Machine.Steps.{allowed}
 use Rattle.flow_model.specs.Kept.Lawful.{IsLawful}
-use Rattle.flow_model.proofs.General.Truths.{or_cases, or_left}
-use Rattle.flow_model.proofs.OneStep.WhoMayStep.{and_left, gather-due, due-can_work, can_work-at_front, at_front-heads, executes-live, look-idle}
-use Rattle.flow_model.proofs.Wants.FramedWith.{heads-opens}
+use Rattle.flow_model.proofs.OneStep.WhoMayStep.{gather-due, due-can_work, can_work-at_front, at_front-heads, executes-live, look-idle}
 use Rattle.flow_model.proofs.Wants.EarlierNodes.{dep-earlier}
 use Rattle.flow_model.proofs.Work.WorkAtOneNode.{gather-asked}
 use Rattle.flow_model.proofs.Edges.EdgesFitCandidates.{candidate-listed}
-use Rattle.flow_model.proofs.Opening.OpeningLists.{candidate-earlier, slice_get-is_in}
-use Rattle.flow_model.proofs.Known.Bounds.{opens-node, names-nodes}
+use Rattle.flow_model.proofs.Opening.OpeningLists.{candidate-earlier}
+use Rattle.flow_model.proofs.Known.Bounds.{names-nodes}
+use Rattle.flow_model.proofs.Lengths.WorthFalls.{head-there}
 use Rattle.node_versions.specs.Entries.{Versions}
 use Rattle.flow_state.specs.Booked.{Booked}
 use Rattle.interleave_core.specs.Whole.{Whole, state_of}
 use Rattle.interleave_core.proofs.Fits.{all_nodes}
 use Rattle.interleave_core.proofs.StepsMade.{CanMake, can_here}
-
--- where a call is at the front
-pub front-there : (graph : Graph) (s : Core) → IsLawful graph s → (t n : ℕ) → at_front graph s t n ≡ true → n < length graph.nodes
-front-there graph s h t n a = opens-node graph s h t n (heads-opens graph s h t n (at_front-heads graph s t n a))
+pub use Rattle.flow_model.proofs.Lengths.WorthFalls.{head-there as front-there}
 
 -- what a call gathers
 pub input-there : (graph : Graph) → IsGraph graph → (s : Core) → IsLawful graph s → (t n m : ℕ)
@@ -34,7 +33,7 @@ input-there graph g s h t n m a = go (or_cases (is_in m (inputs_of (node_at grap
     front = can_work-at_front graph s t n (due-can_work graph s t n (gather-due graph s t n m a))
 
     inside : n < length graph.nodes
-    inside = front-there graph s h t n front
+    inside = head-there graph s h t n front
 
     go : (is_in m (inputs_of (node_at graph n)) ≡ true) ⊎ (is_candidate s n m ≡ true) → m < length graph.nodes
     go (inl k) =
@@ -51,7 +50,7 @@ pub look-there : (graph : Graph) → IsGraph graph → (s : Core) → IsLawful g
     → next_look s t ≡ Some m → m < length graph.nodes
 look-there graph g s h t m a e =
     (names-nodes graph g s h).looks t m (executes-live s t (and_left _ _ (and_left _ _ (look-idle graph s t a))))
-    (slice_get-is_in (call s t).looks (length (call s t).looked) m e)
+    (get-in (call s t).looks (length (call s t).looked) m e)
 
 -- ---- among the lists of a core
 

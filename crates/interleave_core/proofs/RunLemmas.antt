@@ -1,11 +1,10 @@
 -- Runs of a core are histories of the machine.
 use Rattle.std.proofs.Common.{◌≡◌, ℕ, suc, ◌⊎◌, inl, inr, Bool, true, false, List, [], ◌∷◌, ◌++◌, nat_lt, refl, sym, ap, ◌∙◌, arith}
-use Rattle.std.proofs.lemmas.Bool.{true≢false}
+use Rattle.std.proofs.lemmas.Bool.{true≢false, and_parts, and_from, cases_Bool}
 use Rattle.signal_graph.specs.Graph.{Graph}
 use Rattle.flow_model.specs.declared.step.Step.{Step}
 use Rattle.flow_model.specs.Machine.Steps.{can_begin, allowed}
 use Rattle.flow_model.specs.Machine.Histories.{Move, Begin, Make, may_all, after_moves, is_history}
-use Rattle.flow_model.proofs.General.Truths.{and_both, and_make, true_or_false}
 use Rattle.interleave_core.specs.Whole.{Whole, after}
 use Rattle.interleave_core.specs.Opening.{opened_core}
 use Rattle.interleave_core.specs.Rooms.{one_room_more, one_room_less, after_beginning}
@@ -23,17 +22,17 @@ may_more false c h k = h
 pub run_moves : (acts : List Act) (core : Whole) → can_all core acts ≡ true → IsAtMoves core acts
 run_moves [] core h = record { may = refl; graph = refl; state = refl }
 run_moves (MakeRoom ∷ acts) core h =
-    let r = run_moves acts (one_room_more core) (and_both true _ h).1 in
+    let r = run_moves acts (one_room_more core) (and_parts true _ h).1 in
     record { may = r.may; graph = r.graph; state = r.state }
 run_moves (GiveBack ∷ acts) core h =
-    let r = run_moves acts (one_room_less core) (and_both (nat_lt 0 core.rooms) _ h).1 in
+    let r = run_moves acts (one_room_less core) (and_parts (nat_lt 0 core.rooms) _ h).1 in
     record { may = r.may; graph = r.graph; state = r.state }
 run_moves (BeginCall caller call ∷ acts) core h =
-    let both = and_both (can core (BeginCall caller call)) _ h in
+    let both = and_parts (can core (BeginCall caller call)) _ h in
     let r = run_moves acts (after_beginning core caller call) both.1 in
-    record { may = may_more (can_begin core.graph core.state caller call) _ (and_both (can_begin core.graph core.state caller call) _ both.0).0 r.may; graph = r.graph; state = r.state }
+    record { may = may_more (can_begin core.graph core.state caller call) _ (and_parts (can_begin core.graph core.state caller call) _ both.0).0 r.may; graph = r.graph; state = r.state }
 run_moves (MakeStep step ∷ acts) core h =
-    let both = and_both (can core (MakeStep step)) _ h in
+    let both = and_parts (can core (MakeStep step)) _ h in
     let r = run_moves acts (after core step) both.1 in
     record { may = may_more (allowed core.graph core.state step) _ both.0 r.may; graph = r.graph; state = r.state }
 
@@ -46,10 +45,10 @@ moves_run [] core h = refl
 moves_run (Begin caller call ∷ moves) core h =
     let both = may_parts (can_begin core.graph core.state caller call) _ h in
     let out : nat_lt 0 (suc core.rooms) ≡ true = grind arith in
-    and_make true _ refl (and_make _ _ (and_make _ _ both.0 out) (moves_run moves (after_beginning (one_room_more core) caller call) both.1))
+    and_from true _ refl (and_from _ _ (and_from _ _ both.0 out) (moves_run moves (after_beginning (one_room_more core) caller call) both.1))
 moves_run (Make step ∷ moves) core h =
     let both = may_parts (allowed core.graph core.state step) _ h in
-    and_make _ _ both.0 (moves_run moves (after core step) both.1)
+    and_from _ _ both.0 (moves_run moves (after core step) both.1)
 
 pub same_moves : (moves : List Move) → moves_of (acts_of moves) ≡ moves
 same_moves [] = refl
@@ -71,7 +70,7 @@ step_twice first more rest step = moves-append first _ ∙ ap (λ (ms : List Mov
 -- no run has what no history has
 pub no_run : (graph : Graph) (callers limit : ℕ) (acts : List Act) (moves : List Move) → moves_of acts ≡ moves
     → is_history graph callers limit moves ≡ false → is_run graph callers limit acts ≡ false
-no_run graph callers limit acts moves e f = go (true_or_false (is_run graph callers limit acts))
+no_run graph callers limit acts moves e f = go (cases_Bool (is_run graph callers limit acts))
   where
     go : (is_run graph callers limit acts ≡ true) ⊎ (is_run graph callers limit acts ≡ false) → is_run graph callers limit acts ≡ false
     go (inl h) = absurd (true≢false (sym (run_moves acts (opened_core graph callers limit) h).may ∙ ap (is_history graph callers limit) e ∙ f))

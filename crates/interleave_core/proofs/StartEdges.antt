@@ -7,13 +7,13 @@ use Rattle.std.proofs.lemmas.List.{ext_get_or, get_or-set_same, get_or-set_other
 use Rattle.std.proofs.lemmas.List.Folds.{list_any-append}
 use Rattle.std.proofs.lemmas.List.FromFn.{length-map-range_with_len, get_or-map-range_with_len}
 use Rattle.std.proofs.lemmas.Option.{get_or_from_slice_get, slice_get-get_or, none-some}
-use Rattle.std.proofs.lemmas.Bool.Decides.{eqb_tells}
-use Rattle.std.proofs.lemmas.Bool.{true≢false, false≢true}
+use Rattle.std.proofs.lemmas.Bool.{true≢false, false≢true, or_cases, or_left, or_right, eqb-true, eq-eqb, eqb-false, cases_Bool, or_from}
 use Rattle.script_tree.specs.declared.value.Value.{Value}
+use Rattle.script_tree.proofs.Numbers.{below_differs}
 use Rattle.signal_graph.specs.Graph.{Graph, IsGraph, is_in, numbers}
 use Rattle.signal_graph.specs.Values.{nodes_in, val, picks, start}
+use Rattle.signal_graph.proofs.Members.{nodes_in-append}
 use Rattle.node_versions.specs.Entries.{Versions, OutEdge, opened, has_out, with_out, with_outs}
-use Rattle.flow_model.proofs.General.Truths.{true_or_false, same_number, other_number, equal_test, or_cases, or_left, or_right}
 use Rattle.flow_model.proofs.Opening.OpeningLists.{picks_at_start, start_picks-listed, candidate-earlier}
 use Rattle.flow_state.specs.Fitting.{choosers}
 use Rattle.step_rules.specs.Sights.{no_versions, list_at}
@@ -26,15 +26,15 @@ pub gains_one : (n c : ℕ) (ls : List Versions) (was new : Versions) → c < le
     → new ≡ with_outs was (with_out was.outs n 0) → GainsEdges n (λ m. c == m) ls (set ls c new)
 gains_one n c ls was new h is made = record {
   size = length-set ls c new;
-  each = λ m below. go m below (true_or_false (c == m));
+  each = λ m below. go m below (cases_Bool (c == m));
 }
   where
     here : new ≡ gained n true (list_at ls c)
     here = made ∙ ap (gained n true) (is ∙ get_or_default ls c was no_versions h)
 
     go : (m : ℕ) → m < length ls → ((c == m) ≡ true) ⊎ ((c == m) ≡ false) → list_at (set ls c new) m ≡ gained n (c == m) (list_at ls m)
-    go m below (inl e) = rw e (subst (λ (k : ℕ). get_or (set ls c new) k no_versions ≡ gained n true (list_at ls k)) (same_number c m e) (get_or-set_same ls c new no_versions h ∙ here))
-    go m below (inr e) = rw e (get_or-set_other ls c m new no_versions (λ same. other_number c m e (sym same)))
+    go m below (inl e) = rw e (subst (λ (k : ℕ). get_or (set ls c new) k no_versions ≡ gained n true (list_at ls k)) (eqb-true c m e) (get_or-set_same ls c new no_versions h ∙ here))
+    go m below (inr e) = rw e (get_or-set_other ls c m new no_versions (λ same. eqb-false c m e (sym same)))
 
 pub gains_none : (n : ℕ) (test : ℕ → Bool) (ls : List Versions) → ((m : ℕ) → test m ≡ false) → GainsEdges n test ls ls
 gains_none n test ls f = record { size = refl; each = λ m h. let e = f m in rw e refl }
@@ -56,11 +56,6 @@ gains_more n p q a b c apart g k = record {
     go false false a b c f g k = k ∙ g
 
 -- ---- picks, one after the other
-
-nodes_in-append : (ps qs : List (Option ℕ)) → nodes_in (ps ++ qs) ≡ nodes_in ps ++ nodes_in qs
-nodes_in-append [] qs = refl
-nodes_in-append (None ∷ ps) qs = nodes_in-append ps qs
-nodes_in-append (Some c ∷ ps) qs = ap (λ (ns : List ℕ). c ∷ ns) (nodes_in-append ps qs)
 
 pub pick_taken : (ps : List (Option ℕ)) (i : ℕ) (p : Option ℕ) (m : ℕ) → i < length ps → slice_get ps i ≡ Some p
     → is_in m (nodes_in (take (i + 1) ps)) ≡ (is_in m (nodes_in (take i ps)) || is_at (Some p) m)
@@ -114,11 +109,11 @@ new_none n ps i ls e = gains_none n (is_new_pick ps i) ls (λ m. ap (λ (o : Opt
 
 new_is : (ps : List (Option ℕ)) (i c m : ℕ) → slice_get ps i ≡ Some (Some c)
     → is_new_pick ps i m ≡ ((c == m) && not (is_in c (nodes_in (take i ps))))
-new_is ps i c m e = ap (λ (o : Option (Option ℕ)). is_at o m && not (is_in m (nodes_in (take i ps)))) e ∙ go (true_or_false (c == m))
+new_is ps i c m e = ap (λ (o : Option (Option ℕ)). is_at o m && not (is_in m (nodes_in (take i ps)))) e ∙ go (cases_Bool (c == m))
   where
     go : ((c == m) ≡ true) ⊎ ((c == m) ≡ false)
         → ((c == m) && not (is_in m (nodes_in (take i ps)))) ≡ ((c == m) && not (is_in c (nodes_in (take i ps))))
-    go (inl h) = ap (λ (k : ℕ). (c == m) && not (is_in k (nodes_in (take i ps)))) (sym (same_number c m h))
+    go (inl h) = ap (λ (k : ℕ). (c == m) && not (is_in k (nodes_in (take i ps)))) (sym (eqb-true c m h))
     go (inr h) = rw h refl
 
 pub new_again : (n : ℕ) (ps : List (Option ℕ)) (i c : ℕ) (ls : List Versions) → slice_get ps i ≡ Some (Some c)
@@ -139,7 +134,7 @@ new_first n ps i c ls new e first g = gains_by n (λ m. c == m) (is_new_pick ps 
 
 pub can_first : (n : ℕ) (ps : List (Option ℕ)) (i c : ℕ) (ls : List Versions) → slice_get ps i ≡ Some (Some c)
     → is_in c (nodes_in (take i ps)) ≡ false → CanGainNew ls n ps i → CanGain ls n c
-can_first n ps i c ls e first can = can c (new_is ps i c c e ∙ ap (λ (b : Bool). (c == c) && not b) first ∙ ap (λ (b : Bool). b && true) (equal_test c c refl))
+can_first n ps i c ls e first can = can c (new_is ps i c c e ∙ ap (λ (b : Bool). (c == c) && not b) first ∙ ap (λ (b : Bool). b && true) (eq-eqb c c refl))
 
 -- the picks up to an index gained their edges
 new_parts : (ps : List (Option ℕ)) (i m : ℕ) → is_new_pick ps i m ≡ true → is_in m (nodes_in (take i ps)) ≡ false
@@ -253,7 +248,7 @@ opened_all graph callers k ls so all = ext_get_or no_versions ls _ (so.size ∙ 
 
 filter_fewer : (p q : ℕ → Bool) (ns : List ℕ) → ((n : ℕ) → p n ≡ true → q n ≡ true) → length (filter p ns) ≤ length (filter q ns)
 filter_fewer p q [] h = omega arith
-filter_fewer p q (n ∷ ns) h = go (true_or_false (p n)) (true_or_false (q n)) (filter_fewer p q ns h)
+filter_fewer p q (n ∷ ns) h = go (cases_Bool (p n)) (cases_Bool (q n)) (filter_fewer p q ns h)
   where
     go : ((p n ≡ true) ⊎ (p n ≡ false)) → ((q n ≡ true) ⊎ (q n ≡ false)) → length (filter p ns) ≤ length (filter q ns)
         → length (filter p (n ∷ ns)) ≤ length (filter q (n ∷ ns))
@@ -270,19 +265,13 @@ passing_grows test a (suc d) =
     let more = ap length (passing_more test (a + d)) ∙ length-append (passing test (a + d)) _ in
     subst (λ (k : ℕ). length (passing test a) ≤ length (passing test k)) z (omega (arith, r, more))
 
-not_equal : (a k : ℕ) → a < k → (a == k) ≡ false
-not_equal a k h = grind (arith, eqb_tells, h)
-
-or_neither : (x y : Bool) → x ≡ false → y ≡ false → (x || y) ≡ false
-or_neither x y e f = ap (λ (b : Bool). b || y) e ∙ f
-
 no_later : (test : ℕ → Bool) (a len k : ℕ) → a + len ≤ k → has_out (map (λ n. (n, 0)) (filter test (range_with_len a len))) k 0 ≡ false
 no_later test a zero k h = refl
-no_later test a (suc len) k h = go (true_or_false (test a)) (no_later test (a + 1) len k (omega (arith, h)))
+no_later test a (suc len) k h = go (cases_Bool (test a)) (no_later test (a + 1) len k (omega (arith, h)))
   where
     go : ((test a ≡ true) ⊎ (test a ≡ false)) → has_out (map (λ n. (n, 0)) (filter test (range_with_len (a + 1) len))) k 0 ≡ false
         → has_out (map (λ n. (n, 0)) (filter test (range_with_len a (suc len)))) k 0 ≡ false
-    go (inl x) r = rw x (or_neither _ _ (ap (λ (b : Bool). b && (0 == 0)) (not_equal a k (omega (arith, h)))) r)
+    go (inl x) r = rw x (or_from _ _ (ap (λ (b : Bool). b && (0 == 0)) (below_differs a k (omega (arith, h)))) r)
     go (inr x) r = rw x r
 
 pub opened_can : (graph : Graph) (callers k : ℕ) (ls : List Versions) (ps : List (Option ℕ)) → IsGraph graph → k < length graph.nodes

@@ -15,8 +15,9 @@ use Rattle.flow_model.proofs.Books.StepsChangeOneListing.{changed-node, other-li
 use Rattle.flow_model.proofs.Books.StatesAreBooks.{state-whole}
 use Rattle.flow_state.specs.Booked.{Booked}
 use Rattle.flow_state.specs.Fitting.{list_of, choosers, book_after}
+use Rattle.flow_state.proofs.Fits.{length-works}
 use Rattle.interleave_core.specs.Whole.{Whole, after, cells_of, state_of, whole_of, HaveRooms, IsWhole}
-use Rattle.interleave_core.proofs.Fits.{works-back, cells-many, length-works, all_nodes}
+use Rattle.interleave_core.proofs.Fits.{works-back, cells-many, all_nodes}
 
 -- The law that each allowed step keeps states lawful.
 abbrev pub StaysLawful : Type 0

@@ -4,6 +4,7 @@ use Rattle.std.specs.Prelude.{slice_index_or, All}
 use Rattle.std.specs.List.{AllByRecursion, list_all}
 use Rattle.std.proofs.lemmas.List.{drop_more, get_or_default}
 use Rattle.std.proofs.lemmas.Grind.{common_steps}
+use Rattle.std.proofs.lemmas.Bool.{eqb-true, eq-eqb, both_ways, cases_Bool}
 use Rattle.signal_graph.specs.declared.log.Refused.{Refused}
 use Rattle.script_tree.specs.declared.limits.TheConstants.{THREADS}
 use Rattle.signal_graph.specs.declared.call.Call.{Call}
@@ -12,7 +13,6 @@ use Rattle.flow_model.specs.Machine.Lists.{change_at, is_empty}
 use Rattle.flow_model.specs.Machine.State.{Core, opening}
 use Rattle.flow_model.specs.Machine.Schedules.{Thread, Play, no_thread, thread, take_turn, is_over, at_start, all_refused}
 use Rattle.flow_model.specs.Follows.Callers.{IsWithin, AreWithin}
-use Rattle.flow_model.proofs.General.Truths.{same_number, equal_test, is_not_true, true_or_false}
 use Rattle.call_log.specs.Made.{script_of}
 use Rattle.serial_machine.proofs.Moving.{all_rest}
 use Rattle.interleave_core.specs.Opening.{opened_core}
@@ -58,7 +58,7 @@ pub callers-after : (i : ℕ) (s q : Core) (xs : List Caller) (y : Caller) → A
 callers-after i s q xs y h l mine others = record {
   many = set-length i y xs ∙ h.many ∙ sym others.callers;
   few = (let f = h.few in let e = set-length i y xs in omega (arith, f, e));
-  each = λ j m. go j (omega (arith, m, set-length i y xs)) (true_or_false (j == i));
+  each = λ j m. go j (omega (arith, m, set-length i y xs)) (cases_Bool (j == i));
 }
   where
     next : (n : ℕ) → n + 1 ≡ suc n
@@ -68,10 +68,10 @@ callers-after i s q xs y h l mine others = record {
     apart j ne e = ne (omega (arith, e))
 
     go : (j : ℕ) → j < length xs → ((j == i) ≡ true) ⊎ ((j == i) ≡ false) → IsCaller (suc j) q (caller_at (set xs i y) j)
-    go j m (inl e) = subst (λ (n : ℕ). IsCaller (suc n) q (caller_at (set xs i y) n)) (sym (same_number j i e))
+    go j m (inl e) = subst (λ (n : ℕ). IsCaller (suc n) q (caller_at (set xs i y) n)) (sym (eqb-true j i e))
         (subst (λ (x : Caller). IsCaller (suc i) q x) (sym (set-same i y xs l)) (subst (λ (n : ℕ). IsCaller n q y) (next i) mine))
     go j m (inr e) =
-        let ne : j ≡ i → ⊥ = λ p. is_not_true _ e (equal_test j i p) in
+        let ne : j ≡ i → ⊥ = λ p. both_ways _ e (eq-eqb j i p) in
         let old = h.each j m in
         subst (λ (x : Caller). IsCaller (suc j) q x) (sym (set-other i j y xs ne))
         (record { live = old.live ∙ sym (others.live (suc j) (apart j ne)); within = old.within })

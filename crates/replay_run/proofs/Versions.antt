@@ -2,6 +2,7 @@
 use Rattle.std.proofs.Common.{◌≡◌, ℕ, suc, Bool, true, false, ◌==◌, ◌⊎◌, inl, inr, refl, sym, ap, arith, List, [], ◌∷◌, ◌++◌, length, length-append, true≢false, ◌∙◌, Option, Some, None}
 use Rattle.std.specs.Prelude.{is_some}
 use Rattle.std.proofs.lemmas.Bool.Decides.{eqb_tells}
+use Rattle.std.proofs.lemmas.Bool.{eqb-true, eq-eqb, false_from_ne_true, both_ways, cases_Bool}
 use Rattle.signal_graph.specs.declared.call.Call.{Call}
 use Rattle.signal_graph.specs.declared.log.Logged.{Logged}
 use Rattle.signal_graph.specs.Graph.{Graph}
@@ -12,7 +13,6 @@ use Rattle.flow_model.specs.Machine.Steps.{allowed, apply, begin, new_call, with
 use Rattle.flow_model.specs.Machine.Next.{lesser}
 use Rattle.flow_model.specs.Machine.Schedules.{version_of}
 use Rattle.flow_model.specs.Kept.Lawful.{IsLawful}
-use Rattle.flow_model.proofs.General.Truths.{same_number, equal_test, not_true, is_not_true, true_or_false}
 use Rattle.flow_model.proofs.General.AnyAndAll.{some-same}
 use Rattle.flow_model.proofs.OneList.CallsAndCells.{without_call-other, without_call-same}
 use Rattle.flow_model.proofs.OneStep.BegunCalls.{calls-distinct, reads-in}
@@ -90,14 +90,14 @@ owner : (graph : Graph) (s : Core) → IsLawful graph s → (u k : ℕ) → live
 owner graph s h u k l e = go (version_of k s.calls) refl
   where
     go : (o : Option ℕ) → version_of k s.calls ≡ o → version_of k s.calls ≡ Some u
-    go None f = absurd (is_not_true _ (least-none (λ c. c.caller == k) s.calls f) (reads-in (λ c. c.caller == k) s.calls u l (equal_test _ _ e)))
+    go None f = absurd (both_ways _ (least-none (λ c. c.caller == k) s.calls f) (reads-in (λ c. c.caller == k) s.calls u l (eq-eqb _ _ e)))
     go (Some v) f =
         let x = least-passes (λ c. c.caller == k) s.calls v (calls-distinct s h.versions_are_fresh) f in
-        f ∙ ap (λ (n : ℕ). Some n) (h.room_is_kept.callers_apart v u x.known l (same_number (call s v).caller k x.passes ∙ sym e))
+        f ∙ ap (λ (n : ℕ). Some n) (h.room_is_kept.callers_apart v u x.known l (eqb-true (call s v).caller k x.passes ∙ sym e))
 
 -- whose the call of a version is
 pub owned : (graph : Graph) (s : Core) → IsLawful graph s → (u k : ℕ) → version_of k s.calls ≡ Some u → (live s u ≡ true) × ((call s u).caller ≡ k)
-owned graph s h u k f = let x = least-passes (λ c. c.caller == k) s.calls u (calls-distinct s h.versions_are_fresh) f in (x.known, same_number (call s u).caller k x.passes)
+owned graph s h u k f = let x = least-passes (λ c. c.caller == k) s.calls u (calls-distinct s h.versions_are_fresh) f in (x.known, eqb-true (call s u).caller k x.passes)
 
 end-reads : (graph : Graph) (s : Core) (t u : ℕ) → (u ≡ t → ⊥) → call_of (apply graph s (steps.End t)).calls u ≡ call_of s.calls u
 end-reads graph s t u ne = without_call-other t u s.calls ne
@@ -112,12 +112,12 @@ end-version graph s t k h g f = go (version_of k q.calls) refl
 
     go : (o : Option ℕ) → version_of k q.calls ≡ o → version_of k q.calls ≡ None
     go None e = e
-    go (Some u) e = absurd (at u (owned graph q g u k e) (true_or_false (u == t)))
+    go (Some u) e = absurd (at u (owned graph q g u k e) (cases_Bool (u == t)))
       where
         at : (u : ℕ) → (live q u ≡ true) × ((call q u).caller ≡ k) → ((u == t) ≡ true) ⊎ ((u == t) ≡ false) → ⊥
-        at u x (inl same) = true≢false (sym x.0 ∙ ap (λ (n : ℕ). live q n) (same_number u t same) ∙ ap is_some (without_call-same t s.calls))
+        at u x (inl same) = true≢false (sym x.0 ∙ ap (λ (n : ℕ). live q n) (eqb-true u t same) ∙ ap is_some (without_call-same t s.calls))
         at u x (inr other) =
-            let ne : u ≡ t → ⊥ = λ p. is_not_true _ other (equal_test u t p) in
+            let ne : u ≡ t → ⊥ = λ p. both_ways _ other (eq-eqb u t p) in
             let r = end-reads graph s t u ne in
             let v = owner graph s h u k (sym (ap is_some r) ∙ x.0) (sym (ap (λ (o : Option LiveCall). (call_or o).caller) r) ∙ x.1) in
             ne (some-same u t (sym v ∙ f))
@@ -163,7 +163,7 @@ more-other k (x ∷ xs) c e = let r = more-other k xs c e in go (x.caller == k) 
     go false r = r
 
 pub begin-version : (graph : Graph) (s : Core) (k : ℕ) (c : Call) → version_of k s.calls ≡ None → version_of k (begin graph s k c).calls ≡ Some (suc s.begun)
-begin-version graph s k c none = more-same k s.calls (new_call graph s k c) none (equal_test k k refl)
+begin-version graph s k c none = more-same k s.calls (new_call graph s k c) none (eq-eqb k k refl)
 
 pub begin-others : (graph : Graph) (s : Core) (k j : ℕ) (c : Call) → (j ≡ k → ⊥) → version_of j (begin graph s k c).calls ≡ version_of j s.calls
-begin-others graph s k j c ne = more-other j s.calls (new_call graph s k c) (not_true (k == j) (λ e. ne (sym (same_number k j e))))
+begin-others graph s k j c ne = more-other j s.calls (new_call graph s k c) (false_from_ne_true (k == j) (λ e. ne (sym (eqb-true k j e))))

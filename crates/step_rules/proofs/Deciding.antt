@@ -2,24 +2,25 @@
 use Rattle.std.proofs.Common.{◌≡◌, ℕ, zero, suc, ◌<◌, ◌⊎◌, inl, inr, Bool, true, false, ◌&&◌, ◌||◌, ◌==◌, nat_lt, List, [], ◌∷◌, ◌++◌, length, Option, Some, None, refl, sym, ap, ◌∙◌, subst, arith, true≢false}
 use Rattle.std.specs.Prelude.{◌≤◌, slice_index_or}
 use Rattle.script_tree.specs.declared.limits.TheConstants.{NODES}
+use Rattle.script_tree.proofs.Truths.{and_left, and_right}
 use Rattle.flow_model.specs.Machine.Sets.{IsSet}
-use Rattle.std.proofs.lemmas.Bool.{lt-ltb}
+use Rattle.std.proofs.lemmas.Bool.{lt-ltb, or_cases, or_left, or_right, and_from, eqb-true, eq-eqb, false_from_ne_true, both_ways}
 use Rattle.std.proofs.lemmas.Bool.Decides.{nat_tests}
 use Rattle.std.proofs.lemmas.List.Folds.{list_any-append}
 use Rattle.signal_graph.specs.Graph.{Graph, IsGraph, is_in, node_at, inputs_of}
 use Rattle.signal_graph.specs.Values.{nodes_in}
+use Rattle.signal_graph.proofs.Members.{get-in}
 use Rattle.node_versions.specs.Entries.{Versions, served, picks_before, HasEndedPrefix}
 use Rattle.flow_model.specs.declared.step.Step.{Step}
 use Rattle.flow_model.specs.declared.step.Step.TheVariants as steps
 use Rattle.flow_model.specs.Machine.Keys.{version_of_step}
 use Rattle.flow_model.specs.Machine.State.{Core, Cell, call, live, ended, entries, no_cell}
-use Rattle.flow_model.specs.Machine.Words.{heads, due, is_candidate, found_candidates, found_picks, picks_of_found, next_look, prior_picks}
+use Rattle.flow_model.specs.Machine.Words.{heads, is_candidate, found_candidates, found_picks, picks_of_found, next_look, prior_picks}
 use Rattle.flow_model.specs.Machine.Steps.{allowed}
 use Rattle.flow_model.specs.Kept.Lawful.{IsLawful}
 use Rattle.flow_model.specs.Parts.Books.{Book, book_of, listing, bare, allowed_in, reads_of_step, one_of, prior_in}
-use Rattle.flow_model.proofs.General.Truths.{or_cases, or_left, or_right, same_number, equal_test, not_true, is_not_true, and_make}
-use Rattle.flow_model.proofs.OneStep.WhoMayStep.{and_left, and_right, at_front-heads, can_work-at_front, due-can_work, gather-due, evaluate-at_front, body-at_front, discover-due, drop-due}
-use Rattle.flow_model.proofs.Opening.OpeningLists.{candidate-earlier, slice_get-is_in}
+use Rattle.flow_model.proofs.OneStep.WhoMayStep.{at_front-heads, gather-due, evaluate-at_front, body-at_front, discover-due, drop-due}
+use Rattle.flow_model.proofs.Opening.OpeningLists.{candidate-earlier}
 use Rattle.flow_model.proofs.Edges.EdgesFitCandidates.{candidate-listed}
 use Rattle.flow_model.proofs.Edges.DroppedAndDiscovered.{candidate-found}
 use Rattle.flow_model.proofs.Wants.FramedWith.{heads-opens}
@@ -29,6 +30,7 @@ use Rattle.flow_model.proofs.Known.Bounds.{opens-node, names-nodes}
 use Rattle.flow_model.proofs.Known.ListsAnswer.{lists-answer}
 use Rattle.flow_model.proofs.Books.BooksAllow.{allowed-in, reads-enough, same-cell}
 use Rattle.flow_model.proofs.Books.StepsChangeOneListing.{changed-node}
+use Rattle.flow_model.proofs.Lengths.WorthFalls.{due-there}
 use Rattle.flow_state.specs.Booked.{Booked, live_in}
 use Rattle.flow_state.specs.Fitting.{IsBookOf}
 use Rattle.step_rules.specs.Rests.{AreBelow}
@@ -53,7 +55,7 @@ served-cell zero t (c ∷ cs) k = omega arith
 served-cell (suc n) t (c ∷ cs) k = let r = served-cell n t cs k in omega (arith, r)
 
 next-node : (graph : Graph) → IsGraph graph → (s : Core) → IsLawful graph s → (t m : ℕ) → live s t ≡ true → next_look s t ≡ Some m → m < length graph.nodes
-next-node graph g s h t m alive k = (names-nodes graph g s h).looks t m alive (slice_get-is_in (call s t).looks (length (call s t).looked) m k)
+next-node graph g s h t m alive k = (names-nodes graph g s h).looks t m alive (get-in (call s t).looks (length (call s t).looked) m k)
 
 bare-candidate : (s : Core) (n m : ℕ) → is_candidate s n m ≡ is_candidate (bare (book_of s)) n m
 bare-candidate s n m = ap (λ (c : Cell). is_in m (nodes_in (picks_of_found c.found))) (same-cell s n)
@@ -64,21 +66,18 @@ one-node : (graph : Graph) (n : ℕ) → n < length graph.nodes → are_nodes gr
 one-node graph n h = ap (λ (b : Bool). b && true) (lt-ltb n (length graph.nodes) h)
 
 two-nodes : (graph : Graph) (n m : ℕ) → n < length graph.nodes → m < length graph.nodes → are_nodes graph (n ∷ m ∷ []) ≡ true
-two-nodes graph n m h k = and_make (nat_lt n (length graph.nodes)) (are_nodes graph (m ∷ [])) (lt-ltb n (length graph.nodes) h) (one-node graph m k)
-
-due-node : (graph : Graph) (s : Core) → IsLawful graph s → (t n : ℕ) → due graph s t n ≡ true → n < length graph.nodes
-due-node graph s h t n d = heads-node graph s h t n (at_front-heads graph s t n (can_work-at_front graph s t n (due-can_work graph s t n d)))
+two-nodes graph n m h k = and_from (nat_lt n (length graph.nodes)) (are_nodes graph (m ∷ [])) (lt-ltb n (length graph.nodes) h) (one-node graph m k)
 
 allowed-nodes : (graph : Graph) → IsGraph graph → (s : Core) → IsLawful graph s → (step : Step) → allowed graph s step ≡ true → are_nodes graph (nodes_of_step step) ≡ true
 allowed-nodes graph g s h (steps.Frame t n) a = one-node graph n (changed-node graph g s h (steps.Frame t n) a n refl)
 allowed-nodes graph g s h (steps.Start t) a = refl
 allowed-nodes graph g s h (steps.Skip t n) a = one-node graph n (changed-node graph g s h (steps.Skip t n) a n refl)
-allowed-nodes graph g s h (steps.Gather t n m) a = two-nodes graph n m (due-node graph s h t n (gather-due graph s t n m a)) (subst (λ (j : ℕ). m < j) h.lists (served-cell m t s.cells (and_right _ _ a)))
+allowed-nodes graph g s h (steps.Gather t n m) a = two-nodes graph n m (due-there graph s h t n (gather-due graph s t n m a)) (subst (λ (j : ℕ). m < j) h.lists (served-cell m t s.cells (and_right _ _ a)))
 allowed-nodes graph g s h (steps.Evaluate t n) a = one-node graph n (heads-node graph s h t n (at_front-heads graph s t n (evaluate-at_front graph s t n a)))
 allowed-nodes graph g s h (steps.Body t n) a = one-node graph n (heads-node graph s h t n (at_front-heads graph s t n (body-at_front graph s t n a)))
 allowed-nodes graph g s h (steps.Resolve t n) a = one-node graph n (changed-node graph g s h (steps.Resolve t n) a n refl)
-allowed-nodes graph g s h (steps.Discover t n c) a = two-nodes graph n c (due-node graph s h t n (discover-due graph s t n c a)) (changed-node graph g s h (steps.Discover t n c) a c refl)
-allowed-nodes graph g s h (steps.Drop t n o) a = two-nodes graph n o (due-node graph s h t n (drop-due graph s t n o a)) (changed-node graph g s h (steps.Drop t n o) a o refl)
+allowed-nodes graph g s h (steps.Discover t n c) a = two-nodes graph n c (due-there graph s h t n (discover-due graph s t n c a)) (changed-node graph g s h (steps.Discover t n c) a c refl)
+allowed-nodes graph g s h (steps.Drop t n o) a = two-nodes graph n o (due-there graph s h t n (drop-due graph s t n o a)) (changed-node graph g s h (steps.Drop t n o) a o refl)
 allowed-nodes graph g s h (steps.Mark t m) a = one-node graph m (changed-node graph g s h (steps.Mark t m) a m refl)
 allowed-nodes graph g s h (steps.Look t) a = refl
 allowed-nodes graph g s h (steps.End t) a = refl
@@ -93,8 +92,8 @@ allowed-live graph s book step (Some t) fits e a = live-same graph s book t fits
 
 -- A step that names something unknown is not allowed.
 pub unknown_refused : (graph : Graph) (s : Core) (book : Booked) (lists : ℕ → Versions) (count : ℕ) (step : Step) → IsWholeOf graph s book lists count → is_known graph book step ≡ false → false ≡ allowed graph s step
-unknown_refused graph s book lists count step w unknown = sym (not_true (allowed graph s step) (λ a. is_not_true _ unknown
-    (and_make _ _ (allowed-live graph s book step (version_of_step step) w.fits refl a) (allowed-nodes graph w.fits.is_graph s w.fits.lawful step a))))
+unknown_refused graph s book lists count step w unknown = sym (false_from_ne_true (allowed graph s step) (λ a. both_ways _ unknown
+    (and_from _ _ (allowed-live graph s book step (version_of_step step) w.fits refl a) (allowed-nodes graph w.fits.is_graph s w.fits.lawful step a))))
 
 -- ---- what a step reads
 
@@ -118,7 +117,7 @@ work-reads : (graph : Graph) → IsGraph graph → (s : Core) → IsLawful graph
 work-reads graph g s h t n m k i = go (or_cases _ _ (sym (list_any-append (λ y. y == m) (found_candidates (bare (book_of s)) n) (prior_in (listing s n) t)) ∙ i))
   where
     inside : n < length graph.nodes
-    inside = one-read graph n n k (or_left (n == n) false (equal_test n n refl))
+    inside = one-read graph n n k (or_left (n == n) false (eq-eqb n n refl))
 
     go : (is_in m (found_candidates (bare (book_of s)) n) ≡ true) ⊎ (is_in m (prior_in (listing s n) t) ≡ true) → m < length graph.nodes
     go (inl c) = candidate-node graph g s h n m (bare-candidate s n m ∙ c)
@@ -128,7 +127,7 @@ work-reads graph g s h t n m k i = go (or_cases _ _ (sym (list_any-append (λ y.
 
 look-reads : (o : Option ℕ) (m : ℕ) → is_in m (one_of o) ≡ true → o ≡ Some m
 look-reads None m i = absurd (true≢false (sym i))
-look-reads (Some n) m i = ap (λ (j : ℕ). Some j) (same_number n m (first (n == m) i))
+look-reads (Some n) m i = ap (λ (j : ℕ). Some j) (eqb-true n m (first (n == m) i))
   where
     first : (b : Bool) → (b || false) ≡ true → b ≡ true
     first true k = refl

@@ -1,13 +1,14 @@
 -- Going over lists of nodes and of picks, one item at a time.
-use Rattle.std.proofs.Common.{◌≡◌, ℕ, zero, suc, ◌+◌, ◌<◌, Bool, true, false, ◌||◌, ◌&&◌, ◌==◌, List, [], ◌∷◌, length, drop, get_or, Option, Some, None, refl, sym, ap, ◌∙◌, arith, subst, true≢false}
+use Rattle.std.proofs.Common.{◌≡◌, ℕ, zero, suc, ◌+◌, ◌<◌, Bool, true, false, ◌||◌, ◌&&◌, ◌==◌, List, [], ◌∷◌, length, drop, get_or, Option, Some, None, refl, sym, ap, ◌∙◌, subst, true≢false}
 use Rattle.std.specs.Prelude.{slice_get}
 use Rattle.std.specs.List.{list_any, list_all}
 use Rattle.std.proofs.lemmas.List.{drop_more}
 use Rattle.std.proofs.lemmas.List.Folds.{list_any-append}
 use Rattle.std.proofs.lemmas.Option.{slice_get_within, get_or_from_slice_get}
+use Rattle.std.proofs.lemmas.Bool.{or_left, or_right, eq-eqb}
 use Rattle.signal_graph.specs.Graph.{Graph, is_in, node_at, inputs_of}
 use Rattle.signal_graph.specs.Values.{nodes_in}
-use Rattle.flow_model.proofs.General.Truths.{or_left, or_right, equal_test}
+use Rattle.signal_graph.proofs.Members.{index-in, any-picks}
 use Rattle.step_rules.specs.Rests.{AreBelow, rests_on}
 
 -- ---- items
@@ -19,14 +20,6 @@ item-at {A} xs i x h = drop_more xs i x (slice_get_within xs i x h)
 
 -- ---- picks
 
-any-first : (test : ℕ → Bool) (pick : Option ℕ) (rest : List (Option ℕ)) → list_any test (nodes_in (pick ∷ rest)) ≡ (list_any test (nodes_in (pick ∷ [])) || list_any test (nodes_in rest))
-any-first test None rest = refl
-any-first test (Some n) rest = either (test n)
-  where
-    either : (b : Bool) → (b || list_any test (nodes_in rest)) ≡ ((b || false) || list_any test (nodes_in rest))
-    either true = refl
-    either false = refl
-
 all-first : (test : ℕ → Bool) (pick : Option ℕ) (rest : List (Option ℕ)) → list_all test (nodes_in (pick ∷ rest)) ≡ (list_all test (nodes_in (pick ∷ [])) && list_all test (nodes_in rest))
 all-first test None rest = refl
 all-first test (Some n) rest = either (test n)
@@ -34,9 +27,6 @@ all-first test (Some n) rest = either (test n)
     either : (b : Bool) → (b && list_all test (nodes_in rest)) ≡ ((b && true) && list_all test (nodes_in rest))
     either true = refl
     either false = refl
-
-any-picks : (test : ℕ → Bool) (picks : List (Option ℕ)) (i : ℕ) (pick : Option ℕ) → slice_get picks i ≡ Some pick → list_any test (nodes_in (drop i picks)) ≡ (list_any test (nodes_in (pick ∷ [])) || list_any test (nodes_in (drop (i + 1) picks)))
-any-picks test picks i pick h = ap (λ (ps : List (Option ℕ)). list_any test (nodes_in ps)) (item-at picks i pick h) ∙ any-first test pick (drop (i + 1) picks)
 
 all-picks : (test : ℕ → Bool) (picks : List (Option ℕ)) (i : ℕ) (pick : Option ℕ) → slice_get picks i ≡ Some pick → list_all test (nodes_in (drop i picks)) ≡ (list_all test (nodes_in (pick ∷ [])) && list_all test (nodes_in (drop (i + 1) picks)))
 all-picks test picks i pick h = ap (λ (ps : List (Option ℕ)). list_all test (nodes_in ps)) (item-at picks i pick h) ∙ all-first test pick (drop (i + 1) picks)
@@ -49,16 +39,11 @@ all_picks_failed test picks i pick whole h so k = sym (ap (λ (b : Bool). b && l
 
 -- ---- numbers below another
 
-item-in : (xs : List ℕ) (i d : ℕ) → i < length xs → is_in (get_or xs i d) xs ≡ true
-item-in [] i d h = absurd (omega (arith, h))
-item-in (x ∷ xs) zero d h = or_left _ _ (equal_test x x refl)
-item-in (x ∷ xs) (suc i) d h = or_right _ _ (item-in xs i d (omega (arith, h)))
-
 pub item_below : (count : ℕ) (xs : List ℕ) (i d : ℕ) → AreBelow count xs → i < length xs → get_or xs i d < count
-item_below count xs i d all h = all (get_or xs i d) (item-in xs i d h)
+item_below count xs i d all h = all (get_or xs i d) (index-in xs i d h)
 
 pub pick_below : (count n : ℕ) → AreBelow count (nodes_in (Some n ∷ [])) → n < count
-pick_below count n all = all n (or_left _ _ (equal_test n n refl))
+pick_below count n all = all n (or_left _ _ (eq-eqb n n refl))
 
 pub picks_below : (count : ℕ) (picks : List (Option ℕ)) (i : ℕ) (pick : Option ℕ) → AreBelow count (nodes_in picks) → slice_get picks i ≡ Some pick → AreBelow count (nodes_in (pick ∷ []))
 picks_below count [] i pick all h m k = absurd (none i h)

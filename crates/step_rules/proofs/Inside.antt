@@ -1,12 +1,15 @@
 -- What a lawful state says of what is asked: whatever is named is a node of the graph, and the lists answer.
-use Rattle.std.proofs.Common.{◌≡◌, ℕ, zero, suc, ◌<◌, Bool, true, ◌==◌, ◌⊎◌, inl, inr, List, [], ◌∷◌, ◌++◌, length, find, refl, sym, ap, ◌∙◌, arith, subst, Option, Some, None, true≢false}
-use Rattle.std.specs.Prelude.{slice_get, is_some}
+use Rattle.std.proofs.Common.{◌≡◌, ℕ, ◌<◌, Bool, true, ◌==◌, ◌⊎◌, inl, inr, List, [], ◌∷◌, ◌++◌, length, find, refl, sym, ap, ◌∙◌, arith, subst, Option, Some, None, true≢false}
+use Rattle.std.specs.Prelude.{is_some}
 use Rattle.std.specs.Option.{IsSome}
 use Rattle.std.proofs.lemmas.List.Folds.{list_any-append}
-use Rattle.std.proofs.lemmas.Bool.Decides.{eqb_tells}
+use Rattle.std.proofs.lemmas.List.{length-map}
+use Rattle.std.proofs.lemmas.Bool.{or_cases, or_left, or_right, eqb-true}
 use Rattle.signal_graph.specs.Graph.{Graph, node_at, is_in, inputs_of}
 use Rattle.signal_graph.specs.Values.{nodes_in}
+use Rattle.signal_graph.proofs.Members.{get-in, in-cases}
 use Rattle.node_versions.specs.Entries.{Versions, has, before, last_done, picks_before}
+use Rattle.node_versions.proofs.Places.{at-has}
 use Rattle.flow_model.specs.Machine.Sets.{least}
 use Rattle.flow_model.specs.Machine.State.{Core, Cell, Found, call, call_of, cell, opens, live, entries}
 use Rattle.flow_model.specs.Machine.Words.{found_candidates, prior_picks, picks_of_found, is_candidate, next_look}
@@ -15,14 +18,12 @@ use Rattle.flow_model.specs.Kept.Lawful.{SomeHead}
 use Rattle.flow_model.specs.Follows.Bounds.{NamesNodes}
 use Rattle.flow_model.specs.Parts.Books.{Book, work_in, bare, listing, one_of, AgreeOn}
 use Rattle.flow_model.specs.Parts.BookNext.{next_in, next_at_in, reads_at, reads_open, reads_first}
-use Rattle.flow_model.proofs.General.Truths.{or_cases, or_left, or_right, same_number}
-use Rattle.flow_model.proofs.General.AnyAndAll.{length-map}
-use Rattle.flow_model.proofs.OneList.StatesAndPlaces.{at-has}
 use Rattle.flow_model.proofs.Wants.FramedWith.{opens-frame}
 use Rattle.flow_model.proofs.Wants.EarlierNodes.{dep-earlier}
 use Rattle.flow_model.proofs.Edges.EdgesFitCandidates.{candidate-listed}
 use Rattle.flow_model.proofs.Opening.OpeningLists.{candidate-earlier}
 use Rattle.flow_model.proofs.Together.WorkIsAllowed.{find-some}
+use Rattle.flow_model.proofs.Together.NextIsAllowed.{least-in}
 use Rattle.flow_model.proofs.Known.Bounds.{names-nodes}
 use Rattle.flow_model.proofs.Known.ListsAnswer.{lists-answer}
 use Rattle.flow_model.proofs.Books.StepsChangeBooks.{bare-cell}
@@ -33,23 +34,11 @@ use Rattle.step_rules.specs.Fits.{IsWholeOf, listed}
 use Rattle.step_rules.specs.Points.{picked_in, turn_in, turn_at_in}
 use Rattle.step_rules.specs.Rests.{AreBelow}
 
-least-in : (xs : List ℕ) (n : ℕ) → least xs ≡ Some n → is_in n xs ≡ true
-least-in [] n h = cc
-least-in (x ∷ xs) n h = grind (arith, eqb_tells, h)
-
-get-in : (xs : List ℕ) (i x : ℕ) → slice_get xs i ≡ Some x → is_in x xs ≡ true
-get-in [] i x h = cc
-get-in (y ∷ ys) zero x h = let k = h in grind (arith, eqb_tells, k)
-get-in (y ∷ ys) (suc i) x h = let r = get-in ys i x h in grind (arith, r)
-
 in-left : (m : ℕ) (xs ys : List ℕ) → is_in m xs ≡ true → is_in m (xs ++ ys) ≡ true
 in-left m xs ys h = list_any-append (λ y. y == m) xs ys ∙ or_left _ _ h
 
 in-right : (m : ℕ) (xs ys : List ℕ) → is_in m ys ≡ true → is_in m (xs ++ ys) ≡ true
 in-right m xs ys h = list_any-append (λ y. y == m) xs ys ∙ or_right _ _ h
-
-in-cases : (m : ℕ) (xs ys : List ℕ) → is_in m (xs ++ ys) ≡ true → (is_in m xs ≡ true) ⊎ (is_in m ys ≡ true)
-in-cases m xs ys h = or_cases _ _ (sym (list_any-append (λ y. y == m) xs ys) ∙ h)
 
 below-append : (count : ℕ) (xs ys : List ℕ) → AreBelow count xs → AreBelow count ys → AreBelow count (xs ++ ys)
 below-append count xs ys a b m h = go (in-cases m xs ys h)
@@ -62,7 +51,7 @@ below-cons : (count n : ℕ) (xs : List ℕ) → n < count → AreBelow count xs
 below-cons count n xs h a m k = go (or_cases _ _ k)
   where
     go : ((n == m) ≡ true) ⊎ (is_in m xs ≡ true) → m < count
-    go (inl e) = subst (λ (x : ℕ). x < count) (same_number n m e) h
+    go (inl e) = subst (λ (x : ℕ). x < count) (eqb-true n m e) h
     go (inr e) = a m e
 
 below-none : (count : ℕ) → AreBelow count []
@@ -86,7 +75,7 @@ module _ (graph : Graph) (s : Core) (book : Booked) (lists : ℕ → Versions) (
   bounded = names-nodes graph w.fits.is_graph s w.fits.lawful
 
   pub nodes-count : node_count book ≡ count
-  nodes-count = ap (λ (b : Book). length b.works) w.fits.parts ∙ length-map work_in s.cells ∙ w.fits.lawful.lists ∙ sym w.many
+  nodes-count = ap (λ (b : Book). length b.works) w.fits.parts ∙ length-map s.cells work_in ∙ w.fits.lawful.lists ∙ sym w.many
 
   pub lives : (t : ℕ) → live_in book t ≡ true → live s t ≡ true
   lives t h = sym (ap (λ (b : Book). is_some (call_of b.calls t)) w.fits.parts) ∙ h

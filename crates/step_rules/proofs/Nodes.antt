@@ -1,18 +1,11 @@
 -- Searches of lists of nodes, and the nodes among picks.
 use Rattle.std.proofs.Common.{◌≡◌, ℕ, zero, suc, ◌+◌, ◌<◌, ◌≤◌, Bool, true, false, List, [], ◌∷◌, ◌++◌, length, take, drop, get_or, find, refl, sym, ap, ◌∙◌, arith, Option, Some, None}
 use Rattle.std.specs.Prelude.{slice_get}
-use Rattle.std.proofs.lemmas.Bool.Decides.{eqb_tells}
 use Rattle.std.proofs.lemmas.List.{drop_more, take_more}
 use Rattle.std.proofs.lemmas.Option.{slice_get_within, get_or_from_slice_get}
-use Rattle.signal_graph.specs.Graph.{is_in}
 use Rattle.signal_graph.specs.Values.{nodes_in}
+use Rattle.signal_graph.proofs.Members.{nodes_in-length, nodes_in-append}
 use Rattle.node_versions.specs.Entries.{Versions}
-
--- an element of the list
-pub index-in : (xs : List ℕ) (i d : ℕ) → i < length xs → is_in (get_or xs i d) xs ≡ true
-index-in [] i d h = absurd (omega (arith, h))
-index-in (y ∷ ys) zero d h = grind (arith, eqb_tells)
-index-in (y ∷ ys) (suc i) d h = let r = index-in ys i d (omega (arith, h)) in grind (arith, r)
 
 drop-all : (xs : List ℕ) (i : ℕ) → length xs ≤ i → drop i xs ≡ []
 drop-all [] zero h = refl
@@ -45,19 +38,9 @@ find-append-some test (x ∷ xs) ys m h = let r = find-append-some test xs ys m 
 
 -- ---- the nodes among picks
 
-nodes-append : (xs ys : List (Option ℕ)) → nodes_in (xs ++ ys) ≡ nodes_in xs ++ nodes_in ys
-nodes-append [] ys = refl
-nodes-append (None ∷ xs) ys = nodes-append xs ys
-nodes-append (Some x ∷ xs) ys = ap (λ (ns : List ℕ). x ∷ ns) (nodes-append xs ys)
-
 take-more : {X : Type 0} (xs : List X) (i : ℕ) (x : X) → slice_get xs i ≡ Some x → take (i + 1) xs ≡ take i xs ++ x ∷ []
 take-more {X} xs i x h = take_more xs i x (slice_get_within xs i x h)
     ∙ ap (λ (y : X). take i xs ++ y ∷ []) (get_or_from_slice_get xs i x x h)
-
-nodes-length : (xs : List (Option ℕ)) → length (nodes_in xs) ≤ length xs
-nodes-length [] = omega arith
-nodes-length (None ∷ xs) = let r = nodes-length xs in omega (arith, r)
-nodes-length (Some x ∷ xs) = let r = nodes-length xs in omega (arith, r)
 
 take-length : {X : Type 0} (xs : List X) (i : ℕ) → length (take i xs) ≤ i
 take-length xs zero = omega arith
@@ -65,10 +48,10 @@ take-length [] (suc i) = omega arith
 take-length (x ∷ xs) (suc i) = let r = take-length xs i in omega (arith, r)
 
 pub nodes-few : (ps : List (Option ℕ)) (i : ℕ) → length (nodes_in (take i ps)) ≤ i
-nodes-few ps i = let r = nodes-length (take i ps) in let s = take-length ps i in omega (arith, r, s)
+nodes-few ps i = let r = nodes_in-length (take i ps) in let s = take-length ps i in omega (arith, r, s)
 
 pub room-left : (items ns : List ℕ) (i len room : ℕ) → items ≡ ns → length ns ≤ i → i < len → len ≤ room → length items < room
 room-left items ns i len room is few h most = let l = ap (λ (xs : List ℕ). length xs) is in omega (arith, l, few, h, most)
 
 pub nodes-next : (ps : List (Option ℕ)) (i : ℕ) (p : Option ℕ) → slice_get ps i ≡ Some p → nodes_in (take (i + 1) ps) ≡ nodes_in (take i ps) ++ nodes_in (p ∷ [])
-nodes-next ps i p h = ap nodes_in (take-more ps i p h) ∙ nodes-append (take i ps) (p ∷ [])
+nodes-next ps i p h = ap nodes_in (take-more ps i p h) ∙ nodes_in-append (take i ps) (p ∷ [])

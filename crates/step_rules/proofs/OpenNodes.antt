@@ -3,12 +3,10 @@ use Rattle.std.proofs.Common.{◌≡◌, ℕ, ◌+◌, ◌<◌, ◌≤◌, Bool,
 use Rattle.std.specs.Prelude.{nat_le, is_none, is_some}
 use Rattle.std.specs.List.{list_any, AllByRecursion}
 use Rattle.std.proofs.lemmas.Bool.Decides.{nat_tests}
+use Rattle.std.proofs.lemmas.Bool.{or_left, or_right, eq-eqb}
 use Rattle.signal_graph.specs.Graph.{is_in}
 use Rattle.node_set.specs.Members.{first_from}
 use Rattle.flow_model.specs.Machine.Sets.{IsSet}
-use Rattle.flow_model.specs.Machine.State.{LiveCall}
-use Rattle.flow_model.specs.Machine.Next.{lesser, least_version}
-use Rattle.flow_model.proofs.General.Truths.{or_left, or_right, equal_test}
 
 -- the nodes of an ascending list from the first one at or above a node on
 abbrev pub nodes_from : ℕ → List ℕ → List ℕ
@@ -24,7 +22,7 @@ from_in n [] m h = absurd (cc)
 from_in n (x ∷ xs) m h = go (nat_le n x) h (from_in n xs m)
   where
     go : (b : Bool) → elim b as (λ _. Option ℕ) [ true ↦ Some x | false ↦ first_from n xs ] ≡ Some m → (first_from n xs ≡ Some m → is_in m xs ≡ true) → is_in m (x ∷ xs) ≡ true
-    go true e r = or_left _ _ (equal_test x m (cc))
+    go true e r = or_left _ _ (eq-eqb x m (cc))
     go false e r = or_right _ _ (r e)
 
 pub from_above : (n : ℕ) (xs : List ℕ) (m : ℕ) → first_from n xs ≡ Some m → n ≤ m
@@ -70,15 +68,6 @@ pub from_over : (test : ℕ → Bool) (n : ℕ) (xs : List ℕ) (whole : Bool) �
 from_over test n xs whole h so = sym (ap (list_any test) (from_none n xs h)) ∙ so
 
 -- ---- the least version
-
-pub none_least : (test : LiveCall → Bool) (cs : List LiveCall) → is_none (least_version test cs) ≡ not (list_any test cs)
-none_least test [] = refl
-none_least test (c ∷ cs) = go (test c) (none_least test cs)
-  where
-    go : (b : Bool) → is_none (least_version test cs) ≡ not (list_any test cs)
-        → is_none (elim b as (λ _. Option ℕ) [ true ↦ Some (lesser c.version (least_version test cs)) | false ↦ least_version test cs ]) ≡ not (b || list_any test cs)
-    go true r = refl
-    go false r = r
 
 pub none_is : (o : Option ℕ) (r : Bool) → is_some o ≡ not r → r ≡ is_none o
 none_is None true h = refl

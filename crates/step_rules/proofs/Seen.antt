@@ -6,9 +6,10 @@ use Rattle.std.proofs.lemmas.Bool.{eqb-true}
 use Rattle.node_versions.specs.declared.entry.Entry.{Entry}
 use Rattle.node_versions.specs.declared.entry.State.{State}
 use Rattle.node_versions.specs.Entries.{is_mark, is_frame, has, at, behind, before, IsUnique, is_of, first_open, OutEdge, has_out, has_node, is_edge}
-use Rattle.node_versions.proofs.Places.{place, has-place, take-before}
+use Rattle.node_versions.proofs.Places.{place, has-place, take-before, has_at_place}
 use Rattle.node_versions.proofs.Indexes.{opens, entry_at_index}
 use Rattle.flow_model.specs.Machine.Next.{blocked, blocked_by, kept_if}
+use Rattle.flow_model.proofs.Together.WorkIsAllowed.{first_open-has}
 use Rattle.step_rules.specs.Sights.{sight_of}
 use Rattle.step_rules.proofs.Going.{item-at}
 
@@ -29,15 +30,6 @@ open_below (e ∷ es) (suc n) = go (is_frame e.state) (open_below es n)
         ≡ elim (nat_lt (cond (not b) (1 + p) 0) (suc n)) as (λ _. Option ℕ) [ true ↦ elim b as (λ _. Option ℕ) [ true ↦ Some e.version | false ↦ first_open es ] | false ↦ None ]
     go true r = ap {A = Bool} (λ k. elim k as (λ _. Option ℕ) [ true ↦ Some e.version | false ↦ None ]) zero-below
     go false r = r ∙ ap {A = Bool} (λ k. elim k as (λ _. Option ℕ) [ true ↦ first_open es | false ↦ None ]) (grind (arith, nat_tests))
-
--- the first Frame's call has an entry
-first-has : (es : List Entry) (v : ℕ) → first_open es ≡ Some v → has es v ≡ true
-first-has [] v h = cc
-first-has (e ∷ es) v h = go (is_frame e.state) h (first-has es v)
-  where
-    go : (b : Bool) → elim b as (λ _. Option ℕ) [ true ↦ Some e.version | false ↦ first_open es ] ≡ Some v → (first_open es ≡ Some v → has es v ≡ true) → ((e.version == v) || has es v) ≡ true
-    go true h r = grind (arith, eqb_tells, h)
-    go false h r = let k = r h in grind (arith, k)
 
 no_behind : (es : List Entry) (t u : ℕ) → has es u ≡ false → behind es t u ≡ false
 no_behind [] t u h = refl
@@ -98,7 +90,7 @@ blocked-before (e ∷ es) t q h = go (is_frame e.state) (e.version == t) refl h 
 
     before_it : (o : Option ℕ) → first_open es ≡ o → blocked_by (e ∷ es) t o ≡ blocked_by es t o
     before_it None k = refl
-    before_it (Some u) k = ap (λ b. kept_if (Behind b es u t) u) (other-version es v u q.0 (first-has es u k))
+    before_it (Some u) k = ap (λ b. kept_if (Behind b es u t) u) (other-version es v u q.0 (first_open-has es u k))
 
     go : (b c : Bool) → (v == t) ≡ c → (c || has es t) ≡ true → (has es t ≡ true → blocked es t ≡ first_open (before es t))
         → blocked_by (e ∷ es) t (elim b as (λ _. Option ℕ) [ true ↦ Some v | false ↦ first_open es ]) ≡ Here b c
@@ -116,9 +108,6 @@ blocked-at es t i q at h =
 -- the entry of an index is a Mark where the call's is
 pub at-index : (es : List Entry) (t i : ℕ) (e : Entry) (test : State → Bool) → i ≡ place es t → slice_get es i ≡ Some e → test e.state ≡ at test es t
 at-index es t i e test is h = sym ((entry_at_index es t i is).state e test h)
-
-pub has-at : (es : List Entry) (t i : ℕ) → i ≡ place es t → i < length es → has es t ≡ true
-has-at es t i at h = let r = has-place es t in grind (arith, nat_tests, r, at, h)
 
 -- ---- indexes that are found
 
@@ -184,7 +173,7 @@ pub present-sight : (es : List Entry) (t i n : ℕ) (m : Bool) (e : Entry) (o b 
     → record { len = n; has = true; is_mark = m; first_open = o; blocked = b } ≡ sight_of es t
 present-sight es t i n m e o b q at h len mark get first below = λ j. record {
   len = len j;
-  has = sym (has-at es t i at h) j;
+  has = sym (has_at_place es t i at h) j;
   is_mark = (mark ∙ at-index es t i e is_mark at get) j;
   first_open = first j;
   blocked = (below ∙ blocked-at es t i q at h) j;

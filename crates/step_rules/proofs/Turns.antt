@@ -1,5 +1,6 @@
 -- Which point applies first.
 use Rattle.std.proofs.Common.{◌≡◌, ℕ, Bool, true, false, not, List, [], ◌∷◌, ◌++◌, map, drop, find, refl, sym, ap, ap₂, ◌∙◌, Option, Some, None}
+use Rattle.std.proofs.lemmas.Bool.{not_from_false}
 use Rattle.std.specs.List.{list_any}
 use Rattle.signal_graph.specs.Graph.{Graph, node_at, is_source, inputs_of}
 use Rattle.node_versions.specs.Entries.{Versions, first_open}
@@ -30,9 +31,6 @@ when-hit b x rest e = sym (ap (λ (c : Bool). first_of (when c x ∷ rest)) e)
 
 when-miss : (b : Bool) (x : Turn) (rest : List (Option Turn)) → b ≡ false → first_of rest ≡ first_of (when b x ∷ rest)
 when-miss b x rest e = sym (ap (λ (c : Bool). first_of (when c x ∷ rest)) e)
-
-flip : (b : Bool) → b ≡ false → not b ≡ true
-flip b e = ap not e
 
 flop : (b : Bool) → b ≡ true → not b ≡ false
 flop b e = ap not e
@@ -103,7 +101,7 @@ module _ (graph : Graph) (book : Booked) (lists : ℕ → Versions) (t n : ℕ) 
   source-miss x e r = r ∙ when-miss _ (turn.Step (Resolve t n)) _ e
 
   pub touch-hit : list_any (changes (bare book.book) t) (inputs_of (node_at graph n) ++ picked_in lists t n) ≡ false → turn.Step (Skip t n) ≡ first_of (drop 4 (points_in graph book lists t false n))
-  touch-hit e = when-hit _ (turn.Step (Skip t n)) _ (flip _ e)
+  touch-hit e = when-hit _ (turn.Step (Skip t n)) _ (not_from_false _ e)
 
   pub touch-miss : (x : Turn) → list_any (changes (bare book.book) t) (inputs_of (node_at graph n) ++ picked_in lists t n) ≡ true → x ≡ first_of (drop 5 (points_in graph book lists t false n)) → x ≡ first_of (drop 4 (points_in graph book lists t false n))
   touch-miss x e r = r ∙ when-miss _ (turn.Step (Skip t n)) _ (flop _ e)
@@ -115,7 +113,7 @@ module _ (graph : Graph) (book : Booked) (lists : ℕ → Versions) (t n : ℕ) 
   gather-miss x e r = r ∙ some-miss _ (λ m. reading_in book lists t m (Gather t n m)) _ e
 
   pub evaluate-hit : is_found (bare book.book) n ≡ false → turn.Step (Evaluate t n) ≡ first_of (drop 6 (points_in graph book lists t false n))
-  evaluate-hit e = when-hit _ (turn.Step (Evaluate t n)) _ (flip _ e)
+  evaluate-hit e = when-hit _ (turn.Step (Evaluate t n)) _ (not_from_false _ e)
 
   pub evaluate-miss : (x : Turn) → is_found (bare book.book) n ≡ true → x ≡ first_of (drop 7 (points_in graph book lists t false n)) → x ≡ first_of (drop 6 (points_in graph book lists t false n))
   evaluate-miss x e r = r ∙ when-miss _ (turn.Step (Evaluate t n)) _ (flop _ e)
@@ -133,7 +131,7 @@ module _ (graph : Graph) (book : Booked) (lists : ℕ → Versions) (t n : ℕ) 
   candidate-miss x e r = r ∙ some-miss _ (λ c. reading_candidate_in book lists t c (Gather t n c)) _ e
 
   pub body-hit : has_body_value graph (bare book.book) n ≡ false → turn.Step (Body t n) ≡ first_of (drop 9 (points_in graph book lists t false n))
-  body-hit e = when-hit _ (turn.Step (Body t n)) _ (flip _ e)
+  body-hit e = when-hit _ (turn.Step (Body t n)) _ (not_from_false _ e)
 
   pub body-miss : (x : Turn) → has_body_value graph (bare book.book) n ≡ true → x ≡ first_of (drop 10 (points_in graph book lists t false n)) → x ≡ first_of (drop 9 (points_in graph book lists t false n))
   body-miss x e r = r ∙ when-miss _ (turn.Step (Body t n)) _ (flop _ e)

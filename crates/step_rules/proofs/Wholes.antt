@@ -1,12 +1,13 @@
 -- What a lawful state says of a book and lists that are its.
 use Rattle.std.proofs.Common.{◌≡◌, ℕ, ◌<◌, Bool, true, false, ◌&&◌, List, length, Option, Some, refl, sym, ap₂, ◌∙◌, subst, arith}
 use Rattle.std.specs.Option.{IsSome}
+use Rattle.script_tree.proofs.Truths.{and_left, and_right}
 use Rattle.signal_graph.specs.Graph.{Graph, is_in}
 use Rattle.node_versions.specs.Entries.{Versions, has, before, last_done, first_open, picks_before}
 use Rattle.flow_model.specs.Machine.State.{Core, executes}
 use Rattle.flow_model.specs.Machine.Words.{heads, is_some_of}
 use Rattle.flow_model.specs.Parts.Books.{Book, bare}
-use Rattle.flow_model.proofs.OneStep.WhoMayStep.{and_left, and_right, executes-live}
+use Rattle.flow_model.proofs.OneStep.WhoMayStep.{executes-live}
 use Rattle.flow_model.proofs.Wants.EarlierNodes.{dep-earlier}
 use Rattle.flow_state.specs.Booked.{Booked, node_count}
 use Rattle.flow_state.specs.Fitting.{IsBookOf}

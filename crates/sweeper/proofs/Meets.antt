@@ -1,5 +1,6 @@
 -- Live calls whose notes were taken back, after moves.
 use Rattle.std.proofs.Common.{◌≡◌, ◌≢◌, ℕ, Bool, true, false, not, ◌==◌, List, [], length, Option, Some, None, true≢false, refl, sym, ap, ◌∙◌, subst, vec_capacity}
+use Rattle.std.proofs.lemmas.Bool.{and_parts, eq-eqb, both_ways}
 use Rattle.std.specs.Prelude.{is_some}
 use Rattle.signal_graph.specs.Graph.{Graph}
 use Rattle.flow_model.specs.declared.step.Step.{Step}
@@ -12,7 +13,6 @@ use Rattle.flow_model.specs.Machine.State.{Core}
 use Rattle.flow_model.specs.Machine.Steps.{allowed}
 use Rattle.flow_model.specs.Machine.Sets.{take_out}
 use Rattle.flow_model.specs.Machine.Histories.{Move, state}
-use Rattle.flow_model.proofs.General.Truths.{and_both, equal_test, is_not_true}
 use Rattle.flow_model.proofs.General.Sets.{in-take_out}
 use Rattle.flow_state.specs.declared.outcome.Outcome.{Outcome}
 use Rattle.flow_state.specs.declared.outcome.Outcome.TheVariants as outcome
@@ -60,7 +60,7 @@ no_job_for u m (outcome.Body v) t n apart = ((λ e. absurd (cc (e))), (λ e. apa
 
 pub answer-no_job : (answer : Answer) (t : ℕ) (nodes : List ℕ) → IsNoJob t (take_out answer.node nodes) (step_of answer)
 answer-no_job answer t nodes m i =
-    no_job_for answer.version answer.node answer.outcome t m (λ same. is_not_true (m == answer.node) (other (m == answer.node) (and_both _ _ (sym (in-take_out m answer.node nodes) ∙ i)).1) (equal_test m answer.node same))
+    no_job_for answer.version answer.node answer.outcome t m (λ same. both_ways (m == answer.node) (other (m == answer.node) (and_parts _ _ (sym (in-take_out m answer.node nodes) ∙ i)).1) (eq-eqb m answer.node same))
   where
     other : (b : Bool) → not b ≡ true → b ≡ false
     other true h = absurd (cc)

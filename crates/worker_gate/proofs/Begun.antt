@@ -1,12 +1,12 @@
 -- What a longer history says of a caller's calls.
 use Rattle.std.proofs.Common.{◌≡◌, ℕ, suc, ◌+◌, ◌≤◌, Bool, true, false, ◌==◌, refl, sym, ap, arith, List, [], ◌∷◌, ◌++◌, ◌∙◌, subst, append-nil, append_assoc}
 use Rattle.std.proofs.lemmas.List.{map-append}
+use Rattle.std.proofs.lemmas.Bool.{eq-eqb}
 use Rattle.signal_graph.specs.declared.call.Call.{Call}
 use Rattle.signal_graph.specs.Graph.{Graph}
 use Rattle.flow_model.specs.declared.step.Step.{Step}
 use Rattle.flow_model.specs.Machine.Histories.{Move, Begin, Make, state, is_history}
 use Rattle.flow_model.specs.Follows.Callers.{count_begins, begun_from, begun_by, calls_of}
-use Rattle.flow_model.proofs.General.Truths.{equal_test}
 use Rattle.flow_model.proofs.Callers.CallersHaveTheirCalls.{history-counts, history-begun}
 use Rattle.caller_fronts.proofs.OwnCalls.{begun-append}
 use Rattle.worker_gate.specs.Scripts.{GoesOn}
@@ -25,16 +25,13 @@ pub step-calls : (k : ℕ) (xs : List Move) (step : Step) → calls_of (begun_by
 step-calls k xs step = calls-append k xs (Make step ∷ []) ∙ append-nil (calls_of (begun_by k xs))
 
 pub begin-calls : (k : ℕ) (xs : List Move) (c : Call) → calls_of (begun_by k (xs ++ Begin k c ∷ [])) ≡ calls_of (begun_by k xs) ++ c ∷ []
-begin-calls k xs c = calls-append k xs (Begin k c ∷ []) ∙ ap (λ (cs : List Call). calls_of (begun_by k xs) ++ cs) (one (k == k) (equal_test k k refl))
+begin-calls k xs c = calls-append k xs (Begin k c ∷ []) ∙ ap (λ (cs : List Call). calls_of (begun_by k xs) ++ cs) (one (k == k) (eq-eqb k k refl))
   where
     one : (b : Bool) → b ≡ true → calls_of (elim b as (λ _. List (ℕ × Call)) [ true ↦ (suc (0 + count_begins xs), c) ∷ [] | false ↦ [] ]) ≡ c ∷ []
     one true e = refl
     one false e = absurd (cc)
 
 -- ---- how many calls have begun
-
-pub begin-count : (xs : List Move) (k : ℕ) (c : Call) → count_begins (xs ++ Begin k c ∷ []) ≡ suc (count_begins xs)
-begin-count xs k c = let a = count-append xs (Begin k c ∷ []) in omega (arith, a)
 
 pub further-count : (old new : List Move) → GoesOn old new → count_begins old ≤ count_begins new
 further-count old new g = let a = count-append old g.0 in let b : count_begins new ≡ count_begins (old ++ g.0) = ap count_begins g.1 in omega (arith, a, b)

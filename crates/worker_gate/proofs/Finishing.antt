@@ -1,6 +1,6 @@
 -- When all callers have made their scripts and none lives, the run is finished, and what was refused is what the log has not.
 use Rattle.std.proofs.Common.{◌≡◌, ℕ, suc, ◌+◌, ◌<◌, ◌≤◌, ◌⊎◌, inl, inr, true, refl, sym, ap, ap₂, arith, List, [], ◌∷◌, ◌++◌, length, ◌∙◌, subst}
-use Rattle.std.specs.Prelude.{flat_map, map, slice_index_or}
+use Rattle.std.specs.Prelude.{flat_map, slice_index_or}
 use Rattle.std.proofs.lemmas.List.Concat.{flat_map-cons}
 use Rattle.signal_graph.specs.declared.call.Call.{Call}
 use Rattle.signal_graph.specs.declared.log.Refused.{Refused}
@@ -10,8 +10,9 @@ use Rattle.call_log.specs.Made.{entries_of, well_named, script_of, IsPrefix}
 use Rattle.call_log.specs.LeftOut.{left_out_from, left_out_of, left_out}
 use Rattle.call_log.specs.Merge.{Merge}
 use Rattle.flow_model.specs.Machine.Histories.{Move, state, is_history}
-use Rattle.flow_model.specs.Follows.Callers.{count_begins, begun_by, calls_of, logged_of, IsFinishedRun}
+use Rattle.flow_model.specs.Follows.Callers.{count_begins, begun_by, calls_of, IsFinishedRun}
 use Rattle.flow_model.proofs.Callers.FinishedRunsMerge.{ended-made, finished-Merge}
+use Rattle.flow_model.proofs.Schedules.ReplaysMerge.{logged-length}
 use Rattle.worker_gate.specs.Scripts.{GoesOn, IsMade, AreMade}
 use Rattle.worker_gate.proofs.Begun.{further-count}
 
@@ -41,13 +42,6 @@ finished-run graph limit scripts refused olds news f m fresh history none all = 
     begun k l (inr e) = let c = further-count (slice_index_or news k []) f (all k l).0 in inr (omega (arith, e, c))
 
 -- ---- what was refused
-
-logged-length : (k : ℕ) (log : List Logged) → length (calls_of (logged_of k log)) ≡ length (entries_of k log)
-logged-length k log = go (entries_of k log)
-  where
-    go : (xs : List Logged) → length (calls_of (map (λ (x : Logged). (x.version, x.call)) xs)) ≡ length xs
-    go [] = refl
-    go (x ∷ xs) = ap suc (go xs)
 
 refused-from : (graph : Graph) (limit : ℕ) (log : List Logged) (lists : List (List Refused)) (scripts : List (List Call)) (caller : ℕ) → length lists ≡ length scripts
     → ((i : ℕ) → i < length scripts → slice_index_or lists i [] ≡ left_out_from graph limit (caller + i) 1 (length (entries_of (caller + i) log)) (script_of scripts i))

@@ -1,7 +1,7 @@
 -- A caller makes its script call by call.
 use Rattle.std.proofs.Common.{◌≡◌, ℕ, zero, suc, ◌+◌, ◌-◌, ◌≤◌, ◌⊎◌, inl, inr, refl, sym, ap, arith, List, [], ◌∷◌, ◌++◌, length, take, drop, take-append-drop, get_or, ◌<◌, ◌∙◌, subst, Option, Some, None, append_assoc, append-nil}
 use Rattle.std.proofs.lemmas.List.Elements.{filter-append}
-use Rattle.std.proofs.lemmas.List.{length-append, length-take, take-append-le, take_all, take_more}
+use Rattle.std.proofs.lemmas.List.{length-append, length-take, take_more}
 use Rattle.signal_graph.specs.declared.call.Call.{Call}
 use Rattle.signal_graph.specs.declared.log.Refused.{Refused}
 use Rattle.signal_graph.specs.declared.log.Why.{Why}
@@ -10,6 +10,7 @@ use Rattle.signal_graph.specs.Graph.{Graph}
 use Rattle.signal_graph.specs.Machine.{misnamed}
 use Rattle.call_log.specs.Made.{is_well_named, well_named, IsPrefix}
 use Rattle.call_log.specs.LeftOut.{why_not, refusal, left_out_from}
+use Rattle.call_log.proofs.Prefixes.{prefix-whole, prefix-length, prefix-more}
 use Rattle.flow_model.specs.Machine.Histories.{Move}
 use Rattle.flow_model.specs.Follows.Callers.{count_begins, begun_by, calls_of}
 use Rattle.flow_model.proofs.Schedules.LeftOutByCall.{named-more, named-same, left_out-more, left_out-enough}
@@ -20,15 +21,6 @@ use Rattle.worker_gate.proofs.Turns.{used-up, misnamed-why}
 use Rattle.worker_gate.proofs.Begun.{further-count, goes_nowhere, goes_further}
 
 -- ---- prefixes
-
-prefix-whole : (xs : List Call) → IsPrefix xs xs
-prefix-whole xs = sym (take_all (length xs) xs (omega arith))
-
-prefix-length : (xs ys : List Call) → IsPrefix xs ys → length xs ≤ length ys
-prefix-length xs ys p = let e : length xs ≡ length (take (length xs) ys) = ap length p in let t = length-take (length xs) ys in omega (arith, e, t)
-
-prefix-more : (xs ys zs : List Call) → IsPrefix xs ys → IsPrefix xs (ys ++ zs)
-prefix-more xs ys zs p = p ∙ sym (take-append-le (length xs) ys zs (prefix-length xs ys p))
 
 -- ---- nothing made
 

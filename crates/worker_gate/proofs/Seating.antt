@@ -2,12 +2,12 @@
 use Rattle.std.proofs.Common.{◌≡◌, ℕ, zero, suc, ◌+◌, ◌<◌, Bool, true, false, List, [], ◌∷◌, ◌++◌, length, get_or, Some, None, refl, sym, ap, ap₂, ◌∙◌, subst, arith}
 use Rattle.std.specs.Prelude.{Option, flat_map, slice_index_or}
 use Rattle.std.proofs.lemmas.List.{length-map, get_or-map}
+use Rattle.std.proofs.lemmas.Bool.{and_parts}
 use Rattle.signal_graph.specs.declared.call.Call.{Call}
 use Rattle.signal_graph.specs.declared.log.Refused.{Refused}
 use Rattle.signal_graph.specs.Graph.{Graph}
 use Rattle.call_log.specs.Made.{script_of}
 use Rattle.flow_model.specs.Machine.Histories.{Move}
-use Rattle.flow_model.proofs.General.Truths.{and_both}
 use Rattle.caller_fronts.specs.Tokens.{Idle}
 use Rattle.worker_gate.specs.declared.run.Seat.{Seat}
 use Rattle.worker_gate.specs.Scripts.{HasMade, IsMade, HasMadeIt, AreMade, AreBegun}
@@ -98,8 +98,8 @@ module _ {J : Type 0} where
 
   enough-at : (seats : List (Seat J)) (i : ℕ) → i < length seats → all_enough seats ≡ true → (get_or seats i no_seat).enough ≡ true
   enough-at [] i below all = absurd (omega (arith, below))
-  enough-at (s ∷ seats) zero below all = (and_both s.enough (all_enough seats) all).0
-  enough-at (s ∷ seats) (suc i) below all = enough-at seats i (omega (arith, below)) (and_both s.enough (all_enough seats) all).1
+  enough-at (s ∷ seats) zero below all = (and_parts s.enough (all_enough seats) all).0
+  enough-at (s ∷ seats) (suc i) below all = enough-at seats i (omega (arith, below)) (and_parts s.enough (all_enough seats) all).1
 
   pub are-made : (graph : Graph) (limit : ℕ) (ts : List Idle) (scripts : List (List Call)) (after : List (Seat J)) (refused : List Refused) → Each graph limit ts scripts after → length after ≡ length ts → AreNumbered ts → length ts ≡ length scripts
       → all_enough after ≡ true → refused ≡ flat_map (λ list. list) (lists_of after) → AreMade graph limit scripts refused (fronts_of ts) (fronts_of (passes_of after))

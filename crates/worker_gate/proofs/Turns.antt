@@ -10,12 +10,13 @@ use Rattle.flow_model.specs.declared.step.Step.{Step}
 use Rattle.flow_model.specs.Machine.Histories.{Move, Begin, Make}
 use Rattle.flow_model.specs.Machine.Schedules.{refused_for}
 use Rattle.flow_model.specs.Follows.Callers.{count_begins, calls_of}
+use Rattle.flow_model.proofs.Schedules.ThreadsTakeTheirScripts.{begin-count}
 use Rattle.sweeper.specs.Answers.{refused_after}
 use Rattle.caller_fronts.specs.Fronts.{IsLater}
 use Rattle.caller_fronts.proofs.OwnCalls.{calls-stay}
 use Rattle.worker_gate.specs.Scripts.{GoesOn}
 use Rattle.worker_gate.specs.Calls.{Sees, HasBegun}
-use Rattle.worker_gate.proofs.Begun.{step-calls, begin-calls, begin-count, count-append, further-count, history-count, goes_further, goes_one}
+use Rattle.worker_gate.proofs.Begun.{step-calls, begin-calls, count-append, further-count, history-count, goes_further, goes_one}
 
 pub later-GoesOn : (graph : Graph) (callers limit k : ℕ) (front f : List Move) → IsLater graph callers limit k front f → GoesOn front f
 later-GoesOn graph callers limit k front f l = (l.rest, sym l.joined)

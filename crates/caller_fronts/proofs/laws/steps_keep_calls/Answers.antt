@@ -8,9 +8,9 @@ use Rattle.flow_model.specs.Machine.Steps.{apply}
 use Rattle.flow_model.specs.Machine.Histories.{Make, state}
 use Rattle.caller_fronts.specs.Jobs.{job_at, jobs_at}
 use Rattle.caller_fronts.specs.Tokens.{IsEvaluationDue}
-use Rattle.flow_model.proofs.OneStep.SameCallers.{step-stable}
+use Rattle.flow_model.proofs.OneStep.SameCallers.{step-stable, caller-stable, call-stable}
 use Rattle.caller_fronts.proofs.KeysTell.{history-more}
-use Rattle.caller_fronts.proofs.OwnSteps.{step-whose, step-lives, fewer-due, more-due, caller-stable, call-stable}
+use Rattle.caller_fronts.proofs.OwnSteps.{step-whose, step-lives, fewer-due, more-due}
 use Rattle.caller_fronts.proofs.TokensStay.{due-stays, job-stays, maps-same}
 use Rattle.caller_fronts.proofs.laws.steps_keep_calls.Goals as goal
 

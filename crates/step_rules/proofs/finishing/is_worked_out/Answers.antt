@@ -1,4 +1,5 @@
 use Rattle.std.proofs.Common.{◌≡◌, ℕ, true, ◌&&◌, List, Option, sym, ap, ap₂, ◌∙◌, subst}
+use Rattle.std.proofs.lemmas.Bool.{and_from}
 use Rattle.std.specs.List.{list_all}
 use Rattle.signal_graph.specs.Values.{nodes_in}
 use Rattle.node_versions.specs.Entries.{Versions}
@@ -9,7 +10,7 @@ use Rattle.step_rules.specs.Edges.{is_discovered_by, is_released_by}
 use Rattle.step_rules.specs.Fits.{listed}
 use Rattle.step_rules.specs.Rests.{AreBelow}
 use Rattle.step_rules.proofs.Deciding.{found_below, prior_picks_below}
-use Rattle.step_rules.proofs.Truths.{both_hold, second_decides}
+use Rattle.step_rules.proofs.Truths.{second_decides}
 use Rattle.step_rules.proofs.finishing.is_worked_out.Goals as goal
 
 pub are_discovered-requires : goal.are_discovered-requires
@@ -37,7 +38,7 @@ returns-clause-worked_out g c =
     ∙ ap (λ (ls : ℕ → Versions). list_all (is_released_by ls n c.found_picks-found.result) (nodes_in c.args.picks.now)) (sym c.are_discovered.ensures.lists)
     ∙ sym c.if-not-are_released.ensures.released in
     second_decides (is_found (bare b) n && all_gathered (bare b) n (found_candidates (bare b) n) && list_all (is_discovered_in b lists t n) (found_candidates (bare b) n) && list_all (is_released_in b lists n) (prior_in (lists n) t)) (has_body_value c.args.graph.now (bare b) n) c.has_body_value.result
-    (both_hold (is_found (bare b) n && all_gathered (bare b) n (found_candidates (bare b) n) && list_all (is_discovered_in b lists t n) (found_candidates (bare b) n)) (list_all (is_released_in b lists n) (prior_in (lists n) t))
-    (both_hold (is_found (bare b) n && all_gathered (bare b) n (found_candidates (bare b) n)) (list_all (is_discovered_in b lists t n) (found_candidates (bare b) n))
-    (both_hold (is_found (bare b) n) (all_gathered (bare b) n (found_candidates (bare b) n)) found gathered) discovered) released)
+    (and_from (is_found (bare b) n && all_gathered (bare b) n (found_candidates (bare b) n) && list_all (is_discovered_in b lists t n) (found_candidates (bare b) n)) (list_all (is_released_in b lists n) (prior_in (lists n) t))
+    (and_from (is_found (bare b) n && all_gathered (bare b) n (found_candidates (bare b) n)) (list_all (is_discovered_in b lists t n) (found_candidates (bare b) n))
+    (and_from (is_found (bare b) n) (all_gathered (bare b) n (found_candidates (bare b) n)) found gathered) discovered) released)
     c.has_body_value.ensures

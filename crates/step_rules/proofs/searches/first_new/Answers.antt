@@ -1,8 +1,9 @@
 use Rattle.std.proofs.Common.{◌<◌, ℕ, get_or, refl, sym, ap, ◌∙◌, subst, arith}
 use Rattle.node_versions.specs.Entries.{Versions}
 use Rattle.step_rules.specs.Points.{is_new_in}
-use Rattle.step_rules.proofs.Nodes.{index-in, find-here, find-more, find-none}
+use Rattle.step_rules.proofs.Nodes.{find-here, find-more, find-none}
 use Rattle.step_rules.proofs.searches.first_new.Goals as goal
+use Rattle.signal_graph.proofs.Members.{index-in}
 
 pub loop-candidate-init : goal.loop-candidate-init
 loop-candidate-init g c = (record { lists = refl; nodes = refl }, refl)

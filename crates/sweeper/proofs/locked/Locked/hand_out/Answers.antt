@@ -1,18 +1,18 @@
 use Rattle.std.proofs.Common.{◌≡◌, ◌<◌, ℕ, List, Some, true, false, ⊎_elim, refl, sym, ap, ◌∙◌, subst}
+use Rattle.std.proofs.lemmas.Bool.{or_left, eq-eqb}
 use Rattle.signal_graph.specs.Graph.{Graph, is_in}
 use Rattle.flow_model.specs.declared.step.Step.TheVariants as steps
 use Rattle.flow_model.specs.Machine.State.{Core}
 use Rattle.flow_model.specs.Machine.Steps.{allowed}
 use Rattle.flow_model.specs.Machine.Sets.{put}
 use Rattle.flow_model.proofs.General.Sets.{in-put}
-use Rattle.flow_model.proofs.General.Truths.{or_left, equal_test}
 use Rattle.flow_state.specs.declared.outcome.Answer.{Answer}
 use Rattle.flow_state.specs.Answers.{step_of, IsRight}
 use Rattle.caller_fronts.specs.Jobs.{job_at, jobs_at, job_of, with_job}
 use Rattle.caller_fronts.specs.Tokens.{Going}
 use Rattle.flow_model.specs.Machine.Histories.{state}
 use Rattle.flow_model.proofs.OneStep.WhoMayStep.{evaluate-at_front, body-at_front}
-use Rattle.interleave_core.proofs.NodesRead.{front-there}
+use Rattle.flow_model.proofs.Lengths.WorthFalls.{head-there}
 use Rattle.sweeper.proofs.Meets.{is_met, going-same}
 use Rattle.sweeper.proofs.locked.Locked.hand_out.Goals as goal
 
@@ -24,8 +24,8 @@ contains-requires g c =
     let m = c.args.met in
     let lawful = c.histories_are_lawful.ensures j.graph c.self.invariant.1.is_graph j.callers j.limit moves c.requires.met.going.history in
     subst (λ (k : ℕ). c.args.node < k) (sym c.requires.met.size) (⊎_elim
-    (λ e. front-there j.graph s lawful m.version c.args.node (evaluate-at_front j.graph s m.version c.args.node e))
-    (λ e. front-there j.graph s lawful m.version c.args.node (body-at_front j.graph s m.version c.args.node e))
+    (λ e. head-there j.graph s lawful m.version c.args.node (evaluate-at_front j.graph s m.version c.args.node e))
+    (λ e. head-there j.graph s lawful m.version c.args.node (body-at_front j.graph s m.version c.args.node e))
     c.requires.due)
 
 pub live-requires-2-clause-met : goal.live-requires-2-clause-met
@@ -66,7 +66,7 @@ returns g c =
       jobs.none j.graph s m.version n m.out.nodes not_in,
       ap (λ (l : Going). job_of n l.out) c.live-2.ensures.live
           ∙ ap (λ (ns : List ℕ). job_of n (jobs_at j.graph s m.version ns)) nodes
-          ∙ jobs.some j.graph s m.version n (put n m.out.nodes) (in-put n n m.out.nodes ∙ or_left _ _ (equal_test n n refl)) ∙ ap (λ (a : Answer). Some a) (sym is),
+          ∙ jobs.some j.graph s m.version n (put n m.out.nodes) (in-put n n m.out.nodes ∙ or_left _ _ (eq-eqb n n refl)) ∙ ap (λ (a : Answer). Some a) (sym is),
       c.live-2.ensures.live
           ∙ going-same j.graph j.callers j.limit m.caller m.version c.insert.new.self.nodes (put n m.out.nodes) moves moves (with_job job (jobs_at j.graph s m.version m.out.nodes))
           nodes refl (jobs.more j.graph s m.version n m.out.nodes not_in ∙ ap (λ (a : Answer). with_job a (jobs_at j.graph s m.version m.out.nodes)) (sym is)),
