@@ -306,6 +306,7 @@ impl Book {
     }
 
     /// The least node that a live call wants.
+    #[inline(always)]
     pub fn first_wanted(&self, version: u32) -> Option<u32>
         requires { live_in self.now version ≡ true }
         ensures { result ≡ least (call_in self.now version).wanted }
@@ -314,6 +315,7 @@ impl Book {
     }
 
     /// The least node that is open for a live call.
+    #[inline(always)]
     pub fn first_open(&self, version: u32) -> Option<u32>
         requires { live_in self.now version ≡ true }
         ensures { result ≡ least (call_in self.now version).open_nodes }

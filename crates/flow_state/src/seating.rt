@@ -131,6 +131,7 @@ impl Seating {
     }
 
     // The slot of a live call where the hint for its version is right. None too where it isn't.
+    #[inline(always)]
     fn hinted(&self, version: u32) -> Option<u32>
         ensures live { IfSome result (λ slot. has_call self.now version ≡ true) }
         ensures slot { IfSome result (λ slot. slot ≡ (find_call self.now version).slot) }
@@ -151,6 +152,7 @@ impl Seating {
     }
 
     // The slot of a live call.
+    #[inline(always)]
     fn slot_of(&self, version: u32) -> u32
         requires { has_call self.now version ≡ true }
         ensures { result ≡ (find_call self.now version).slot }
@@ -162,6 +164,7 @@ impl Seating {
     }
 
     /// The seat of a live call.
+    #[inline(always)]
     pub(crate) fn seat(&self, version: u32) -> &Seat
         requires { has_call self.now version ≡ true }
         ensures call { result.now.call ≡ find_call self.now version }

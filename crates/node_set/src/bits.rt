@@ -61,6 +61,7 @@ pub(crate) fn take_out(words: &mut [u64], summary: &mut [u64], bit: u32)
 }
 
 // The lowest bit that is set from `from` on, found a word at a time.
+#[inline(always)]
 pub(crate) fn lowest_from(words: &[u64], from: u32) -> Option<u32>
     requires { length words.now < 1024 }
     ensures some { IfSome result (IsLowestFrom words.now from) }
@@ -77,6 +78,7 @@ pub(crate) fn lowest_from(words: &[u64], from: u32) -> Option<u32>
 }
 
 // The same where the summary says which words are not 0.
+#[inline(always)]
 pub(crate) fn next_set(words: &[u64], summary: &[u64], from: u32) -> Option<u32>
     requires inside { from / 64 < length words.now }
     requires few { length words.now ≤ 256 }
@@ -96,6 +98,7 @@ pub(crate) fn next_set(words: &[u64], summary: &[u64], from: u32) -> Option<u32>
 }
 
 // The lowest bit that is 1 from bit `from` on.
+#[inline(always)]
 pub(crate) fn lowest_bit(word: u64, from: u32) -> Option<u32>
     requires { from < 64 }
     ensures some { IfSome result (IsLowestBit word from) }

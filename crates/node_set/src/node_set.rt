@@ -110,6 +110,7 @@ impl NodeSet {
     }
 
     /// The least node of the set.
+    #[inline(always)]
     pub fn first(&self) -> Option<u32>
         ensures { result ≡ least self.now.nodes }
     {
@@ -121,6 +122,7 @@ impl NodeSet {
     }
 
     /// The least node of the set that is at or above this one.
+    #[inline(always)]
     pub fn next_from(&self, node: u32) -> Option<u32>
         ensures { result ≡ first_from node self.now.nodes }
     {
