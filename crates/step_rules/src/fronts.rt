@@ -131,7 +131,7 @@ fn is_first<L: Lists>(book: &Book, lists: &mut L, version: u32, node: u32) -> bo
     if !book.executes(version) {
         return false;
     }
-    match lists.sight(node, version).first_open {
+    match lists.first_open(node) {
         Some(first) => first == version,
         None => false,
     }

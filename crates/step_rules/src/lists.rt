@@ -43,6 +43,13 @@ pub trait Lists {
         ensures lists { listing_of self.new ≡ listing_of self.old }
         ensures nodes { nodes self.new ≡ nodes self.old };
 
+    /// The version of the first Frame's call in the node's list. Takes no memory.
+    fn first_open(&mut self, node: u32) -> Option<u32>
+        requires { node < nodes self.old }
+        ensures result { result ≡ first_open (listing_of self.old node).entries }
+        ensures lists { listing_of self.new ≡ listing_of self.old }
+        ensures nodes { nodes self.new ≡ nodes self.old };
+
     /// Whether the call has an entry in the node's list that is no Frame, and no Frame stands before it. Takes no memory.
     fn served(&mut self, node: u32, version: u32) -> bool
         requires { node < nodes self.old }
@@ -97,6 +104,10 @@ impl Lists for AllLists<'_> {
 
     fn sight(&mut self, node: u32, version: u32) -> Sight {
         sight_of(&self.lists[node as usize], version)
+    }
+
+    fn first_open(&mut self, node: u32) -> Option<u32> {
+        first_open(&self.lists[node as usize])
     }
 
     fn served(&mut self, node: u32, version: u32) -> bool {

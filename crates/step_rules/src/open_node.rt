@@ -40,7 +40,7 @@ pub(crate) fn at_open_node<L: Lists>(
     ensures lists { L.listing_of lists.new ≡ L.listing_of lists.old }
     ensures nodes { L.nodes lists.new ≡ L.nodes lists.old }
 {
-    let first = lists.sight(node, version).first_open;
+    let first = lists.first_open(node);
     if let Some(other) = other_than(version, first) {
         return Turn::NotYet(Cause::OpenBefore {
             node,
