@@ -21,35 +21,37 @@ use script_tree::items::Text;
 use script_tree::limits::{DECK_BYTES, VERSIONS};
 use script_tree::print::print_number;
 use std::alloc::Global;
-use std::env;
 use std::process::ExitCode;
 use std::rt::Env;
 use std::sync::Wait;
 use std::thread::Threads;
 use std::time::{Clock, Instant};
+use std::{env, io};
 use worker_gate::run_scripts;
 
-/// The status where the words or the deck are refused.
+/// The status where the words or the deck are refused, as those are that aren't UTF-8.
 const REFUSED: u8 = 1;
 
 /// The status where there is no memory.
 const NO_MEMORY: u8 = 5;
 
-// The words behind the program's name. None where there is no memory, or a word can't be had.
-fn words<R: Env + AllocGlobal>(rt: &R) -> Option<Vec<Text>> {
-    let Ok(args) = env::args(rt) else {
-        return None;
+// The words behind the program's name, or the status where they can't be had.
+fn words<R: Env + AllocGlobal>(rt: &R) -> Result<Vec<Text>, u8> {
+    let args = match env::args(rt) {
+        Ok(args) => args,
+        Err(error) if error.kind() == io::ErrorKind::InvalidData => return Err(REFUSED),
+        Err(_) => return Err(NO_MEMORY),
     };
     let mut words = Vec::new(rt.alloc());
     for word in args.skip(1) {
         let Ok(text) = Text::from_slice(rt.alloc(), word.as_bytes()) else {
-            return None;
+            return Err(NO_MEMORY);
         };
         if words.push(text).is_err() {
-            return None;
+            return Err(NO_MEMORY);
         }
     }
-    Some(words)
+    Ok(words)
 }
 
 // The number that a word spells.
@@ -113,8 +115,9 @@ fn main(rt: HostRuntime) -> ExitCode {
     let mut source = ReadSource::new(rt.stdin());
     let mut out = WriteSink::new(rt.stdout());
     let mut err = WriteSink::new(rt.stderr());
-    let Some(words) = words(&rt) else {
-        return ExitCode::from(NO_MEMORY);
+    let words = match words(&rt) {
+        Ok(words) => words,
+        Err(status) => return ExitCode::from(status),
     };
     let [first, rest @ ..] = words.as_slice() else {
         return ExitCode::from(REFUSED);
