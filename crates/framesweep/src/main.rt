@@ -1,7 +1,7 @@
 //! Runs decks: standard input, output and error, and the words behind the program's name, for the command line.
 #![tactic(auto)]
 
-use framesweep_cli::framesweep;
+use framesweep_cli::{MEMORY_LINE, framesweep};
 use fs_io::adapters::{ReadSource, WriteSink};
 use fs_io::whole::write_all;
 use script_tree::items::Text;
@@ -37,7 +37,7 @@ fn main(rt: HostRuntime) -> ExitCode {
     let words = match words(&rt) {
         Ok(words) => words,
         Err(_) => {
-            let _ = write_all(&mut err, b"framesweep: want of memory\n");
+            let _ = write_all(&mut err, MEMORY_LINE);
             return ExitCode::from(NO_MEMORY);
         }
     };

@@ -25,10 +25,11 @@ use Rattle.framesweep_cli.specs.declared.reading.Reading.TheVariants as reads
 use Rattle.framesweep_cli.specs.Inputs.{reading_of, most_bytes, behind_text, IsReportText, Spells, IsFault, IsGiven}
 use Rattle.framesweep_cli.specs.Inputs.{IsDenied, IsValid, IsInvalid}
 use Rattle.framesweep_cli.specs.Endings.{Makes}
-use Rattle.framesweep_cli.proofs.Judging.{holds_short}
+use Rattle.framesweep_cli.proofs.Judging.{spells_short}
 use Rattle.replay_run.specs.Input.{deck_text}
 use Rattle.replay_run.specs.Schedule.{first_unnamed}
-use Rattle.framesweep_cli.specs.Devices.{SourceState, Devices}
+use Rattle.fs_io.specs.States.{SourceState}
+use Rattle.framesweep_cli.specs.Devices.{Devices}
 use Rattle.framesweep_cli.specs.Lines.{memory_line}
 use Rattle.framesweep_cli.specs.Statuses.{status_of, IsReadInVain, Happened, Ends, Declines, Follows, Obeys}
 
@@ -80,26 +81,26 @@ not_both a b place decks schedules named unnamed =
 no_fault : Answers → (reading : Reading) (bytes : List ℕ) (said : Input) (fault : InputFault) → Spells reading bytes said
     → IsFault reading bytes fault → ⊥
 no_fault one reads.Deck bytes said input.TooLong spells is = absurd is
-no_fault one reads.Deck bytes said (input.Deck f) spells is = is.1 (one.0 bytes said.deck f spells.holds.0 is.0)
+no_fault one reads.Deck bytes said (input.Deck f) spells is = is.1 (one.0 bytes said.deck f spells.0 is.0)
 no_fault one reads.Deck bytes said (input.ScheduleNumber place) spells is = absurd is
 no_fault one reads.Deck bytes said (input.ReportLine line) spells is = absurd is
 no_fault one reads.Scheduled bytes said (input.ReportLine line) spells is = absurd is
-no_fault one reads.Reported bytes said input.TooLong spells is = absurd (omega (arith, is, spells.holds.0))
-no_fault one reads.Reported bytes said (input.Deck f) spells is = is.2 (one.0 (deck_text bytes) said.deck f spells.holds.1 is.1)
+no_fault one reads.Reported bytes said input.TooLong spells is = absurd (omega (arith, is, spells.0))
+no_fault one reads.Reported bytes said (input.Deck f) spells is = is.2 (one.0 (deck_text bytes) said.deck f spells.1 is.1)
 no_fault one reads.Reported bytes said (input.ScheduleNumber place) spells is = absurd is
 no_fault one reads.Reported bytes said (input.ReportLine line) spells is =
-    not_stopped one.2 (behind_text bytes) said.report line spells.holds.3 is.3
-no_fault one reads.Scheduled bytes said input.TooLong spells is = absurd (omega (arith, is, spells.holds.0))
-no_fault one reads.Scheduled bytes said (input.Deck f) spells is = is.2 (one.0 (deck_text bytes) said.deck f spells.holds.1 is.1)
+    not_stopped one.2 (behind_text bytes) said.report line spells.3 is.3
+no_fault one reads.Scheduled bytes said input.TooLong spells is = absurd (omega (arith, is, spells.0.0))
+no_fault one reads.Scheduled bytes said (input.Deck f) spells is = is.2 (one.0 (deck_text bytes) said.deck f spells.0.1 is.1)
 no_fault one reads.Scheduled bytes said (input.ScheduleNumber place) spells is =
-    not_both said is.0 place (one.1 (deck_text bytes) said.deck is.0.deck spells.holds.1 is.1.1) (spells.holds.2
-    ∙ sym is.1.2) spells.named is.2
+    not_both said is.0 place (one.1 (deck_text bytes) said.deck is.0.deck spells.0.1 is.1.1) (spells.0.2
+    ∙ sym is.1.2) spells.1 is.2
 
 -- what is read of a source that says an input is all of it
 whole : (reading : Reading) (left bytes : List ℕ) (said : Input) → Spells reading left said → bytes ≡ take (most_bytes reading + 1) left
     → bytes ≡ left
 whole reading left bytes said spells e = e
-    ∙ take_all (most_bytes reading + 1) left (omega (arith, holds_short reading left said spells.holds))
+    ∙ take_all (most_bytes reading + 1) left (omega (arith, spells_short reading left said spells))
 
 not_refused : Answers → (reading : Option Reading) (left : Option (List ℕ)) (fault : InputFault) → IsValid reading left
     → IsDenied reading left fault → ⊥
@@ -107,7 +108,7 @@ not_refused one None left fault valid refused = absurd refused
 not_refused one (Some reading) None fault valid refused = absurd valid
 not_refused one (Some reading) (Some left) fault valid refused =
     no_fault one reading left valid.0 fault valid.1
-    (subst (λ (bytes : List ℕ). IsFault reading bytes fault) (whole reading left refused.bytes valid.0 valid.1 refused.given) refused.is)
+    (subst (λ (bytes : List ℕ). IsFault reading bytes fault) (whole reading left refused.bytes valid.0 valid.1 refused.given) refused.says)
 
 -- a read that failed is one that the count of faults shows
 vain_rose : (reading : Option Reading) (before after : SourceState) → IsReadInVain reading before after → Rose before.faults after.faults
@@ -145,7 +146,7 @@ not_given : Answers → (reading : Option Reading) (left : Option (List ℕ)) (f
 not_given one None left fault input invalid given = absurd invalid
 not_given one (Some reading) None fault input invalid given = absurd invalid
 not_given one (Some reading) (Some left) fault input invalid given =
-    no_fault one reading given.bytes input fault given.spells
+    no_fault one reading given.bytes input fault given.says
     (subst (λ (bytes : List ℕ). IsFault reading bytes fault) (sym given.given) invalid)
 
 not_made : Answers → (command : Command) (left : Option (List ℕ)) (fault : InputFault) (text : List ℕ)
@@ -155,7 +156,7 @@ not_made one command left fault text invalid made = not_given one (reading_of co
 denied : Answers → (command : Command) (fault : InputFault) (before after : Devices) (ending : Ending)
     → Happened command before after ending → IsInvalid (reading_of command) before.source.left fault
     → (Rose before.source.faults after.source.faults → ⊥) → (status_of ending ≡ 2) ⊎ (status_of ending ≡ 5)
-denied one command fault before after Done h invalid reads = absurd (not_made one command before.source.left fault h.text invalid h.made)
+denied one command fault before after Done h invalid reads = absurd (not_made one command before.source.left fault h.0.text invalid h.0.made)
 denied one command fault before after (Refused f) h invalid reads = inl refl
 denied one command fault before after ReadFailed h invalid reads = absurd
     (reads (vain_rose (reading_of command) before.source after.source h.0))

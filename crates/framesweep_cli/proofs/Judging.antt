@@ -21,9 +21,9 @@ use Rattle.framesweep_cli.specs.declared.reading.Reading.{Reading}
 use Rattle.framesweep_cli.specs.declared.reading.Reading.TheVariants.{Deck, Scheduled, Reported}
 use Rattle.framesweep_cli.specs.declared.stop.Stop.{Stop}
 use Rattle.framesweep_cli.specs.declared.stop.Stop.TheVariants.{Read, Input as Refuses, Memory}
-use Rattle.framesweep_cli.specs.Devices.{SourceState}
-use Rattle.framesweep_cli.specs.Inputs.{most_bytes, behind_text, IsInput, IsReportText, HasReport, Holds, HoldsInput, Suits}
-use Rattle.framesweep_cli.specs.Stops.{IsBadDeck, IsBadReport, IsRefused, IsUnread, IsStopped}
+use Rattle.fs_io.specs.States.{SourceState}
+use Rattle.framesweep_cli.specs.Inputs.{most_bytes, behind_text, IsInput, IsReportText, HasReport, Spells, Suits}
+use Rattle.framesweep_cli.specs.Stops.{Holds, HoldsInput, IsBadDeck, IsBadReport, IsRefused, IsUnread, IsStopped}
 
 pub alone_refused : (bytes : List ℕ) (stop : Stop) → IsBadDeck bytes stop → IsRefused Deck bytes stop
 alone_refused bytes Read bad = absurd bad
@@ -78,7 +78,7 @@ report_bad text behind bytes deck stop same after short spells bad =
 pub refused_stops : (reading : Reading) (before after : SourceState) (bytes : List ℕ) (stop : Stop) → IsInput reading before.left bytes
     → IsRefused reading bytes stop → IsStopped (Some reading) before after stop
 refused_stops reading before after bytes Read given refused = absurd refused
-refused_stops reading before after bytes (Refuses f) given refused = record { bytes = bytes; given = given; is = refused }
+refused_stops reading before after bytes (Refuses f) given refused = record { bytes = bytes; given = given; says = refused }
 refused_stops reading before after bytes Memory given refused = tt
 
 -- input that was not read
@@ -93,6 +93,11 @@ pub holds_short : (reading : Reading) (bytes : List ℕ) (input : Input) → Hol
 holds_short Deck bytes input holds = holds.0.short
 holds_short Scheduled bytes input holds = holds.0
 holds_short Reported bytes input holds = holds.0
+
+pub spells_short : (reading : Reading) (bytes : List ℕ) (input : Input) → Spells reading bytes input → length bytes ≤ most_bytes reading
+spells_short Deck bytes input spells = spells.0.short
+spells_short Scheduled bytes input spells = spells.0.0
+spells_short Reported bytes input spells = spells.0
 
 -- the numbers of a schedule are at most one more than its bytes
 

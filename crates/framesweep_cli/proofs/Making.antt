@@ -11,12 +11,17 @@ use Rattle.framesweep_cli.specs.declared.reading.Reading.{Reading}
 use Rattle.framesweep_cli.specs.declared.reading.Reading.TheVariants.{Deck, Scheduled, Reported}
 use Rattle.framesweep_cli.specs.declared.stop.Stop.{Stop}
 use Rattle.framesweep_cli.specs.declared.stop.Stop.TheVariants.{Read, Input as Refuses, Memory}
-use Rattle.framesweep_cli.specs.Devices.{SourceState}
-use Rattle.framesweep_cli.specs.Inputs.{reading_of, IsNamed, IsGiven, HoldsInput, Suits}
+use Rattle.fs_io.specs.States.{SourceState}
+use Rattle.framesweep_cli.specs.Inputs.{reading_of, Spells, IsGiven, Suits}
 use Rattle.framesweep_cli.specs.Endings.{IsReport, IsAnyRun, IsAlone, IsOutput}
-use Rattle.framesweep_cli.specs.Statuses.{IsReadWhole}
-use Rattle.framesweep_cli.specs.Stops.{IsUnnamed, IsStopped, IsMade}
+use Rattle.framesweep_cli.specs.Stops.{Holds, HoldsInput, IsNamed, IsUnnamed, IsReadWhole, IsStopped, IsMade}
 use Rattle.framesweep_cli.proofs.Judging.{suits}
+
+-- bytes say an input whose numbers all name threads
+spelled : (reading : Reading) (bytes : List ℕ) (input : Input) → Holds reading bytes input → IsNamed input → Spells reading bytes input
+spelled Deck bytes input holds named = holds
+spelled Scheduled bytes input holds named = (holds, named)
+spelled Reported bytes input holds named = holds
 
 -- what was written for an input that was read
 pub makes : (command : Command) (reading : Reading) (before after : SourceState) (input : Input) (text : List ℕ)
@@ -26,7 +31,7 @@ makes command reading before after input text reads h named emptied output = (
   record {
     input = input;
     given = subst (λ r. IsGiven r before.left input) (sym reads)
-        (record { bytes = h.bytes; given = h.given; spells = record { holds = h.holds; named = named } });
+        (record { bytes = h.bytes; given = h.given; says = spelled reading h.bytes input h.holds named });
     output = output;
   },
   subst (λ r. IsReadWhole r before after) (sym reads) emptied,
@@ -49,8 +54,7 @@ unmade Reported before after input (Refuses (fault.ScheduleNumber place)) h unna
 unmade Scheduled before after input (Refuses (fault.ScheduleNumber place)) h unnamed = record {
   bytes = h.bytes;
   given = h.given;
-  is =
-      (input, h.holds, unnamed);
+  says = (input, h.holds, unnamed);
 }
 unmade reading before after input Memory h unnamed = tt
 

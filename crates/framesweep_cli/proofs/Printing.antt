@@ -9,7 +9,7 @@ use Rattle.deck_text.specs.Printed.{canonical}
 use Rattle.deck_text.specs.Spelled.{Spell, SpellsDeck}
 use Rattle.framesweep_cli.specs.declared.input.Input.{Input}
 use Rattle.framesweep_cli.specs.declared.reading.Reading.TheVariants.{Deck}
-use Rattle.framesweep_cli.specs.Inputs.{reading_of, IsReadAs, IsGiven}
+use Rattle.framesweep_cli.specs.Inputs.{reading_of, IsGiven}
 use Rattle.framesweep_cli.specs.Endings.{Makes}
 use Rattle.framesweep_cli.proofs.Completing.{OneDeck}
 
@@ -19,22 +19,19 @@ ReadsBack = (text : List (List ℕ)) (deck : Decked) → Spell text deck → len
     → SpellsDeck (canonical deck) deck
 
 -- an input that is a deck alone is read of the deck's canonical text too
-read_again : OneDeck → ReadsBack → (left text : List ℕ) (printed input : Input) → IsReadAs Deck (Some left) printed
+read_again : OneDeck → ReadsBack → (left text : List ℕ) (printed input : Input) → IsGiven (Some Deck) (Some left) printed
     → text ≡ canonical printed.deck → length text ≤ DECK_BYTES
-    → IsReadAs Deck (Some left) input → IsReadAs Deck (Some text) input
+    → IsGiven (Some Deck) (Some left) input → IsGiven (Some Deck) (Some text) input
 read_again one back left text printed input a is short b =
     let bytes = b.given ∙ sym a.given in
-    let spelled = a.spells.holds.0 in
+    let spelled = a.says.0 in
     let same = one a.bytes printed.deck input.deck spelled
-    (subst (λ (bytes : List ℕ). SpellsDeck bytes input.deck) bytes b.spells.holds.0) in
+    (subst (λ (bytes : List ℕ). SpellsDeck bytes input.deck) bytes b.says.0) in
     let read = back _ printed.deck spelled.spells (subst (λ (t : List ℕ). length t ≤ DECK_BYTES) is short) in
     record {
       bytes = text;
       given = sym (take_all (DECK_BYTES + 1) text (omega (arith, short)));
-      spells = record {
-        holds = (subst (SpellsDeck text) same (subst (λ (t : List ℕ). SpellsDeck t printed.deck) (sym is) read), b.spells.holds.1);
-        named = b.spells.named;
-      };
+      says = (subst (SpellsDeck text) same (subst (λ (t : List ℕ). SpellsDeck t printed.deck) (sym is) read), b.says.1);
     }
 
 pub made_again : OneDeck → ReadsBack → (command : Command) (left text output : List ℕ) → reading_of command ≡ Some Deck

@@ -5,12 +5,14 @@ use Rattle.framesweep_cli.specs.declared.ending.Ending.{Ending}
 use Rattle.framesweep_cli.specs.declared.ending.Ending.TheVariants.{Done, Refused, ReadFailed, WriteFailed, OutOfMemory}
 use Rattle.framesweep_cli.specs.declared.stop.Stop.{Stop}
 use Rattle.framesweep_cli.specs.declared.stop.Stop.TheVariants.{Read, Input, Memory}
-use Rattle.framesweep_cli.specs.Devices.{SourceState, SinkState, Devices}
+use Rattle.fs_io.specs.States.{SourceState, SinkState}
+use Rattle.framesweep_cli.specs.Devices.{Devices}
 use Rattle.framesweep_cli.specs.declared.fault.InputFault.{InputFault}
 use Rattle.framesweep_cli.specs.declared.reading.Reading.{Reading}
 use Rattle.framesweep_cli.specs.Inputs.{reading_of, IsDenied}
-use Rattle.framesweep_cli.specs.Statuses.{MayBeRead, status_of, line_of, Tells, Happened, Ends}
-use Rattle.framesweep_cli.specs.Stops.{IsStopped, IsMade, IsWritten, EndsAs, Finishes}
+use Rattle.framesweep_cli.specs.Lines.{line_of}
+use Rattle.framesweep_cli.specs.Statuses.{status_of, Tells, Happened, Ends}
+use Rattle.framesweep_cli.specs.Stops.{MayBeRead, IsStopped, IsMade, IsWritten, EndsAs, Finishes}
 
 -- what is refused was read
 denied_read : (reading : Option Reading) (before after : SourceState) (fault : InputFault) → IsDenied reading before.left fault
@@ -37,17 +39,12 @@ stop_happened command before after Memory ending alone stopped ends =
 written_happened : (command : Command) (before after : Devices) (text : List ℕ) (ending : Ending)
     → IsMade command before.source after.source (Ok text) → IsWritten text before.out after.out ending
     → Happened command before after ending
-written_happened command before after text Done made written = record {
-  text = text;
-  made = made.0;
-  read = made.1;
-  added = written.0;
-  flushed = written.1;
-}
+written_happened command before after text Done made written =
+    (record { text = text; made = made.0; read = made.1; grew = written.0 }, written.1)
 written_happened command before after text (Refused fault) made written = absurd written
 written_happened command before after text ReadFailed made written = absurd written
 written_happened command before after text WriteFailed made written =
-    (written.0, record { text = text; made = made.0; read = made.1; added = written.1 })
+    (written.0, record { text = text; made = made.0; read = made.1; grew = written.1 })
 written_happened command before after text OutOfMemory made written = absurd written
 
 happened : (command : Command) (before after : Devices) (made : Result (List ℕ) Stop) (ending : Ending)

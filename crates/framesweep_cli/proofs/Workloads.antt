@@ -16,7 +16,8 @@ use Rattle.deck_maker.specs.Summary.{summary_of}
 use Rattle.command_words.specs.declared.command.Command.TheVariants.{Make}
 use Rattle.framesweep_cli.specs.declared.ending.Ending.{Ending}
 use Rattle.framesweep_cli.specs.declared.ending.Ending.TheVariants.{Done, Refused as Denied, ReadFailed, WriteFailed, OutOfMemory}
-use Rattle.framesweep_cli.specs.Devices.{SourceState, Devices}
+use Rattle.fs_io.specs.States.{SourceState}
+use Rattle.framesweep_cli.specs.Devices.{Devices}
 use Rattle.framesweep_cli.specs.Endings.{IsSummary, Makes}
 use Rattle.framesweep_cli.specs.Statuses.{status_of, Happened, Ends}
 use Rattle.framesweep_cli.specs.Stops.{IsMade}
@@ -83,7 +84,7 @@ pub make_unread : (number : ℕ) (before after : Devices) (status : ℕ) → End
 make_unread number before after status ends = by_ending ends.ending ends.happened
   where
     by_ending : (ending : Ending) → Happened (Make number) before after ending → after.source ≡ before.source
-    by_ending Done h = h.read
+    by_ending Done h = h.0.read
     by_ending (Denied fault) h = absurd h.0
     by_ending ReadFailed h = absurd h.0
     by_ending WriteFailed h = h.1.read

@@ -38,10 +38,6 @@ abbrev pub IsInput : Reading → Option (List ℕ) → List ℕ → Type 0
 IsInput reading None bytes = ⊤
 IsInput reading (Some left) bytes = bytes ≡ take (most_bytes reading + 1) left
 
--- the schedule names no thread that the deck has not
-abbrev pub IsNamed : Input → Type 0
-IsNamed input = first_unnamed (length input.deck.scripts) input.schedule ≡ None
-
 -- the text behind the line between a deck and what is read behind it
 abbrev pub behind_text : List ℕ → List ℕ
 behind_text bytes = schedule_text bytes
@@ -51,12 +47,16 @@ abbrev pub IsReportText : List ℕ → Option Report → Type 0
 IsReportText text None = ⊥
 IsReportText text (Some report) = (text ≡ printed report) × IsReport report
 
--- bytes say a deck, and behind it numbers, whatever these name, or a report
-abbrev pub Holds : Reading → List ℕ → Input → Type 0
-Holds Deck bytes input = SpellsDeck bytes input.deck × (input.schedule ≡ [])
-Holds Scheduled bytes input = (length bytes ≤ SCHEDULED_BYTES) × SpellsDeck (deck_text bytes) input.deck
+-- bytes say a deck, and behind it numbers, whatever these name
+abbrev pub SaysNumbers : List ℕ → Input → Type 0
+SaysNumbers bytes input = (length bytes ≤ SCHEDULED_BYTES) × SpellsDeck (deck_text bytes) input.deck
     × (input.schedule ≡ schedule_of (schedule_text bytes))
-Holds Reported bytes input = (length bytes ≤ REPORTED_BYTES) × SpellsDeck (deck_text bytes) input.deck
+
+-- bytes say an input: a deck, and behind it numbers that all name threads of it, or a report
+abbrev pub Spells : Reading → List ℕ → Input → Type 0
+Spells Deck bytes input = SpellsDeck bytes input.deck × (input.schedule ≡ [])
+Spells Scheduled bytes input = SaysNumbers bytes input × (first_unnamed (length input.deck.scripts) input.schedule ≡ None)
+Spells Reported bytes input = (length bytes ≤ REPORTED_BYTES) × SpellsDeck (deck_text bytes) input.deck
     × (input.schedule ≡ []) × IsReportText (behind_text bytes) input.report
 
 -- a report is there that bytes can be, and they are few enough for each of its lines to have a number
@@ -71,11 +71,6 @@ pub record Suits (reading : Reading) (input : Input) : Type 0 where
   pub none : reading ≢ Scheduled → input.schedule ≡ []
   pub report : reading ≡ Reported → HasReport input.report
 
--- bytes say an input
-pub record Spells (reading : Reading) (bytes : List ℕ) (input : Input) : Type 0 where
-  pub holds : Holds reading bytes input
-  pub named : IsNamed input
-
 -- Bytes are refused, for this fault. Of several the first one is named: they are too many, the deck has a fault, the schedule has
 -- a number that names no thread or the report a line that stands in none. A deck that is read alone and has too many bytes is
 -- refused by the line that holds the first of these.
@@ -87,7 +82,7 @@ IsFault Deck bytes (fault.ReportLine line) = ⊥
 IsFault Scheduled bytes fault.TooLong = SCHEDULED_BYTES < length bytes
 IsFault Scheduled bytes (fault.Deck f) = (length bytes ≤ SCHEDULED_BYTES) × IsDeckFault (deck_text bytes) f × (f ≢ Memory)
 IsFault Scheduled bytes (fault.ScheduleNumber place) =
-    (input : Input) × Holds Scheduled bytes input × (first_unnamed (length input.deck.scripts) input.schedule ≡ Some place)
+    (input : Input) × SaysNumbers bytes input × (first_unnamed (length input.deck.scripts) input.schedule ≡ Some place)
 IsFault Scheduled bytes (fault.ReportLine line) = ⊥
 IsFault Reported bytes fault.TooLong = REPORTED_BYTES < length bytes
 IsFault Reported bytes (fault.Deck f) = (length bytes ≤ REPORTED_BYTES) × IsDeckFault (deck_text bytes) f × (f ≢ Memory)
@@ -95,33 +90,21 @@ IsFault Reported bytes (fault.ScheduleNumber place) = ⊥
 IsFault Reported bytes (fault.ReportLine line) =
     (length bytes ≤ REPORTED_BYTES) × (deck : Decked) × SpellsDeck (deck_text bytes) deck × Stops (behind_text bytes) line
 
--- the input is read, and says a deck and what stands behind it, whatever numbers name
-pub record HoldsInput (reading : Reading) (left : Option (List ℕ)) (input : Input) : Type 0 where
+-- what was read of a source that had this left says so
+pub record IsRead (reading : Reading) (left : Option (List ℕ)) (Says : List ℕ → Type 0) : Type 0 where
   pub bytes : List ℕ
   pub given : IsInput reading left bytes
-  pub holds : Holds reading bytes input
-
--- the input is read, and says this
-pub record IsReadAs (reading : Reading) (left : Option (List ℕ)) (input : Input) : Type 0 where
-  pub bytes : List ℕ
-  pub given : IsInput reading left bytes
-  pub spells : Spells reading bytes input
-
--- the input is read, and refused for this fault
-pub record IsRefusedFor (reading : Reading) (left : Option (List ℕ)) (fault : InputFault) : Type 0 where
-  pub bytes : List ℕ
-  pub given : IsInput reading left bytes
-  pub is : IsFault reading bytes fault
+  pub says : Says bytes
 
 -- what is read says this input; where nothing is read any input will do
 abbrev pub IsGiven : Option Reading → Option (List ℕ) → Input → Type 0
 IsGiven None left input = ⊤
-IsGiven (Some reading) left input = IsReadAs reading left input
+IsGiven (Some reading) left input = IsRead reading left (λ bytes. Spells reading bytes input)
 
 -- what is read is refused for this fault
 abbrev pub IsDenied : Option Reading → Option (List ℕ) → InputFault → Type 0
 IsDenied None left fault = ⊥
-IsDenied (Some reading) left fault = IsRefusedFor reading left fault
+IsDenied (Some reading) left fault = IsRead reading left (λ bytes. IsFault reading bytes fault)
 
 -- a source told what it had left, and that is valid where it is read so; where nothing is read all is valid
 abbrev pub IsValid : Option Reading → Option (List ℕ) → Type 0
@@ -129,8 +112,8 @@ IsValid None left = ⊤
 IsValid (Some reading) None = ⊥
 IsValid (Some reading) (Some left) = (input : Input) × Spells reading left input
 
--- a source told what it had left, and that is refused for this fault where it is read so: all of it, or its first bytes where there are
--- too many
+-- a source told what it had left, and that is refused for this fault where it is read so: all of it, or its first bytes where there
+-- are too many
 abbrev pub IsInvalid : Option Reading → Option (List ℕ) → InputFault → Type 0
 IsInvalid None left fault = ⊥
 IsInvalid (Some reading) None fault = ⊥

@@ -1,20 +1,16 @@
 -- The lines on standard error. Each ends with LF.
-use Rattle.std.specs.Prelude.{ℕ, List, [], ◌∷◌, ◌++◌, codes, decimal}
+use Rattle.std.specs.Prelude.{ℕ, List, [], ◌∷◌, ◌++◌, codes, decimal, Option, Some, None}
 use Rattle.deck_text.specs.declared.fault.What.{What}
 use Rattle.deck_text.specs.declared.fault.What.TheVariants.{Bytes, Nodes, Threads, Levels, Inputs, Candidates, Selectors, Sets, Looks}
 use Rattle.deck_text.specs.declared.fault.DeckFault.{DeckFault}
+use Rattle.deck_text.specs.declared.fault.DeckFault.TheVariants.{Syntax, DoubleName, UnknownInput, TooMany, LineTooLong, NoThread, Memory}
+use Rattle.framesweep_cli.specs.declared.ending.Ending.{Ending}
+use Rattle.framesweep_cli.specs.declared.ending.Ending.TheVariants.{Done, Refused, ReadFailed, WriteFailed, OutOfMemory}
 use Rattle.framesweep_cli.specs.declared.fault.InputFault.{InputFault}
 use Rattle.framesweep_cli.specs.declared.fault.InputFault.TheVariants as input
-use Rattle.deck_text.specs.declared.fault.DeckFault.TheVariants.{Syntax, DoubleName, UnknownInput, TooMany, LineTooLong, NoThread, Memory}
 
 abbrev pub words_line : List ℕ
 words_line = codes "framesweep: words refused\n"
-
-abbrev pub read_line : List ℕ
-read_line = codes "framesweep: read fault\n"
-
-abbrev pub write_line : List ℕ
-write_line = codes "framesweep: write fault\n"
 
 abbrev pub memory_line : List ℕ
 memory_line = codes "framesweep: want of memory\n"
@@ -50,3 +46,11 @@ input_line input.TooLong = codes "framesweep: input too long\n"
 input_line (input.Deck fault) = fault_line fault
 input_line (input.ScheduleNumber place) = codes "framesweep: schedule number " ++ (decimal place ++ 10 ∷ [])
 input_line (input.ReportLine line) = codes "framesweep: report line " ++ (decimal line ++ codes ": syntax\n")
+
+-- the one line that an ending gives standard error, if any
+abbrev pub line_of : Ending → Option (List ℕ)
+line_of Done = None
+line_of (Refused fault) = Some (input_line fault)
+line_of ReadFailed = Some (codes "framesweep: read fault\n")
+line_of WriteFailed = Some (codes "framesweep: write fault\n")
+line_of OutOfMemory = Some memory_line

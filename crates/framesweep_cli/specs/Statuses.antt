@@ -1,7 +1,8 @@
 -- How a run of the program ends: its status, and what it leaves on its devices.
 use Rattle.std.specs.Prelude.{◌≡◌, ℕ, IsTrue, ⊤, ◌⊎◌, List, Option, Some, None, Result, Ok, Err}
-use Rattle.fs_io.specs.Bytes as bytes
+use Rattle.fs_io.specs.States.{SourceState, SinkState}
 use Rattle.fs_io.specs.Bytes.{Adds, AddsFirst}
+use Rattle.fs_io.specs.Bytes as bytes
 use Rattle.fs_io.specs.Count.{Rose}
 use Rattle.command_words.specs.declared.command.Command.{Command}
 use Rattle.command_words.specs.declared.command.WordsFault.{WordsFault}
@@ -9,10 +10,10 @@ use Rattle.command_words.specs.declared.command.WordsFault.TheVariants as words
 use Rattle.framesweep_cli.specs.declared.ending.Ending.{Ending}
 use Rattle.framesweep_cli.specs.declared.ending.Ending.TheVariants.{Done, Refused, ReadFailed, WriteFailed, OutOfMemory}
 use Rattle.framesweep_cli.specs.declared.reading.Reading.{Reading}
-use Rattle.framesweep_cli.specs.Devices.{SourceState, SinkState, Devices}
+use Rattle.framesweep_cli.specs.Devices.{Devices}
 use Rattle.framesweep_cli.specs.Inputs.{reading_of, IsDenied}
 use Rattle.framesweep_cli.specs.Endings.{Makes}
-use Rattle.framesweep_cli.specs.Lines.{words_line, read_line, write_line, memory_line, input_line}
+use Rattle.framesweep_cli.specs.Lines.{words_line, memory_line, line_of}
 use Rattle.command_words.specs.Words.{ReadsWords}
 
 abbrev pub status_of : Ending → ℕ
@@ -21,14 +22,6 @@ status_of (Refused fault) = 2
 status_of ReadFailed = 3
 status_of WriteFailed = 4
 status_of OutOfMemory = 5
-
--- the one line that an ending gives standard error, if any
-abbrev pub line_of : Ending → Option (List ℕ)
-line_of Done = None
-line_of (Refused fault) = Some (input_line fault)
-line_of ReadFailed = Some read_line
-line_of WriteFailed = Some write_line
-line_of OutOfMemory = Some memory_line
 
 -- a line came on standard error: whole and flushed, or a part of it, for which a write or the flush must have failed
 pub record Says (before after : SinkState) (line : List ℕ) : Type 0 where
@@ -40,43 +33,31 @@ abbrev pub Tells : SinkState → SinkState → Option (List ℕ) → Type 0
 Tells before after None = after ≡ before
 Tells before after (Some line) = Says before after line
 
--- nothing is left of what was read to its end; a source of which nothing is read was let alone
-abbrev pub IsReadWhole : Option Reading → SourceState → SourceState → Type 0
-IsReadWhole None before after = after ≡ before
-IsReadWhole (Some reading) before after = bytes.Ends before.left after.left
-
--- something may have been read, but of a source of which nothing is read
-abbrev pub MayBeRead : Option Reading → SourceState → SourceState → Type 0
-MayBeRead None before after = after ≡ before
-MayBeRead (Some reading) before after = ⊤
+-- a fact of the source where something is read; a source of which nothing is read was let alone
+abbrev pub IfRead : Option Reading → SourceState → SourceState → Type 0 → Type 0
+IfRead None before after P = after ≡ before
+IfRead (Some reading) before after P = P
 
 -- a read failed
 abbrev pub IsReadInVain : Option Reading → SourceState → SourceState → Type 0
 IsReadInVain None before after = ⊥
 IsReadInVain (Some reading) before after = Rose before.faults after.faults
 
--- the output grew by what the command makes of the input, which was read whole, and was flushed
-pub record Writes (command : Command) (before after : Devices) : Type 0 where
+-- the output grew in this way by what the command makes of the input, and nothing is left of that
+pub record Writes (command : Command) (before after : Devices) (Grew : Option (List ℕ) → Option (List ℕ) → List ℕ → Type 0) : Type 0 where
   pub text : List ℕ
   pub made : Makes command before.source.left text
-  pub read : IsReadWhole (reading_of command) before.source after.source
-  pub added : Adds before.out.held after.out.held text
-  pub flushed : IsTrue after.out.clean
+  pub read : IfRead (reading_of command) before.source after.source (bytes.Ends before.source.left after.source.left)
+  pub grew : Grew before.out.held after.out.held text
 
--- the output grew by the first bytes of what the command makes of the input, which was read whole, or by all of them
-pub record WritesPart (command : Command) (before after : Devices) : Type 0 where
-  pub text : List ℕ
-  pub made : Makes command before.source.left text
-  pub read : IsReadWhole (reading_of command) before.source after.source
-  pub added : AddsFirst before.out.held after.out.held text
-
--- what each ending of a command means for the source and the output; where no output was begun it was let alone
+-- What each ending of a command means for the source and the output: all of the text was written and flushed, or its first bytes, or all
+-- of them, were written, or no output was begun and it was let alone.
 abbrev pub Happened : Command → Devices → Devices → Ending → Type 0
-Happened command before after Done = Writes command before after
+Happened command before after Done = Writes command before after Adds × IsTrue after.out.clean
 Happened command before after (Refused fault) = IsDenied (reading_of command) before.source.left fault × (after.out ≡ before.out)
 Happened command before after ReadFailed = IsReadInVain (reading_of command) before.source after.source × (after.out ≡ before.out)
-Happened command before after WriteFailed = Rose before.out.faults after.out.faults × WritesPart command before after
-Happened command before after OutOfMemory = MayBeRead (reading_of command) before.source after.source × (after.out ≡ before.out)
+Happened command before after WriteFailed = Rose before.out.faults after.out.faults × Writes command before after AddsFirst
+Happened command before after OutOfMemory = IfRead (reading_of command) before.source after.source ⊤ × (after.out ≡ before.out)
 
 -- a command ended with this status
 pub record Ends (command : Command) (before after : Devices) (status : ℕ) : Type 0 where

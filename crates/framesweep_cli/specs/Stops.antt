@@ -1,6 +1,7 @@
 -- Why there is no output, and how a command ends.
-use Rattle.std.specs.Prelude.{◌≡◌, ◌≢◌, ℕ, IsTrue, ⊤, ◌⊎◌, length, List, Option, Some, Result, Ok, Err}
-use Rattle.fs_io.specs.Bytes.{Adds, AddsFirst}
+use Rattle.std.specs.Prelude.{◌≡◌, ◌≢◌, ℕ, IsTrue, ⊤, ◌⊎◌, length, List, Option, Some, None, Result, Ok, Err}
+use Rattle.fs_io.specs.States.{SourceState, SinkState}
+use Rattle.fs_io.specs.Bytes.{Ends, Adds, AddsFirst}
 use Rattle.fs_io.specs.Count.{Rose}
 use Rattle.command_words.specs.declared.command.Command.{Command}
 use Rattle.deck_text.specs.declared.fault.DeckFault.TheVariants as deck
@@ -11,13 +12,29 @@ use Rattle.framesweep_cli.specs.declared.ending.Ending.{Ending}
 use Rattle.framesweep_cli.specs.declared.ending.Ending.TheVariants.{Done, Refused, ReadFailed, WriteFailed, OutOfMemory}
 use Rattle.framesweep_cli.specs.declared.fault.InputFault.TheVariants as fault
 use Rattle.framesweep_cli.specs.declared.reading.Reading.{Reading}
+use Rattle.framesweep_cli.specs.declared.reading.Reading.TheVariants.{Deck, Scheduled, Reported}
 use Rattle.framesweep_cli.specs.declared.stop.Stop.{Stop}
 use Rattle.framesweep_cli.specs.declared.stop.Stop.TheVariants.{Read, Input as Refuses, Memory}
-use Rattle.framesweep_cli.specs.Devices.{SourceState, SinkState}
 use Rattle.framesweep_cli.specs.declared.input.Input.{Input}
-use Rattle.framesweep_cli.specs.Inputs.{reading_of, IsFault, IsDenied}
+use Rattle.framesweep_cli.specs.Inputs.{reading_of, IsInput, SaysNumbers, Spells, IsFault, IsDenied}
 use Rattle.framesweep_cli.specs.Endings.{Makes}
-use Rattle.framesweep_cli.specs.Statuses.{IsReadWhole, MayBeRead, IsReadInVain}
+use Rattle.framesweep_cli.specs.Statuses.{IfRead, IsReadInVain}
+
+-- bytes say a deck and what stands behind it, whatever numbers name
+abbrev pub Holds : Reading → List ℕ → Input → Type 0
+Holds Deck bytes input = Spells Deck bytes input
+Holds Scheduled bytes input = SaysNumbers bytes input
+Holds Reported bytes input = Spells Reported bytes input
+
+-- the input is read, and holds this
+pub record HoldsInput (reading : Reading) (left : Option (List ℕ)) (input : Input) : Type 0 where
+  pub bytes : List ℕ
+  pub given : IsInput reading left bytes
+  pub holds : Holds reading bytes input
+
+-- the schedule names no thread that the deck has not
+abbrev pub IsNamed : Input → Type 0
+IsNamed input = first_unnamed (length input.deck.scripts) input.schedule ≡ None
 
 -- why bytes are not read as a deck: they are refused, or there was no memory
 abbrev pub IsBadDeck : List ℕ → Stop → Type 0
@@ -57,6 +74,14 @@ IsUnnamed input (Refuses (fault.Deck f)) = ⊥
 IsUnnamed input (Refuses (fault.ScheduleNumber place)) = first_unnamed (length input.deck.scripts) input.schedule ≡ Some place
 IsUnnamed input (Refuses (fault.ReportLine line)) = ⊥
 IsUnnamed input Memory = ⊤
+
+-- nothing is left of what was read to its end
+abbrev pub IsReadWhole : Option Reading → SourceState → SourceState → Type 0
+IsReadWhole reading before after = IfRead reading before after (Ends before.left after.left)
+
+-- something may have been read
+abbrev pub MayBeRead : Option Reading → SourceState → SourceState → Type 0
+MayBeRead reading before after = IfRead reading before after ⊤
 
 -- why nothing is made of the input
 abbrev pub IsStopped : Option Reading → SourceState → SourceState → Stop → Type 0

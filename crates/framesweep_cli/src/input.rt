@@ -4,10 +4,9 @@ ghost use Rattle.std.specs.Prelude.{◌≡◌, ◌+◌, ◌≤◌, length, Some,
 ghost use Rattle.fs_io.specs.Bytes.{Ends};
 ghost use Rattle.deck_text.specs.declared.fault.DeckFault.TheVariants.{Memory as NoMemory};
 ghost use Rattle.deck_text.specs.Reasons.{ReadsDeck};
-ghost use Rattle.framesweep_cli.specs.Devices.{source_state};
 ghost use Rattle.framesweep_cli.specs.declared.reading.Reading.TheVariants as reading;
-ghost use Rattle.framesweep_cli.specs.Inputs.{most_bytes, IsInput, Holds, HoldsInput};
-ghost use Rattle.framesweep_cli.specs.Stops.{IsRefused, IsUnread, IsStopped, IsBadDeck, IsBadReport};
+ghost use Rattle.framesweep_cli.specs.Inputs.{most_bytes, IsInput};
+ghost use Rattle.framesweep_cli.specs.Stops.{Holds, HoldsInput, IsRefused, IsUnread, IsStopped, IsBadDeck, IsBadReport};
 ghost use Rattle.framesweep_cli.specs.declared.limits.TheConstants.{REPORTED_BYTES};
 ghost use Rattle.report_text.specs.Printed.{printed, IsReport};
 
@@ -37,9 +36,10 @@ pub struct Input {
 // All bytes of a source to the end of input, or one more than there may be.
 #[tactic(auto, using(crate::proofs::FirstBytes::given_first))]
 fn read_input<S: Source>(alloc: Global, reading: Reading, source: &mut S) -> Result<Text, Stop>
-    ensures ok { IfOk result (IsInput reading (S.left source.old)) }
-    ensures end { IfOk result (λ bytes. length bytes ≤ most_bytes reading → Ends (S.left source.old) (S.left source.new)) }
-    ensures err { IfErr result (IsUnread (S.faults source.old) (S.faults source.new)) }
+    ensures ok { IfOk result (IsInput reading (S.state source.old).left) }
+    ensures end { IfOk result (λ bytes. length bytes ≤ most_bytes reading
+        → Ends (S.state source.old).left (S.state source.new).left) }
+    ensures err { IfErr result (IsUnread (S.state source.old).faults (S.state source.new).faults) }
 {
     match read_all(alloc, source, reading.most_bytes()) {
         Ok(bytes) => Ok(bytes),
@@ -153,11 +153,9 @@ fn judge(alloc: Global, reading: Reading, bytes: &[u8]) -> Result<Input, Stop>
 /// were read are gone when this returns, so what is done with the input doesn't hold them.
 #[tactic(auto, using(crate::proofs::Judging::input_laws))]
 pub fn input_of<S: Source>(alloc: Global, reading: Reading, source: &mut S) -> Result<Input, Stop>
-    ensures ok { IfOk result (HoldsInput reading (S.left source.old)) }
-    ensures emptied { IfOk result (λ input. Ends (S.left source.old) (S.left source.new)) }
-    ensures err { IfErr result (IsStopped (Some reading)
-        (source_state (S.left source.old) (S.faults source.old))
-        (source_state (S.left source.new) (S.faults source.new))) }
+    ensures ok { IfOk result (HoldsInput reading (S.state source.old).left) }
+    ensures emptied { IfOk result (λ input. Ends (S.state source.old).left (S.state source.new).left) }
+    ensures err { IfErr result (IsStopped (Some reading) (S.state source.old) (S.state source.new)) }
 {
     let bytes = match read_input(alloc, reading, source) {
         Ok(bytes) => bytes,

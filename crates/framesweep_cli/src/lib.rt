@@ -14,4 +14,5 @@ mod top;
 
 pub use command_words::{Command, WordsFault, read_words};
 pub use fault::InputFault;
+pub use lines::MEMORY_LINE;
 pub use top::{framesweep, framesweep_alone};

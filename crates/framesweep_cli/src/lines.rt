@@ -1,7 +1,7 @@
 // The lines on standard error.
 
 ghost use Rattle.std.specs.Prelude.{◌≡◌, ◌++◌, IfOk, OnOk};
-ghost use Rattle.framesweep_cli.specs.Lines.{words_line, read_line, write_line, memory_line, what_text, at_line, fault_line, input_line};
+ghost use Rattle.framesweep_cli.specs.Lines.{what_text, at_line, fault_line, input_line};
 
 use crate::fault::InputFault;
 use deck_text::{DeckFault, What};
@@ -16,6 +16,7 @@ pub const READ_LINE: &[u8] = b"framesweep: read fault\n";
 
 pub const WRITE_LINE: &[u8] = b"framesweep: write fault\n";
 
+/// What standard error has with status 5.
 pub const MEMORY_LINE: &[u8] = b"framesweep: want of memory\n";
 
 fn what_text(what: What) -> &'static [u8]

@@ -5,11 +5,11 @@ ghost use Rattle.script_tree.specs.declared.limits.TheConstants.{VERSIONS as MOS
 ghost use Rattle.report_text.specs.Report.{AreAnswered};
 ghost use Rattle.replay_run.specs.Faults.{place_of};
 ghost use Rattle.replay_run.specs.Schedule.{first_unnamed};
-ghost use Rattle.framesweep_cli.specs.Inputs.{reading_of, HasReport, IsNamed, Suits};
+ghost use Rattle.framesweep_cli.specs.Inputs.{reading_of, HasReport, Suits};
 ghost use Rattle.framesweep_cli.specs.declared.reading.Reading.TheVariants.{Scheduled};
 ghost use Rattle.framesweep_cli.specs.Endings.{report_bytes, verdict_line, IsAlone, IsAnyRun, IsCheck, IsOutput};
 ghost use Rattle.framesweep_cli.specs.Endings.{IsReplay, IsReport, IsSerial, IsSummary};
-ghost use Rattle.framesweep_cli.specs.Stops.{IsUnnamed};
+ghost use Rattle.framesweep_cli.specs.Stops.{IsNamed, IsUnnamed};
 
 use crate::fault::InputFault;
 use crate::input::Input;

@@ -4,9 +4,10 @@
 ghost use Rattle.std.specs.Prelude.{◌≡◌, ◌≤◌, IfOk, IfErr};
 ghost use Rattle.script_tree.specs.declared.limits.TheConstants.{VERSIONS};
 ghost use Rattle.command_words.specs.Words.{HasFewVersions};
-ghost use Rattle.framesweep_cli.specs.Devices.{SourceState, source_state, sink_state};
+ghost use Rattle.fs_io.specs.States.{SourceState};
 ghost use Rattle.framesweep_cli.specs.Endings.{IsAlone};
-ghost use Rattle.framesweep_cli.specs.Statuses.{line_of, Says, Tells, Ends, Obeys};
+ghost use Rattle.framesweep_cli.specs.Lines.{line_of};
+ghost use Rattle.framesweep_cli.specs.Statuses.{Says, Tells, Ends, Obeys};
 ghost use Rattle.framesweep_cli.specs.Stops.{IsMade, IsWritten, EndsAs, Finishes};
 
 use crate::ending::Ending;
@@ -30,9 +31,7 @@ use worker_gate::Gate;
 #[tactic(auto, using(crate::proofs::Making::made_laws))]
 fn make_alone<S: Source>(alloc: Global, command: &Command, source: &mut S) -> Result<Text, Stop>
     requires { IsAlone command.now }
-    ensures { IsMade command.now
-        (source_state (S.left source.old) (S.faults source.old))
-        (source_state (S.left source.new) (S.faults source.new)) result }
+    ensures { IsMade command.now (S.state source.old) (S.state source.new) result }
 {
     let Some(reading) = Reading::of(command) else {
         unreachable!()
@@ -55,9 +54,7 @@ fn make_run<S: Source, G: Gate, R: Threads + Wait + Sync>(
     gate: &G,
 ) -> Result<Text, Stop>
     requires { versions ≤ VERSIONS }
-    ensures { IsMade (Command.Run versions json)
-        (source_state (S.left source.old) (S.faults source.old))
-        (source_state (S.left source.new) (S.faults source.new)) result }
+    ensures { IsMade (Command.Run versions json) (S.state source.old) (S.state source.new) result }
 {
     let Input { deck, .. } = match input_of(alloc, Reading::Deck, source) {
         Ok(input) => input,
@@ -80,9 +77,7 @@ fn make_workload<G: Gate, R: Threads + Wait + Sync>(
 
 // Gives standard error a line.
 fn say<E: Sink>(err: &mut E, line: &[u8])
-    ensures { Says
-        (sink_state (E.held err.old) (E.faults err.old) (E.clean err.old))
-        (sink_state (E.held err.new) (E.faults err.new) (E.clean err.new)) line.now }
+    ensures { Says (E.state err.old) (E.state err.new) line.now }
 {
     let _ = write_all(err, line);
 }
@@ -90,9 +85,7 @@ fn say<E: Sink>(err: &mut E, line: &[u8])
 // Ends where there is no output.
 fn stopped<E: Sink>(alloc: Global, stop: Stop, err: &mut E) -> Ending
     ensures ending { EndsAs stop result }
-    ensures told { Tells
-        (sink_state (E.held err.old) (E.faults err.old) (E.clean err.old))
-        (sink_state (E.held err.new) (E.faults err.new) (E.clean err.new)) (line_of result) }
+    ensures told { Tells (E.state err.old) (E.state err.new) (line_of result) }
 {
     match stop {
         Stop::Read => {
@@ -118,12 +111,8 @@ fn stopped<E: Sink>(alloc: Global, stop: Stop, err: &mut E) -> Ending
 
 // Ends where there is an output.
 fn write<O: Sink, E: Sink>(text: &[u8], out: &mut O, err: &mut E) -> Ending
-    ensures written { IsWritten text.now
-        (sink_state (O.held out.old) (O.faults out.old) (O.clean out.old))
-        (sink_state (O.held out.new) (O.faults out.new) (O.clean out.new)) result }
-    ensures told { Tells
-        (sink_state (E.held err.old) (E.faults err.old) (E.clean err.old))
-        (sink_state (E.held err.new) (E.faults err.new) (E.clean err.new)) (line_of result) }
+    ensures written { IsWritten text.now (O.state out.old) (O.state out.new) result }
+    ensures told { Tells (E.state err.old) (E.state err.new) (line_of result) }
 {
     if write_all(out, text) {
         return Ending::Done;
@@ -139,12 +128,8 @@ fn finish<O: Sink, E: Sink>(
     out: &mut O,
     err: &mut E,
 ) -> Ending
-    ensures finished { Finishes made
-        (sink_state (O.held out.old) (O.faults out.old) (O.clean out.old))
-        (sink_state (O.held out.new) (O.faults out.new) (O.clean out.new)) result }
-    ensures told { Tells
-        (sink_state (E.held err.old) (E.faults err.old) (E.clean err.old))
-        (sink_state (E.held err.new) (E.faults err.new) (E.clean err.new)) (line_of result) }
+    ensures finished { Finishes made (O.state out.old) (O.state out.new) result }
+    ensures told { Tells (E.state err.old) (E.state err.new) (line_of result) }
 {
     match made {
         Ok(text) => write(text.as_slice(), out, err),
@@ -170,16 +155,8 @@ pub fn framesweep_alone<S: Source, O: Sink, E: Sink>(
 ) -> u8
     requires { IsAlone command.now }
     ensures { Ends command.now
-        (record {
-          source = source_state (S.left source.old) (S.faults source.old);
-          out = sink_state (O.held out.old) (O.faults out.old) (O.clean out.old);
-          err = sink_state (E.held err.old) (E.faults err.old) (E.clean err.old);
-        })
-        (record {
-          source = source_state (S.left source.new) (S.faults source.new);
-          out = sink_state (O.held out.new) (O.faults out.new) (O.clean out.new);
-          err = sink_state (E.held err.new) (E.faults err.new) (E.clean err.new);
-        })
+        (record { source = S.state source.old; out = O.state out.old; err = E.state err.old })
+        (record { source = S.state source.new; out = O.state out.new; err = E.state err.new })
         result }
 {
     let made = make_alone(alloc, command, source);
@@ -200,16 +177,8 @@ fn serve_run<S: Source, O: Sink, E: Sink, G: Gate, R: Threads + Wait + Sync>(
 ) -> u8
     requires { versions ≤ VERSIONS }
     ensures { Ends (Command.Run versions json)
-        (record {
-          source = source_state (S.left source.old) (S.faults source.old);
-          out = sink_state (O.held out.old) (O.faults out.old) (O.clean out.old);
-          err = sink_state (E.held err.old) (E.faults err.old) (E.clean err.old);
-        })
-        (record {
-          source = source_state (S.left source.new) (S.faults source.new);
-          out = sink_state (O.held out.new) (O.faults out.new) (O.clean out.new);
-          err = sink_state (E.held err.new) (E.faults err.new) (E.clean err.new);
-        })
+        (record { source = S.state source.old; out = O.state out.old; err = E.state err.old })
+        (record { source = S.state source.new; out = O.state out.new; err = E.state err.new })
         result }
 {
     let made = make_run(rt, alloc, versions, json, source, gate);
@@ -227,16 +196,8 @@ fn serve_make<O: Sink, E: Sink, G: Gate, R: Threads + Wait + Sync>(
     gate: &G,
 ) -> u8
     ensures { (source : SourceState) → Ends (Command.Make number)
-        (record {
-          source = source;
-          out = sink_state (O.held out.old) (O.faults out.old) (O.clean out.old);
-          err = sink_state (E.held err.old) (E.faults err.old) (E.clean err.old);
-        })
-        (record {
-          source = source;
-          out = sink_state (O.held out.new) (O.faults out.new) (O.clean out.new);
-          err = sink_state (E.held err.new) (E.faults err.new) (E.clean err.new);
-        })
+        (record { source = source; out = O.state out.old; err = E.state err.old })
+        (record { source = source; out = O.state out.new; err = E.state err.new })
         result }
 {
     let made = make_workload(rt, alloc, number, gate);
@@ -255,16 +216,8 @@ fn serve<S: Source, O: Sink, E: Sink, G: Gate, R: Threads + Wait + Sync>(
 ) -> u8
     requires { HasFewVersions command.now }
     ensures { Ends command.now
-        (record {
-          source = source_state (S.left source.old) (S.faults source.old);
-          out = sink_state (O.held out.old) (O.faults out.old) (O.clean out.old);
-          err = sink_state (E.held err.old) (E.faults err.old) (E.clean err.old);
-        })
-        (record {
-          source = source_state (S.left source.new) (S.faults source.new);
-          out = sink_state (O.held out.new) (O.faults out.new) (O.clean out.new);
-          err = sink_state (E.held err.new) (E.faults err.new) (E.clean err.new);
-        })
+        (record { source = S.state source.old; out = O.state out.old; err = E.state err.old })
+        (record { source = S.state source.new; out = O.state out.new; err = E.state err.new })
         result }
 {
     match command {
@@ -301,16 +254,8 @@ pub fn framesweep<S: Source, O: Sink, E: Sink, G: Gate, R: Threads + Wait + Sync
     gate: &G,
 ) -> u8
     ensures { Obeys words.now
-        (record {
-          source = source_state (S.left source.old) (S.faults source.old);
-          out = sink_state (O.held out.old) (O.faults out.old) (O.clean out.old);
-          err = sink_state (E.held err.old) (E.faults err.old) (E.clean err.old);
-        })
-        (record {
-          source = source_state (S.left source.new) (S.faults source.new);
-          out = sink_state (O.held out.new) (O.faults out.new) (O.clean out.new);
-          err = sink_state (E.held err.new) (E.faults err.new) (E.clean err.new);
-        })
+        (record { source = S.state source.old; out = O.state out.old; err = E.state err.old })
+        (record { source = S.state source.new; out = O.state out.new; err = E.state err.new })
         result }
 {
     match read_words(alloc, words) {

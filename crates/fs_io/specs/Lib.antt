@@ -1,5 +1,5 @@
 pub mod Count
 pub mod Bytes
-pub mod Answers
+pub mod States
 pub mod Memory
 pub mod Adapted

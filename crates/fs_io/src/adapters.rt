@@ -1,62 +1,62 @@
 // Std's readers and writers as sources and sinks.
 
-ghost use Rattle.std.specs.Prelude.{◌≡◌, ◌<◌, ◌≤◌, length, take, true, false, IfOk, OnOk, OnErr};
+ghost use Rattle.std.specs.Prelude.{◌≡◌, ◌<◌, ◌≤◌, length, take, true, false, Ok, IfOk, IsOk, IsErr, OnOk, OnErr};
 ghost use Rattle.std.specs.Io.KnownBytes.{Appends, Consumes, IsAtEnd, Keeps};
-ghost use Rattle.fs_io.specs.Answers.{IfGot, OnReadFailed, IfPut, OnWriteFailed, OnFlushed, OnFlushFailed};
 ghost use Rattle.fs_io.specs.Count.{raised};
 
-use crate::sink::{Flushed, Given, Sink};
-use crate::source::{Source, Taken};
+use crate::fault::Failed;
+use crate::sink::Sink;
+use crate::source::Source;
 use std::io;
 use std::io::{Read, Write};
 use std::marker::Model;
 
 // A source's answer for a reader's: an `Err` is no end of input but a fault, and is counted.
-fn taken(answer: io::Result<usize>, faults: &mut u64) -> Taken
-    ensures got { IfOk answer (λ n. (result ≡ Taken.Got n) × (faults.new ≡ faults.old)) }
-    ensures failed { OnErr answer ((result ≡ Taken.Failed) × (faults.new ≡ raised faults.old)) }
+fn taken(answer: io::Result<usize>, faults: &mut u64) -> Result<usize, Failed>
+    ensures got { IfOk answer (λ n. (result ≡ Ok n) × (faults.new ≡ faults.old)) }
+    ensures failed { OnErr answer (IsErr result × (faults.new ≡ raised faults.old)) }
     ensures never_falls { faults.old ≤ faults.new }
 {
     match answer {
-        Ok(n) => Taken::Got(n),
+        Ok(n) => Ok(n),
         Err(_) => {
             *faults = faults.saturating_add(1);
-            Taken::Failed
+            Err(Failed)
         }
     }
 }
 
 // A sink's answer for a writer's that was given these bytes: an `Err` is a fault, and so is nothing taken of some bytes.
-fn given(answer: io::Result<usize>, bytes: &[u8], faults: &mut u64) -> Given
-    ensures some { IfOk answer (λ n. 0 < n → (result ≡ Given.Put n) × (faults.new ≡ faults.old)) }
-    ensures empty { IfOk answer (λ n. length bytes.now ≡ 0 → (result ≡ Given.Put n) × (faults.new ≡ faults.old)) }
-    ensures nothing { IfOk answer (λ n. n ≡ 0 → 0 < length bytes.now → (result ≡ Given.Failed) × (faults.new ≡ raised faults.old)) }
-    ensures failed { OnErr answer ((result ≡ Given.Failed) × (faults.new ≡ raised faults.old)) }
+fn given(answer: io::Result<usize>, bytes: &[u8], faults: &mut u64) -> Result<usize, Failed>
+    ensures some { IfOk answer (λ n. 0 < n → (result ≡ Ok n) × (faults.new ≡ faults.old)) }
+    ensures empty { IfOk answer (λ n. length bytes.now ≡ 0 → (result ≡ Ok n) × (faults.new ≡ faults.old)) }
+    ensures nothing { IfOk answer (λ n. n ≡ 0 → 0 < length bytes.now → IsErr result × (faults.new ≡ raised faults.old)) }
+    ensures failed { OnErr answer (IsErr result × (faults.new ≡ raised faults.old)) }
     ensures never_falls { faults.old ≤ faults.new }
 {
     match answer {
-        Ok(n) if n > 0 || bytes.is_empty() => Given::Put(n),
+        Ok(n) if n > 0 || bytes.is_empty() => Ok(n),
         _ => {
             *faults = faults.saturating_add(1);
-            Given::Failed
+            Err(Failed)
         }
     }
 }
 
 // A sink's answer for a writer's that was flushed: an `Err` is a fault, and leaves the mark as it was.
-fn flushed(answer: io::Result<()>, is_clean: &mut bool, faults: &mut u64) -> Flushed
-    ensures flushed { OnOk answer ((result ≡ Flushed.Flushed) × (is_clean.new ≡ true) × (faults.new ≡ faults.old)) }
-    ensures failed { OnErr answer ((result ≡ Flushed.Failed) × (is_clean.new ≡ is_clean.old) × (faults.new ≡ raised faults.old)) }
+fn flushed(answer: io::Result<()>, is_clean: &mut bool, faults: &mut u64) -> Result<(), Failed>
+    ensures flushed { OnOk answer (IsOk result × (is_clean.new ≡ true) × (faults.new ≡ faults.old)) }
+    ensures failed { OnErr answer (IsErr result × (is_clean.new ≡ is_clean.old) × (faults.new ≡ raised faults.old)) }
     ensures never_falls { faults.old ≤ faults.new }
 {
     match answer {
         Ok(()) => {
             *is_clean = true;
-            Flushed::Flushed
+            Ok(())
         }
         Err(_) => {
             *faults = faults.saturating_add(1);
-            Flushed::Failed
+            Err(Failed)
         }
     }
 }
@@ -102,19 +102,17 @@ impl<R> ReadSource<R> {
 }
 
 impl<R: Read> Source for ReadSource<R> {
-    ghost left = { λ s. R.remaining s.reader };
+    ghost state = { λ s. record { left = R.remaining s.reader; faults = s.faults } };
 
-    ghost faults = { λ s. s.faults };
-
-    fn read(&mut self, buf: &mut [u8]) -> Taken
-        ensures within { IfGot result (λ n. n ≤ length buf.new) }
-        ensures bytes { IfGot result (λ n. Consumes (R.remaining self.old.reader) (R.remaining self.new.reader) (take n buf.new)) }
-        ensures end { IfGot result (λ n. n ≡ 0 → 0 < length buf.new → IsAtEnd (R.remaining self.old.reader)) }
+    fn read(&mut self, buf: &mut [u8]) -> Result<usize, Failed>
+        ensures within { IfOk result (λ n. n ≤ length buf.new) }
+        ensures bytes { IfOk result (λ n. Consumes (R.remaining self.old.reader) (R.remaining self.new.reader) (take n buf.new)) }
+        ensures end { IfOk result (λ n. n ≡ 0 → 0 < length buf.new → IsAtEnd (R.remaining self.old.reader)) }
         ensures never_falls { self.old.faults ≤ self.new.faults }
 
-        ensures got { IfGot result (λ _. self.new.faults ≡ self.old.faults) }
-        ensures failed { OnReadFailed result (self.new.faults ≡ raised self.old.faults) }
-        ensures kept { OnReadFailed result (Keeps (R.remaining self.old.reader) (R.remaining self.new.reader)) }
+        ensures got { OnOk result (self.new.faults ≡ self.old.faults) }
+        ensures failed { OnErr result (self.new.faults ≡ raised self.old.faults) }
+        ensures kept { OnErr result (Keeps (R.remaining self.old.reader) (R.remaining self.new.reader)) }
     {
         taken(self.reader.read(buf), &mut self.faults)
     }
@@ -172,32 +170,28 @@ impl<W> WriteSink<W> {
 impl<W: Write> Sink for WriteSink<W> {
     ghost use Rattle.std.specs.Prelude.{None};
 
-    ghost held = { λ _. None };
+    ghost state = { λ s. record { held = None; faults = s.faults; clean = s.clean } };
 
-    ghost faults = { λ s. s.faults };
-
-    ghost clean = { λ s. s.clean };
-
-    fn write(&mut self, bytes: &[u8]) -> Given
-        ensures within { IfPut result (λ n. n ≤ length bytes.now) }
-        ensures some { IfPut result (λ n. 0 < length bytes.now → 0 < n) }
+    fn write(&mut self, bytes: &[u8]) -> Result<usize, Failed>
+        ensures within { IfOk result (λ n. n ≤ length bytes.now) }
+        ensures some { IfOk result (λ n. 0 < length bytes.now → 0 < n) }
         ensures unclean { self.new.clean ≡ false }
         ensures never_falls { self.old.faults ≤ self.new.faults }
 
-        ensures put { IfPut result (λ _. self.new.faults ≡ self.old.faults) }
-        ensures failed { OnWriteFailed result (self.new.faults ≡ raised self.old.faults) }
-        ensures grew { IfPut result (λ n. Appends (W.contents self.old.writer) (W.contents self.new.writer) (take n bytes.now)) }
-        ensures stayed { OnWriteFailed result (Keeps (W.contents self.old.writer) (W.contents self.new.writer)) }
+        ensures put { OnOk result (self.new.faults ≡ self.old.faults) }
+        ensures failed { OnErr result (self.new.faults ≡ raised self.old.faults) }
+        ensures grew { IfOk result (λ n. Appends (W.contents self.old.writer) (W.contents self.new.writer) (take n bytes.now)) }
+        ensures stayed { OnErr result (Keeps (W.contents self.old.writer) (W.contents self.new.writer)) }
     {
         self.is_clean = false;
         given(self.writer.write(bytes), bytes, &mut self.faults)
     }
 
-    fn flush(&mut self) -> Flushed
+    fn flush(&mut self) -> Result<(), Failed>
         ensures never_falls { self.old.faults ≤ self.new.faults }
 
-        ensures flushed { OnFlushed result ((self.new.clean ≡ true) × (self.new.faults ≡ self.old.faults)) }
-        ensures failed { OnFlushFailed result ((self.new.clean ≡ self.old.clean) × (self.new.faults ≡ raised self.old.faults)) }
+        ensures flushed { OnOk result ((self.new.clean ≡ true) × (self.new.faults ≡ self.old.faults)) }
+        ensures failed { OnErr result ((self.new.clean ≡ self.old.clean) × (self.new.faults ≡ raised self.old.faults)) }
         ensures stayed { Keeps (W.contents self.old.writer) (W.contents self.new.writer) }
     {
         flushed(self.writer.flush(), &mut self.is_clean, &mut self.faults)

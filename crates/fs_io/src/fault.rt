@@ -1,10 +1,14 @@
-// How reading a whole text fails.
+// How a call of a device fails, and reading a whole text.
 
 ghost use Rattle.std.specs.Prelude.{◌≡◌};
 
 use script_tree::memory::OutOfMemory;
 use std::alloc::AllocError;
 use thiserror::Error;
+
+/// A read, a write or a flush failed.
+#[derive(Clone, Copy, Debug, PartialEq, Eq)]
+pub struct Failed;
 
 /// Why a whole text wasn't read.
 #[derive(Clone, Copy, Debug, PartialEq, Eq, Error)]

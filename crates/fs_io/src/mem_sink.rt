@@ -1,10 +1,10 @@
 // A sink in memory, some of whose calls fail.
 
-ghost use Rattle.std.specs.Prelude.{◌≡◌, ◌+◌, ◌-◌, ◌<◌, ◌≤◌, ◌↔◌, ◌⊎◌, [], min, length, true, Some, IfOk};
-ghost use Rattle.fs_io.specs.Answers.{IfPut};
+ghost use Rattle.std.specs.Prelude.{◌≡◌, ◌+◌, ◌-◌, ◌<◌, ◌≤◌, ◌↔◌, ◌⊎◌, [], min, length, true, Some, IfOk, IsErr};
 
 use crate::copy::is_listed;
-use crate::sink::{Flushed, Given, Sink};
+use crate::fault::Failed;
+use crate::sink::Sink;
 use script_tree::items::Items;
 use script_tree::memory::OutOfMemory;
 use std::alloc::Global;
@@ -30,7 +30,15 @@ impl Model for MemSink {
 
     ghost Value = { Store };
 
-    ghost view = { λ s. record { held = s.held.items; room = s.room; most = s.most; failing = s.failing; calls = s.calls; faults = s.faults; clean = s.is_clean } };
+    ghost view = { λ s. record {
+      held = s.held.items;
+      room = s.room;
+      most = s.most;
+      failing = s.failing;
+      calls = s.calls;
+      faults = s.faults;
+      clean = s.is_clean;
+    } };
 
     ghost invariant = { λ s. (vec_len s.held ≤ s.room) × (s.room ≤ vec_capacity s.held) × (0 < s.most) };
 }
@@ -45,7 +53,15 @@ impl MemSink {
         failing: &[u64],
     ) -> Result<MemSink, OutOfMemory>
         requires { 0 < most }
-        ensures { IfOk result (λ sink. sink ≡ record { held = []; room = room; most = most; failing = failing.now; calls = 0; faults = 0; clean = true }) }
+        ensures { IfOk result (λ sink. sink ≡ record {
+          held = [];
+          room = room;
+          most = most;
+          failing = failing.now;
+          calls = 0;
+          faults = 0;
+          clean = true;
+        }) }
     {
         Ok(MemSink {
             held: Vec::with_capacity(alloc, room)?,
@@ -83,19 +99,15 @@ impl MemSink {
 impl Sink for MemSink {
     ghost use Rattle.fs_io.specs.Memory.{Fails, IsFull, after_write, after_flush};
 
-    ghost held = { λ s. Some s.held };
-
-    ghost faults = { λ s. s.faults };
-
-    ghost clean = { λ s. s.clean };
+    ghost state = { λ s. record { held = Some s.held; faults = s.faults; clean = s.clean } };
 
     /// Takes no memory.
-    fn write(&mut self, bytes: &[u8]) -> Given
-        ensures some { IfPut result (λ n. 0 < length bytes.now → 0 < n) }
+    fn write(&mut self, bytes: &[u8]) -> Result<usize, Failed>
+        ensures some { IfOk result (λ n. 0 < length bytes.now → 0 < n) }
         ensures never_falls { self.old.faults ≤ self.new.faults }
 
-        ensures fails { (result ≡ Given.Failed) ↔ (Fails self.old.failing self.old.calls ⊎ IsFull self.old bytes.now) }
-        ensures count { IfPut result (λ n. n ≡ min self.old.most (min (length bytes.now) (self.old.room - length self.old.held))) }
+        ensures fails { IsErr result ↔ (Fails self.old.failing self.old.calls ⊎ IsFull self.old bytes.now) }
+        ensures count { IfOk result (λ n. n ≡ min self.old.most (min (length bytes.now) (self.old.room - length self.old.held))) }
         ensures after { self.new ≡ after_write self.old bytes.now result }
     {
         self.is_clean = false;
@@ -103,27 +115,27 @@ impl Sink for MemSink {
         let room = self.room - self.held.len();
         if is_listed(self.failing.as_slice(), self.calls) || (room == 0 && !bytes.is_empty()) {
             self.faults = self.faults.saturating_add(1);
-            return Given::Failed;
+            return Err(Failed);
         }
         let n = self.most.min(bytes.len().min(room));
         // The room was taken at the start.
         self.held.extend_from_slice(&bytes[..n]).unwrap();
-        Given::Put(n)
+        Ok(n)
     }
 
     /// Takes no memory.
-    fn flush(&mut self) -> Flushed
+    fn flush(&mut self) -> Result<(), Failed>
         ensures never_falls { self.old.faults ≤ self.new.faults }
 
-        ensures fails { (result ≡ Flushed.Failed) ↔ Fails self.old.failing self.old.calls }
+        ensures fails { IsErr result ↔ Fails self.old.failing self.old.calls }
         ensures after { self.new ≡ after_flush self.old result }
     {
         self.calls = self.calls.saturating_add(1);
         if is_listed(self.failing.as_slice(), self.calls) {
             self.faults = self.faults.saturating_add(1);
-            return Flushed::Failed;
+            return Err(Failed);
         }
         self.is_clean = true;
-        Flushed::Flushed
+        Ok(())
     }
 }

@@ -1,12 +1,11 @@
 // A source in memory, some of whose calls fail.
 
-ghost use Rattle.std.specs.Prelude.{◌≡◌, ℕ, ◌<◌, ◌≤◌, ◌↔◌, [], min, length, take, Some, IfOk};
-ghost use Rattle.std.specs.Io.KnownBytes.{Consumes, IsAtEnd};
-ghost use Rattle.fs_io.specs.Answers.{IfGot, OnReadFailed};
-ghost use Rattle.fs_io.specs.Count.{Rose};
+ghost use Rattle.std.specs.Prelude.{◌≡◌, ℕ, ◌<◌, ◌≤◌, ◌↔◌, [], min, length, Some, IfOk, IsErr};
+ghost use Rattle.std.specs.Io.KnownBytes.{IsAtEnd};
 
 use crate::copy::{copy_front, is_listed};
-use crate::source::{Source, Taken};
+use crate::fault::Failed;
+use crate::source::Source;
 use script_tree::items::{Items, Text};
 use script_tree::memory::OutOfMemory;
 use std::alloc::Global;
@@ -30,7 +29,13 @@ impl Model for MemSource {
 
     ghost Value = { Supply };
 
-    ghost view = { λ s. record { left = drop s.at s.bytes; most = s.most; failing = s.failing; calls = s.calls; faults = s.faults } };
+    ghost view = { λ s. record {
+      left = drop s.at s.bytes;
+      most = s.most;
+      failing = s.failing;
+      calls = s.calls;
+      faults = s.faults;
+    } };
 
     ghost invariant = { λ s. (s.at ≤ length s.bytes) × (0 < s.most) };
 }
@@ -45,7 +50,13 @@ impl MemSource {
         failing: &[u64],
     ) -> Result<MemSource, OutOfMemory>
         requires { 0 < most }
-        ensures { IfOk result (λ source. source ≡ record { left = bytes.now; most = most; failing = failing.now; calls = 0; faults = 0 }) }
+        ensures { IfOk result (λ source. source ≡ record {
+          left = bytes.now;
+          most = most;
+          failing = failing.now;
+          calls = 0;
+          faults = 0;
+        }) }
     {
         Ok(MemSource {
             bytes: Text::from_slice(alloc, bytes)?,
@@ -82,29 +93,27 @@ impl MemSource {
 impl Source for MemSource {
     ghost use Rattle.fs_io.specs.Memory.{Fails, after_read, filled};
 
-    ghost left = { λ s. Some s.left };
-
-    ghost faults = { λ s. s.faults };
+    ghost state = { λ s. record { left = Some s.left; faults = s.faults } };
 
     ghost reads = { λ s. s.calls };
 
     /// Takes no memory.
-    fn read(&mut self, buf: &mut [u8]) -> Taken
-        ensures end { IfGot result (λ n. n ≡ 0 → 0 < length buf.new → IsAtEnd (Some self.old.left)) }
+    fn read(&mut self, buf: &mut [u8]) -> Result<usize, Failed>
+        ensures end { IfOk result (λ n. n ≡ 0 → 0 < length buf.new → IsAtEnd (Some self.old.left)) }
         ensures never_falls { self.old.faults ≤ self.new.faults }
 
-        ensures fails { (result ≡ Taken.Failed) ↔ Fails self.old.failing self.old.calls }
-        ensures count { IfGot result (λ n. n ≡ min self.old.most (min (length self.old.left) (length buf.old))) }
+        ensures fails { IsErr result ↔ Fails self.old.failing self.old.calls }
+        ensures count { IfOk result (λ n. n ≡ min self.old.most (min (length self.old.left) (length buf.old))) }
         ensures filled { buf.new ≡ filled self.old.left result buf.old }
         ensures after { self.new ≡ after_read self.old result }
     {
         self.calls = self.calls.saturating_add(1);
         if is_listed(self.failing.as_slice(), self.calls) {
             self.faults = self.faults.saturating_add(1);
-            return Taken::Failed;
+            return Err(Failed);
         }
         let n = copy_front(&self.bytes.as_slice()[self.at..], self.most, buf);
         self.at += n;
-        Taken::Got(n)
+        Ok(n)
     }
 }

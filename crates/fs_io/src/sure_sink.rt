@@ -1,10 +1,10 @@
 // A sink in memory that never fails.
 
-ghost use Rattle.std.specs.Prelude.{◌≡◌, ◌<◌, ◌≤◌, [], min, length, take, true, false, IfOk};
+ghost use Rattle.std.specs.Prelude.{◌≡◌, ◌<◌, ◌≤◌, [], min, length, take, true, false, Ok, IfOk, IsOk};
 ghost use Rattle.std.specs.Option.{option_copied};
-ghost use Rattle.fs_io.specs.Answers.{IfPut};
 
-use crate::sink::{Flushed, Given, Sink};
+use crate::fault::Failed;
+use crate::sink::Sink;
 use script_tree::memory::OutOfMemory;
 use std::alloc::Global;
 use std::marker::Model;
@@ -26,7 +26,13 @@ impl Model for SureSink {
 
     ghost Value = { SureStore };
 
-    ghost view = { λ s. record { kept = s.kept.items; over = s.is_over; room = s.room; most = s.most; clean = s.is_clean } };
+    ghost view = { λ s. record {
+      kept = s.kept.items;
+      over = s.is_over;
+      room = s.room;
+      most = s.most;
+      clean = s.is_clean;
+    } };
 
     ghost invariant = { λ s. (vec_len s.kept ≤ s.room) × (s.room ≤ vec_capacity s.kept) × (0 < s.most) };
 }
@@ -77,18 +83,14 @@ impl SureSink {
 impl Sink for SureSink {
     ghost use Rattle.fs_io.specs.Memory.{told, after_sure_write, after_sure_flush};
 
-    ghost held = { told };
-
-    ghost faults = { λ _. 0 };
-
-    ghost clean = { λ s. s.clean };
+    ghost state = { λ s. record { held = told s; faults = 0; clean = s.clean } };
 
     /// Takes no memory.
-    fn write(&mut self, bytes: &[u8]) -> Given
-        ensures some { IfPut result (λ n. 0 < length bytes.now → 0 < n) }
+    fn write(&mut self, bytes: &[u8]) -> Result<usize, Failed>
+        ensures some { IfOk result (λ n. 0 < length bytes.now → 0 < n) }
 
-        ensures count { result ≡ Given.Put (min self.old.most (length bytes.now)) }
-        ensures after { IfPut result (λ n. self.new ≡ after_sure_write self.old (take n bytes.now)) }
+        ensures count { result ≡ Ok (min self.old.most (length bytes.now)) }
+        ensures after { IfOk result (λ n. self.new ≡ after_sure_write self.old (take n bytes.now)) }
     {
         self.is_clean = false;
         let n = self.most.min(bytes.len());
@@ -98,15 +100,15 @@ impl Sink for SureSink {
         if kept < n {
             self.is_over = true;
         }
-        Given::Put(n)
+        Ok(n)
     }
 
     /// Takes no memory.
-    fn flush(&mut self) -> Flushed
-        ensures done { result ≡ Flushed.Flushed }
+    fn flush(&mut self) -> Result<(), Failed>
+        ensures done { IsOk result }
         ensures after { self.new ≡ after_sure_flush self.old }
     {
         self.is_clean = true;
-        Flushed::Flushed
+        Ok(())
     }
 }

@@ -1,11 +1,11 @@
 // A source in memory that never fails.
 
-ghost use Rattle.std.specs.Prelude.{◌≡◌, ℕ, ◌<◌, ◌≤◌, [], min, length, take, Some, IfOk};
+ghost use Rattle.std.specs.Prelude.{◌≡◌, ℕ, ◌<◌, ◌≤◌, [], min, length, Some, Ok, IfOk};
 ghost use Rattle.std.specs.Io.KnownBytes.{IsAtEnd};
-ghost use Rattle.fs_io.specs.Answers.{IfGot};
 
 use crate::copy::copy_front;
-use crate::source::{Source, Taken};
+use crate::fault::Failed;
+use crate::source::Source;
 use script_tree::items::Text;
 use script_tree::memory::OutOfMemory;
 use std::alloc::Global;
@@ -54,20 +54,18 @@ impl SureSource {
 impl Source for SureSource {
     ghost use Rattle.fs_io.specs.Memory.{after_sure_read, filled};
 
-    ghost left = { λ s. Some s.left };
-
-    ghost faults = { λ _. 0 };
+    ghost state = { λ s. record { left = Some s.left; faults = 0 } };
 
     /// Takes no memory.
-    fn read(&mut self, buf: &mut [u8]) -> Taken
-        ensures end { IfGot result (λ n. n ≡ 0 → 0 < length buf.new → IsAtEnd (Some self.old.left)) }
+    fn read(&mut self, buf: &mut [u8]) -> Result<usize, Failed>
+        ensures end { IfOk result (λ n. n ≡ 0 → 0 < length buf.new → IsAtEnd (Some self.old.left)) }
 
-        ensures count { result ≡ Taken.Got (min self.old.most (min (length self.old.left) (length buf.old))) }
+        ensures count { result ≡ Ok (min self.old.most (min (length self.old.left) (length buf.old))) }
         ensures filled { buf.new ≡ filled self.old.left result buf.old }
-        ensures after { IfGot result (λ n. self.new ≡ after_sure_read self.old n) }
+        ensures after { IfOk result (λ n. self.new ≡ after_sure_read self.old n) }
     {
         let n = copy_front(&self.bytes.as_slice()[self.at..], self.most, buf);
         self.at += n;
-        Taken::Got(n)
+        Ok(n)
     }
 }

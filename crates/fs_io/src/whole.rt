@@ -7,8 +7,8 @@ ghost use Rattle.fs_io.specs.Bytes.{Adds, AddsFirst, Ends, GivesFirst, LosesFron
 ghost use Rattle.fs_io.specs.Count.{Rose};
 
 use crate::fault::ReadFault;
-use crate::sink::{Flushed, Given, Sink};
-use crate::source::{Source, Taken};
+use crate::sink::Sink;
+use crate::source::Source;
 use script_tree::items::Text;
 use std::alloc::{AllocError, Global};
 
@@ -29,19 +29,19 @@ fn read_piece<S: Source>(
     text: &mut Text,
 ) -> Result<usize, ReadFault>
     ensures within { IfOk result (λ n. n ≤ length piece.new) }
-    ensures moved { IfOk result (Moves (S.left source.old) (S.left source.new) text.old text.new) }
-    ensures end { IfOk result (λ n. n ≡ 0 → 0 < length piece.new → IsAtEnd (S.left source.old)) }
-    ensures failed { IsErrOf result ReadFault.Source → Rose (S.faults source.old) (S.faults source.new) }
-    ensures memory { IsErrOf result ReadFault.Memory → LosesFront (S.left source.old) (S.left source.new) }
-    ensures never_falls { S.faults source.old ≤ S.faults source.new }
+    ensures moved { IfOk result (Moves (S.state source.old).left (S.state source.new).left text.old text.new) }
+    ensures end { IfOk result (λ n. n ≡ 0 → 0 < length piece.new → IsAtEnd (S.state source.old).left) }
+    ensures failed { IsErrOf result ReadFault.Source → Rose (S.state source.old).faults (S.state source.new).faults }
+    ensures memory { IsErrOf result ReadFault.Memory → LosesFront (S.state source.old).left (S.state source.new).left }
+    ensures never_falls { (S.state source.old).faults ≤ (S.state source.new).faults }
     ensures once { S.reads source.new ≤ S.reads source.old + 1 }
 {
     match source.read(piece) {
-        Taken::Got(n) => {
+        Ok(n) => {
             text.extend_from_slice(&piece[..n])?;
             Ok(n)
         }
-        Taken::Failed => Err(ReadFault::Source),
+        Err(_) => Err(ReadFault::Source),
     }
 }
 
@@ -52,12 +52,12 @@ fn read_piece<S: Source>(
 /// A text of at most `most` bytes is the whole input.
 /// `Source`: a read failed, so the count of faults rose. `Memory`: some bytes were taken from the source and are lost.
 pub fn read_all<S: Source>(alloc: Global, source: &mut S, most: u64) -> Result<Text, ReadFault>
-    ensures ok { IfOk result (GivesFirst (most + 1) (S.left source.old) (S.left source.new)) }
+    ensures ok { IfOk result (GivesFirst (most + 1) (S.state source.old).left (S.state source.new).left) }
     ensures within { IfOk result (λ text. length text ≤ most + 1) }
-    ensures end { IfOk result (λ text. length text ≤ most → Ends (S.left source.old) (S.left source.new)) }
-    ensures failed { IsErrOf result ReadFault.Source → Rose (S.faults source.old) (S.faults source.new) }
-    ensures memory { IsErrOf result ReadFault.Memory → LosesFront (S.left source.old) (S.left source.new) }
-    ensures never_falls { S.faults source.old ≤ S.faults source.new }
+    ensures end { IfOk result (λ text. length text ≤ most → Ends (S.state source.old).left (S.state source.new).left) }
+    ensures failed { IsErrOf result ReadFault.Source → Rose (S.state source.old).faults (S.state source.new).faults }
+    ensures memory { IsErrOf result ReadFault.Memory → LosesFront (S.state source.old).left (S.state source.new).left }
+    ensures never_falls { (S.state source.old).faults ≤ (S.state source.new).faults }
     ensures reads { S.reads source.new ≤ S.reads source.old + (most + 1) }
 {
     let mut piece = make_room(alloc, PIECE)?;
@@ -75,18 +75,18 @@ pub fn read_all<S: Source>(alloc: Global, source: &mut S, most: u64) -> Result<T
 /// True: the sink took all bytes and is clean. False: a write or the flush failed, so the count of faults rose,
 /// and the sink took the first few of the bytes, or all of them.
 pub fn write_all<O: Sink>(sink: &mut O, bytes: &[u8]) -> bool
-    ensures all { OnTrue result (Adds (O.held sink.old) (O.held sink.new) bytes.now) }
-    ensures clean { OnTrue result (IsTrue (O.clean sink.new)) }
-    ensures front { AddsFirst (O.held sink.old) (O.held sink.new) bytes.now }
-    ensures failed { OnFalse result (Rose (O.faults sink.old) (O.faults sink.new)) }
-    ensures never_falls { O.faults sink.old ≤ O.faults sink.new }
+    ensures all { OnTrue result (Adds (O.state sink.old).held (O.state sink.new).held bytes.now) }
+    ensures clean { OnTrue result (IsTrue (O.state sink.new).clean) }
+    ensures front { AddsFirst (O.state sink.old).held (O.state sink.new).held bytes.now }
+    ensures failed { OnFalse result (Rose (O.state sink.old).faults (O.state sink.new).faults) }
+    ensures never_falls { (O.state sink.old).faults ≤ (O.state sink.new).faults }
 {
     let mut rest = bytes;
     while !rest.is_empty() {
         match sink.write(rest) {
-            Given::Put(n) => rest = &rest[n..],
-            Given::Failed => return false,
+            Ok(n) => rest = &rest[n..],
+            Err(_) => return false,
         }
     }
-    matches!(sink.flush(), Flushed::Flushed)
+    sink.flush().is_ok()
 }

@@ -3,7 +3,7 @@
 ghost use Rattle.std.specs.Prelude.{◌≤◌, IfOk};
 
 use fs_io::adapters::WriteSink;
-use fs_io::sink::{Flushed, Given, Sink};
+use fs_io::sink::Sink;
 use std::io;
 use std::io::Write;
 use std::test::Fail;
@@ -31,8 +31,8 @@ impl Write for Faltering {
 #[test]
 fn an_error_of_a_flush_and_a_write_of_nothing_are_faults(rt: HostRuntime) {
     let mut sink = WriteSink::new(Faltering { flushed: false });
-    assert!(rt; sink.flush() == Flushed::Failed && sink.faults() == 1);
-    assert!(rt; sink.flush() == Flushed::Flushed && sink.faults() == 1);
-    assert!(rt; sink.write(b"call") == Given::Failed && sink.faults() == 2);
-    assert!(rt; sink.write(b"") == Given::Put(0) && sink.faults() == 2);
+    assert!(rt; sink.flush().is_err() && sink.faults() == 1);
+    assert!(rt; sink.flush().is_ok() && sink.faults() == 1);
+    assert!(rt; sink.write(b"call").is_err() && sink.faults() == 2);
+    assert!(rt; sink.write(b"") == Ok(0) && sink.faults() == 2);
 }

@@ -5,9 +5,9 @@ use Rattle.fs_io.proofs.whole.read_all.Given as goal
 -- the text is what the source lost so far, by at least one byte a read
 abbrev pub invariant-loop-text : goal.invariant-loop-text
 invariant-loop-text g l = record {
-  came : Consumes (g.S.Source.left l.fn.source) (g.S.Source.left l.source) l.text;
+  came : Consumes (g.S.Source.state l.fn.source).left (g.S.Source.state l.source).left l.text;
   few : length l.text ≤ l.most + 1;
-  count : g.S.Source.faults l.fn.source ≤ g.S.Source.faults l.source;
+  count : (g.S.Source.state l.fn.source).faults ≤ (g.S.Source.state l.source).faults;
   reads : g.S.Source.reads l.source ≤ g.S.Source.reads l.fn.source + length l.text;
   room : vec_len l.piece ≡ 65536;
 }

@@ -5,10 +5,10 @@ use Rattle.fs_io.proofs.whole.write_all.Goals as goal
 
 pub loop-rest-preserved : goal.loop-rest-preserved
 loop-rest-preserved g c = record {
-  taken = (c.loop-rest.invariant.taken.0 ++ take c.in-Put.n c.loop-rest.rest.now, grind (arith, common_steps), Adds-twice _ _ _ _ _ c.loop-rest.invariant.taken.2 c.in-Put.ensures.bytes);
-  count = omega (arith, c.in-Put.ensures.never_falls);
+  taken = (c.loop-rest.invariant.taken.0 ++ take c.in-Ok.n c.loop-rest.rest.now, grind (arith, common_steps), Adds-twice _ _ _ _ _ c.loop-rest.invariant.taken.2 c.in-Ok.ensures.bytes);
+  count = omega (arith, c.in-Ok.ensures.never_falls);
 }
 
-pub returns-in-Failed-clause-front : goal.returns-in-Failed-clause-front
-returns-in-Failed-clause-front g c =
-    AddsFirst-front _ _ _ _ _ (Adds-stays _ _ _ _ c.loop-rest.invariant.taken.2 c.in-Failed.ensures.kept) c.loop-rest.invariant.taken.1
+pub returns-in-Err-clause-front : goal.returns-in-Err-clause-front
+returns-in-Err-clause-front g c =
+    AddsFirst-front _ _ _ _ _ (Adds-stays _ _ _ _ c.loop-rest.invariant.taken.2 c.in-Err.ensures.kept) c.loop-rest.invariant.taken.1
