@@ -27,17 +27,17 @@ use Rattle.sweeper.specs.Answers.{plain_step, cause_out, cause_of, HandsOut, Tak
 use Rattle.sweeper.specs.Tokens.{IsMet}
 
 pub is_met : (graph : Graph) (callers limit : ℕ) (met : Met) (version size : ℕ) (nodes : List ℕ) (moves later : List Move)
-    → met.version ≡ version → met.out.nodes ≡ nodes → met.out.size ≡ size → later ≡ moves → size ≡ length graph.nodes
-    → IsGoing graph callers limit met.caller version nodes moves → met.looks.items ≡ [] → HasLooks graph callers limit version moves (vec_capacity met.looks)
+    → met.version ≡ version → met.luggage.value.out.nodes ≡ nodes → met.luggage.value.out.size ≡ size → later ≡ moves → size ≡ length graph.nodes
+    → IsGoing graph callers limit met.caller version nodes moves → met.luggage.value.looks.items ≡ [] → HasLooks graph callers limit version moves (vec_capacity met.luggage.value.looks)
     → IsMet graph callers limit met later
 is_met graph callers limit met version size nodes moves later v n z l all going empty looks = record {
-  going = subst (λ (w : ℕ). IsGoing graph callers limit met.caller w met.out.nodes later) (sym v)
+  going = subst (λ (w : ℕ). IsGoing graph callers limit met.caller w met.luggage.value.out.nodes later) (sym v)
       (subst (λ (ns : List ℕ). IsGoing graph callers limit met.caller version ns later) (sym n)
       (subst (λ (ms : List Move). IsGoing graph callers limit met.caller version nodes ms) (sym l) going));
   size = z ∙ all;
   empty = empty;
-  looks = subst (λ (w : ℕ). HasLooks graph callers limit w later (vec_capacity met.looks)) (sym v)
-      (subst (λ (ms : List Move). HasLooks graph callers limit version ms (vec_capacity met.looks)) (sym l) looks);
+  looks = subst (λ (w : ℕ). HasLooks graph callers limit w later (vec_capacity met.luggage.value.looks)) (sym v)
+      (subst (λ (ms : List Move). HasLooks graph callers limit version ms (vec_capacity met.luggage.value.looks)) (sym l) looks);
 }
 
 pub going-same : (graph : Graph) (callers limit caller version : ℕ) (nodes less : List ℕ) (front later : List Move) (out : List Answer)

@@ -1,12 +1,19 @@
--- Names of no sweeper, what contracts see under its lock, and the last entry of a log.
-use Rattle.std.specs.Prelude.{◌≡◌, ℕ, ◌≤◌, List, [], ◌∷◌, length, Option, Some, None, vec_capacity}
+-- What callers take along, names of no sweeper, what contracts see under its lock, and the last entry of a log.
+use Rattle.std.specs.Prelude.{◌≡◌, ℕ, ◌≤◌, List, [], ◌∷◌, length, map, Option, Some, None, Box, vec_capacity}
+use Rattle.std.specs.declared.alloc.Global.{Global}
 use Rattle.atomic_table.specs.Seated.{TableId}
+use Rattle.node_set.specs.Members.{Members}
 use Rattle.signal_graph.specs.declared.log.Logged.{Logged}
 use Rattle.signal_graph.specs.Graph.{Graph}
 use Rattle.signal_graph.specs.Machine.{looks_of_reply}
 use Rattle.flow_model.specs.Machine.Histories.{Move}
 use Rattle.caller_fronts.specs.Tokens.{Going, IsGoing, HasLooks, going_at}
 use Rattle.sweeper.specs.declared.locked.Met.{Met}
+use Rattle.sweeper.specs.declared.luggage.Luggage.{Luggage}
+
+-- the nodes of the jobs that are out, of each caller's luggage
+abbrev pub outs_of : List (Box Luggage Global) → List Members
+outs_of = map (λ (luggage : Box Luggage Global). luggage.value.out)
 
 -- the name of no table, and a graph without nodes
 abbrev pub no_table : TableId
@@ -23,14 +30,14 @@ pub record Held : Type 0 where
 
 -- A live call whose note was taken back goes on after the moves so far, and has the room that it needs.
 pub record IsMet (graph : Graph) (callers limit : ℕ) (met : Met) (moves : List Move) : Type 0 where
-  pub going : IsGoing graph callers limit met.caller met.version met.out.nodes moves
-  pub size : met.out.size ≡ length graph.nodes
-  pub empty : met.looks.items ≡ []
-  pub looks : HasLooks graph callers limit met.version moves (vec_capacity met.looks)
+  pub going : IsGoing graph callers limit met.caller met.version met.luggage.value.out.nodes moves
+  pub size : met.luggage.value.out.size ≡ length graph.nodes
+  pub empty : met.luggage.value.looks.items ≡ []
+  pub looks : HasLooks graph callers limit met.version moves (vec_capacity met.luggage.value.looks)
 
 -- what contracts see of it once it has a note of them
 abbrev pub met_at : Graph → ℕ → ℕ → Met → List Move → Going
-met_at graph callers limit met moves = going_at graph callers limit met.caller met.version met.out.nodes moves
+met_at graph callers limit met moves = going_at graph callers limit met.caller met.version met.luggage.value.out.nodes moves
 
 -- the last entry of a log
 abbrev pub last_of : List Logged → Option Logged

@@ -4,6 +4,7 @@
 mod callers;
 mod list;
 mod locked;
+mod luggage;
 mod moment;
 mod moves;
 mod naming;

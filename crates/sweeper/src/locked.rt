@@ -1,8 +1,8 @@
 // What lies under the lock.
 
 ghost use Rattle.std.specs.Prelude.{◌≡◌, ◌≢◌, ◌<◌, ◌≤◌, ◌^◌, ◌++◌, ◌∷◌, ◌+◌, suc, [], length, true, false, None, Some, option_map};
-ghost use Rattle.std.specs.Prelude.{replicate, vec_capacity, ℕ, IfOk, IfErr, OnOk, OnErr};
-ghost use Rattle.script_tree.specs.declared.limits.TheConstants.{NODES, THREADS, VERSIONS};
+ghost use Rattle.std.specs.Prelude.{vec_capacity, ℕ, IfOk, IfErr, OnOk, OnErr};
+ghost use Rattle.script_tree.specs.declared.limits.TheConstants.{THREADS, VERSIONS};
 ghost use Rattle.node_set.specs.Members.{no_members, first_from};
 ghost use Rattle.signal_graph.specs.Machine.{looks_of, looks_of_reply};
 ghost use Rattle.chronicle.specs.Entries.{events};
@@ -30,6 +30,7 @@ ghost use Rattle.sweeper.specs.Tokens.{HasLastReply, IsMet, met_at, last_of};
 
 use crate::callers::CallerSet;
 use crate::list::PassList;
+use crate::luggage::{Luggage, first_luggage};
 use crate::moment::Moment;
 use crate::moves::{Answered, Beginning, Made, Move};
 use crate::naming::Naming;
@@ -49,7 +50,6 @@ use flow_model::stored_laws::{histories_have_bounds, states_are_bounded};
 use flow_model::{Cause, Step, Turn};
 use flow_state::{Answer, JobRoom, Room};
 use interleave_core::{Core, Refusal};
-use node_set::NodeSet;
 use script_tree::items::Items;
 use script_tree::memory::OutOfMemory;
 use script_tree::value::Value;
@@ -86,8 +86,7 @@ impl<'g, J: Naming> Model for Locked<'g, J> {
 pub(crate) struct Met {
     caller: u32,
     version: u32,
-    out: NodeSet,
-    looks: Vec<Value>,
+    luggage: Box<Luggage>,
 }
 
 /// What a call takes besides its room: a copy of it, and room for the looks of the reply that the caller gets. It is made before the
@@ -147,20 +146,20 @@ impl<'g, J: Naming> Locked<'g, J> {
         ensures { IfOk result (λ passes. passes ≡ fresh 1 callers) }
     {
         let _ = &self.core;
-        let sets = empty_sets(alloc, nodes, callers)?;
+        let all = first_luggage(alloc, nodes, callers)?;
         let mut passes = PassList::new(alloc, callers as usize)?;
         let mut caller = 0;
-        for out in sets {
+        for luggage in all {
             caller += 1;
-            passes.push(self.first_pass(caller, out));
+            passes.push(self.first_pass(caller, luggage));
         }
         Ok(passes)
     }
 
     // The pass of a caller that has seen nothing.
-    fn first_pass(&mut self, caller: u32, out: NodeSet) -> Pass<J>
+    fn first_pass(&mut self, caller: u32, luggage: Box<Luggage>) -> Pass<J>
         requires caller { (0 < caller) × (caller ≤ J.callers) }
-        requires nodes { out ≡ no_members (length J.graph.nodes) }
+        requires nodes { luggage.value.out ≡ no_members (length J.graph.nodes) }
         requires first { self.old.moves ≡ [] }
         requires free { is_out caller self.old.out ≡ false }
         ensures pass { result ≡ record { caller = caller; front = [] } }
@@ -170,7 +169,7 @@ impl<'g, J: Naming> Locked<'g, J> {
         Pass {
             caller,
             note,
-            out,
+            luggage,
             of: PhantomData,
         }
     }
@@ -203,6 +202,7 @@ impl<'g, J: Naming> Locked<'g, J> {
     }
 
     /// Those that the last move lets go on, where there are any.
+    #[inline(always)]
     pub(crate) fn take_freed(&mut self) -> Option<CallerSet>
         ensures { self.new ≡ self.old }
     {
@@ -257,6 +257,7 @@ impl<'g, J: Naming> Locked<'g, J> {
     }
 
     // Takes a note back: what it has not seen are moves that are not its caller's own.
+    #[inline(always)]
     fn learn(&mut self, note: Note<Move>)
         requires table { note.table ≡ J.table }
         requires some { 0 < note.key }
@@ -269,6 +270,7 @@ impl<'g, J: Naming> Locked<'g, J> {
     }
 
     // A note of a caller, with all moves so far.
+    #[inline(always)]
     fn note(&mut self, caller: u32) -> Note<Move>
         requires { is_out caller self.old.out ≡ false }
         ensures note { (result.table ≡ J.table) × (result.key ≡ caller) × (events result.list ≡ self.old.moves) }
@@ -278,6 +280,7 @@ impl<'g, J: Naming> Locked<'g, J> {
     }
 
     // Makes a step of a caller, while some call lives.
+    #[inline(always)]
     fn make(&mut self, caller: u32, step: Step)
         requires lives { (state J.graph J.callers J.limit self.old.moves).calls ≢ [] }
         requires allowed { allowed J.graph (state J.graph J.callers J.limit self.old.moves) step ≡ true }
@@ -315,13 +318,13 @@ impl<'g, J: Naming> Locked<'g, J> {
         let Pass {
             caller,
             note,
-            out,
+            luggage,
             of: _,
         } = pass;
         self.learn(note);
         match self.admit(alloc, call) {
-            Ok(room) => self.start(caller, out, prepared, room),
-            Err(refusal) => Begun::Refused(self.pass(caller, out), refusal),
+            Ok(room) => self.start(caller, luggage, prepared, room),
+            Err(refusal) => Begun::Refused(self.pass(caller, luggage), refusal),
         }
     }
 
@@ -342,9 +345,9 @@ impl<'g, J: Naming> Locked<'g, J> {
     }
 
     // The pass of a caller that has no live call.
-    fn pass(&mut self, caller: u32, out: NodeSet) -> Pass<J>
+    fn pass(&mut self, caller: u32, luggage: Box<Luggage>) -> Pass<J>
         requires idle { IsIdle J.graph J.callers J.limit caller self.old.moves }
-        requires nodes { out ≡ no_members (length J.graph.nodes) }
+        requires nodes { luggage.value.out ≡ no_members (length J.graph.nodes) }
         requires free { is_out caller self.old.out ≡ false }
         ensures pass { result ≡ record { caller = caller; front = self.old.moves } }
         ensures after { self.new ≡ record self.old { out = out_with caller self.old.out } }
@@ -353,7 +356,7 @@ impl<'g, J: Naming> Locked<'g, J> {
         Pass {
             caller,
             note,
-            out,
+            luggage,
             of: PhantomData,
         }
     }
@@ -362,12 +365,12 @@ impl<'g, J: Naming> Locked<'g, J> {
     fn start(
         &mut self,
         caller: u32,
-        out: NodeSet,
+        luggage: Box<Luggage>,
         prepared: Result<Prepared, OutOfMemory>,
         room: Room,
     ) -> Begun<J>
         requires idle { IsIdle J.graph J.callers J.limit caller self.old.moves }
-        requires nodes { out ≡ no_members (length J.graph.nodes) }
+        requires nodes { luggage.value.out ≡ no_members (length J.graph.nodes) }
         requires free { is_out caller self.old.out ≡ false }
         requires can { IfOk prepared (λ p. can_begin J.graph (state J.graph J.callers J.limit self.old.moves) caller p.call ≡ true) }
         requires looks { IfOk prepared (λ p. (p.looks.items ≡ []) × (length (looks_of p.call) ≤ vec_capacity p.looks)) }
@@ -378,11 +381,11 @@ impl<'g, J: Naming> Locked<'g, J> {
         match prepared {
             Ok(prepared) => {
                 let Prepared { call, looks } = prepared;
-                Begun::Live(self.start_call(caller, out, looks, call, room))
+                Begun::Live(self.start_call(caller, luggage, looks, call, room))
             }
             Err(_) => {
                 self.core.give_back(room);
-                Begun::Refused(self.pass(caller, out), Refusal::Memory)
+                Begun::Refused(self.pass(caller, luggage), Refusal::Memory)
             }
         }
     }
@@ -391,13 +394,13 @@ impl<'g, J: Naming> Locked<'g, J> {
     fn start_call(
         &mut self,
         caller: u32,
-        out: NodeSet,
+        luggage: Box<Luggage>,
         looks: Vec<Value>,
         call: Call,
         room: Room,
     ) -> Live<J>
         requires idle { IsIdle J.graph J.callers J.limit caller self.old.moves }
-        requires nodes { out ≡ no_members (length J.graph.nodes) }
+        requires nodes { luggage.value.out ≡ no_members (length J.graph.nodes) }
         requires free { is_out caller self.old.out ≡ false }
         requires can { can_begin J.graph (state J.graph J.callers J.limit self.old.moves) caller call ≡ true }
         requires looks { (looks.items ≡ []) × (length (looks_of call) ≤ vec_capacity looks) }
@@ -412,12 +415,13 @@ impl<'g, J: Naming> Locked<'g, J> {
     {
         let _ = &self.core;
         beginnings_make_calls();
+        let mut luggage = luggage;
+        luggage.put_looks(looks);
         let version = self.make_beginning(caller, call, room);
         self.live(Met {
             caller,
             version,
-            out,
-            looks,
+            luggage,
         })
     }
 
@@ -446,6 +450,7 @@ impl<'g, J: Naming> Locked<'g, J> {
     }
 
     /// Makes the step that comes next for a live call, or says why there is none, or gives the job that comes next.
+    #[inline(always)]
     pub(crate) fn advance<'r>(&mut self, live: Live<J>, room: &'r mut JobRoom) -> Advance<'g, 'r, J>
         ensures later { IsLater J.graph J.callers J.limit live.caller live.front self.old.moves }
         ensures answer { Advances J.graph J.callers J.limit live self.old.moves result }
@@ -472,6 +477,7 @@ impl<'g, J: Naming> Locked<'g, J> {
     }
 
     // What comes next for a live call.
+    #[inline(always)]
     fn next(&self, version: u32) -> Turn
         requires { live (state J.graph J.callers J.limit self.now.moves) version ≡ true }
         ensures turn { result ≡ next J.graph (state J.graph J.callers J.limit self.now.moves) version }
@@ -495,11 +501,12 @@ impl<'g, J: Naming> Locked<'g, J> {
     }
 
     // Takes the note of a live call back.
+    #[inline(always)]
     fn meet(&mut self, live: Live<J>) -> Met
         ensures later { IsLater J.graph J.callers J.limit live.caller live.front self.old.moves }
         ensures met { IsMet J.graph J.callers J.limit result self.old.moves }
         ensures same { met_at J.graph J.callers J.limit result self.old.moves ≡ seen live self.old.moves }
-        ensures nodes { jobs_at J.graph (state J.graph J.callers J.limit live.front) live.version result.out.nodes ≡ live.out }
+        ensures nodes { jobs_at J.graph (state J.graph J.callers J.limit live.front) live.version result.luggage.value.out.nodes ≡ live.out }
         ensures free { is_out result.caller self.new.out ≡ false }
         ensures after { self.new ≡ record self.old { out = out_without live.caller self.old.out } }
     {
@@ -509,20 +516,19 @@ impl<'g, J: Naming> Locked<'g, J> {
             caller,
             version,
             note,
-            out,
-            looks,
+            luggage,
             of: _,
         } = live;
         self.learn(note);
         Met {
             caller,
             version,
-            out,
-            looks,
+            luggage,
         }
     }
 
     // What a turn of a live call comes to.
+    #[inline(always)]
     fn take<'r>(&mut self, met: Met, turn: Turn, room: &'r mut JobRoom) -> Advance<'g, 'r, J>
         requires met { IsMet J.graph J.callers J.limit met self.old.moves }
         requires free { is_out met.caller self.old.out ≡ false }
@@ -547,6 +553,7 @@ impl<'g, J: Naming> Locked<'g, J> {
     }
 
     // What a step that comes next comes to.
+    #[inline(always)]
     fn take_step<'r>(&mut self, met: Met, step: Step, room: &'r mut JobRoom) -> Advance<'g, 'r, J>
         requires met { IsMet J.graph J.callers J.limit met self.old.moves }
         requires free { is_out met.caller self.old.out ≡ false }
@@ -561,6 +568,7 @@ impl<'g, J: Naming> Locked<'g, J> {
     }
 
     // A step of a live call that needs no job.
+    #[inline(always)]
     fn step(&mut self, met: Met, step: Step) -> Live<J>
         requires met { IsMet J.graph J.callers J.limit met self.old.moves }
         requires free { is_out met.caller self.old.out ≡ false }
@@ -586,15 +594,16 @@ impl<'g, J: Naming> Locked<'g, J> {
         steps_keep_calls();
         histories_are_lawful();
         let mut met = met;
-        if met.out.contains(node) {
+        if met.luggage.is_out(node) {
             return Advance::NotYet(self.live(met), Cause::JobOut { node });
         }
-        met.out.insert(node);
+        met.luggage.hand_out(node);
         let job = self.core.job(met.version, node, room);
         Advance::Evaluate(self.live(met), job)
     }
 
     // A live call that has seen all moves so far.
+    #[inline(always)]
     fn live(&mut self, met: Met) -> Live<J>
         requires met { IsMet J.graph J.callers J.limit met self.old.moves }
         requires free { is_out met.caller self.old.out ≡ false }
@@ -604,21 +613,20 @@ impl<'g, J: Naming> Locked<'g, J> {
         let Met {
             caller,
             version,
-            out,
-            looks,
+            luggage,
         } = met;
         let note = self.note(caller);
         Live {
             caller,
             version,
             note,
-            out,
-            looks,
+            luggage,
             of: PhantomData,
         }
     }
 
     /// Hands in an answer.
+    #[inline(always)]
     pub(crate) fn put(&mut self, live: Live<J>, answer: Answer) -> Live<J>
         requires { job_of answer.node live.out ≡ Some answer }
         ensures later { IsLater J.graph J.callers J.limit live.caller live.front self.old.moves }
@@ -629,6 +637,7 @@ impl<'g, J: Naming> Locked<'g, J> {
     }
 
     // Hands in an answer of a live call that has seen all moves.
+    #[inline(always)]
     fn put_met(&mut self, met: Met, answer: Answer) -> Live<J>
         requires met { IsMet J.graph J.callers J.limit met self.old.moves }
         requires free { is_out met.caller self.old.out ≡ false }
@@ -639,13 +648,13 @@ impl<'g, J: Naming> Locked<'g, J> {
         jobs_have_nodes();
         steps_keep_calls();
         let mut met = met;
-        met.out.is_kept();
-        met.out.remove(answer.node);
+        met.luggage.take_back(answer.node);
         self.make_answer(met.caller, answer);
         self.live(met)
     }
 
     // Makes the step of an answer, while some call lives.
+    #[inline(always)]
     fn make_answer(&mut self, caller: u32, answer: Answer)
         requires lives { (state J.graph J.callers J.limit self.old.moves).calls ≢ [] }
         requires allowed { allowed J.graph (state J.graph J.callers J.limit self.old.moves) (step_of answer) ≡ true }
@@ -719,12 +728,12 @@ impl<'g, J: Naming> Locked<'g, J> {
         let Met {
             caller,
             version,
-            out,
-            looks,
+            luggage,
         } = met;
         self.make(caller, Step::End { version });
-        let reply = self.last_reply(looks);
-        Ended::Ended(self.pass(caller, out), reply)
+        let mut luggage = luggage;
+        let reply = self.last_reply(luggage.take_looks());
+        Ended::Ended(self.pass(caller, luggage), reply)
     }
 
     // A copy of the last reply of the log, in the room that there is.
@@ -749,7 +758,7 @@ impl<'g, J: Naming> Locked<'g, J> {
                 let Pass {
                     caller: _,
                     note,
-                    out: _,
+                    luggage: _,
                     of: _,
                 } = pass;
                 tokens_stay();
@@ -783,18 +792,6 @@ impl<'g, J: Naming> Locked<'g, J> {
         let (log, finals) = self.core.finish();
         Closed { log, finals }
     }
-}
-
-// So many empty sets of nodes.
-fn empty_sets(alloc: Global, nodes: u32, count: u32) -> Result<Vec<NodeSet>, OutOfMemory>
-    requires { nodes ≤ NODES }
-    ensures { IfOk result (λ sets. sets.items ≡ replicate count (no_members nodes)) }
-{
-    let mut sets = Vec::with_capacity(alloc, count as usize)?;
-    for _ in 0..count {
-        sets.push_reserved(NodeSet::new(alloc, nodes)?);
-    }
-    Ok(sets)
 }
 
 // A copy of a reply, with its looks in the room that there is.

@@ -101,6 +101,7 @@ impl<'g, J: Naming> Sweeper<'g, J> {
     /// Makes the step that comes next for a live call, or says why there is none, or hands out the job of the evaluation that comes
     /// next. Such a job counts as out until its answer is put; the values that it is over lie in the room, so a second job that is out
     /// at the same time needs a room of its own. Locks. Takes no memory.
+    #[inline(always)]
     pub fn advance<'r, R: Wait>(
         &self,
         rt: &R,
@@ -150,6 +151,7 @@ impl<'g, J: Naming> Sweeper<'g, J> {
 
     /// Hands in the answer of a job of a live call that is out: the step is made that its outcome names, and the job is out no more.
     /// Locks. Takes no memory.
+    #[inline(always)]
     pub fn put<R: Wait>(&self, rt: &R, live: Live<J>, answer: Answer) -> Live<J>
         requires { job_of answer.node live.out ≡ Some answer }
         ensures { (f : List AnyMove) × IsLater J.graph J.callers J.limit live.caller live.front f

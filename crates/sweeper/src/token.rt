@@ -2,14 +2,13 @@
 
 ghost use Rattle.std.specs.Prelude.{◌≡◌, length};
 
+use crate::luggage::Luggage;
 use crate::moves::Move;
 use crate::naming::Naming;
 use chronicle::Note;
 use flow_model::Cause;
 use flow_state::Job;
 use interleave_core::Refusal;
-use node_set::NodeSet;
-use script_tree::value::Value;
 use signal_graph::call::Reply;
 use std::marker::{Model, PhantomData};
 
@@ -18,8 +17,8 @@ use std::marker::{Model, PhantomData};
 pub struct Pass<J: Naming> {
     pub(crate) caller: u32,
     pub(crate) note: Note<Move>,
-    // The nodes of jobs that are out: none, and room for all.
-    pub(crate) out: NodeSet,
+    // No job of it is out.
+    pub(crate) luggage: Box<Luggage>,
     pub(crate) of: PhantomData<J>,
 }
 
@@ -33,7 +32,7 @@ impl<J: Naming> Model for Pass<J> {
 
     ghost view = { λ p. record { caller = p.caller; front = events p.note.list } };
 
-    ghost invariant = { λ p. (p.note.table ≡ J.table) × (p.note.key ≡ p.caller) × (p.out ≡ no_members (length J.graph.nodes))
+    ghost invariant = { λ p. (p.note.table ≡ J.table) × (p.note.key ≡ p.caller) × (p.luggage.value.out ≡ no_members (length J.graph.nodes))
         × IsIdle J.graph J.callers J.limit p.caller (events p.note.list) };
 }
 
@@ -43,10 +42,8 @@ pub struct Live<J: Naming> {
     pub(crate) caller: u32,
     pub(crate) version: u32,
     pub(crate) note: Note<Move>,
-    // The nodes of the jobs that are out.
-    pub(crate) out: NodeSet,
-    // The room for the looks of the reply that the caller gets.
-    pub(crate) looks: Vec<Value>,
+    // The nodes of the jobs that are out, and the room for the looks of the reply.
+    pub(crate) luggage: Box<Luggage>,
     pub(crate) of: PhantomData<J>,
 }
 
@@ -65,13 +62,13 @@ impl<J: Naming> Model for Live<J> {
       caller = l.caller;
       front = events l.note.list;
       version = l.version;
-      out = jobs_at J.graph (state J.graph J.callers J.limit (events l.note.list)) l.version l.out.nodes;
+      out = jobs_at J.graph (state J.graph J.callers J.limit (events l.note.list)) l.version l.luggage.value.out.nodes;
     } };
 
-    ghost invariant = { λ l. (l.note.table ≡ J.table) × (l.note.key ≡ l.caller) × (l.out.size ≡ length J.graph.nodes)
-        × IsGoing J.graph J.callers J.limit l.caller l.version l.out.nodes (events l.note.list) × (l.looks.items ≡ [])
+    ghost invariant = { λ l. (l.note.table ≡ J.table) × (l.note.key ≡ l.caller) × (l.luggage.value.out.size ≡ length J.graph.nodes)
+        × IsGoing J.graph J.callers J.limit l.caller l.version l.luggage.value.out.nodes (events l.note.list) × (l.luggage.value.looks.items ≡ [])
         × (length (looks_of (call (state J.graph J.callers J.limit (events l.note.list)) l.version).call)
-        ≤ vec_capacity l.looks) };
+        ≤ vec_capacity l.luggage.value.looks) };
 }
 
 /// How a beginning went.

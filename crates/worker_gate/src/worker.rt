@@ -42,6 +42,7 @@ fn end<J: Naming, R: Wait>(
 }
 
 // What a call does next: a step, an evaluation, its end; or it waits.
+#[inline(always)]
 fn go_on<J: Naming, G: Gate, R: Wait>(
     rt: &R,
     sweeper: &Sweeper<'_, J>,

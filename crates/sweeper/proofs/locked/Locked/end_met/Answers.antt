@@ -1,4 +1,4 @@
-use Rattle.std.proofs.Common.{ℕ, ◌≤◌, List, length, sym, ap, ◌∙◌, subst, vec_capacity}
+use Rattle.std.proofs.Common.{ℕ, ◌≤◌, List, length, sym, ap, ◌∙◌, subst, Vec, vec_capacity}
 use Rattle.flow_model.specs.declared.step.Step.TheVariants as steps
 use Rattle.flow_model.specs.Machine.State.{Core, call}
 use Rattle.flow_model.specs.Machine.Steps.{logged}
@@ -6,6 +6,10 @@ use Rattle.flow_model.specs.Machine.Histories.{Move, Make, state}
 use Rattle.caller_fronts.specs.Tokens.{Idle, IsIdle}
 use Rattle.caller_fronts.proofs.KeysTell.{history-more}
 use Rattle.caller_fronts.proofs.Rests.{some-live}
+use Rattle.signal_graph.specs.Machine.{looks_of_reply}
+use Rattle.std.specs.declared.alloc.Global.{Global}
+use Rattle.script_tree.specs.declared.value.Value.{Value}
+use Rattle.sweeper.specs.declared.luggage.Luggage.{Luggage}
 use Rattle.sweeper.specs.Tokens.{last_of}
 use Rattle.sweeper.proofs.LastReply.{last-more, last-reply, no-members}
 use Rattle.sweeper.proofs.locked.Locked.end_met.Goals as goal
@@ -27,25 +31,31 @@ last_reply-reply-requires-clause-room g c =
     let e = ap (λ h. h.moves) c.make.ensures in
     let x = call s m.version in
     let fits = c.states_are_bounded.ensures.looks j.graph s lawful m.version c.requires.allowed in
-    let room = c.requires.met.looks in record {
+    let room = c.requires.met.looks in
+    let looks = c.take_looks.ensures.looks ∙ ap (λ (l : Luggage). l.looks) c.deref_mut.ensures.value in record {
       entry = logged x;
       last = ap (λ (ms : List Move). last_of (state j.graph j.callers j.limit ms).log) e ∙ ap (λ (q : Core). last_of q.log) more.1 ∙ last-more s.log (logged x);
-      fits = subst (λ (n : ℕ). n ≤ vec_capacity m.looks) (sym fits) room;
+      fits = subst (λ (v : Vec Value Global). length (looks_of_reply (logged x).reply) ≤ vec_capacity v) (sym looks) (subst (λ (n : ℕ). n ≤ vec_capacity m.luggage.value.looks) (sym fits) room);
     }
+
+pub last_reply-reply-requires-clause-empty : goal.last_reply-reply-requires-clause-empty
+last_reply-reply-requires-clause-empty g c =
+    ap (λ (v : Vec Value Global). v.items) (c.take_looks.ensures.looks ∙ ap (λ (l : Luggage). l.looks) c.deref_mut.ensures.value) ∙ c.requires.met.empty
 
 pub pass-requires-clause-idle : goal.pass-requires-clause-idle
 pass-requires-clause-idle g c =
     let j = g.J.Naming in
     let m = c.args.met in
     subst (λ (ms : List Move). IsIdle j.graph j.callers j.limit m.caller ms) (sym (ap (λ h. h.moves) c.make.ensures))
-    (c.ends_leave_callers_idle.ensures.idle j.graph j.callers j.limit m.caller m.version m.out.nodes c.args.self.now.moves c.requires.met.going c.requires.allowed)
+    (c.ends_leave_callers_idle.ensures.idle j.graph j.callers j.limit m.caller m.version m.luggage.value.out.nodes c.args.self.now.moves c.requires.met.going c.requires.allowed)
 
 pub pass-requires-clause-nodes : goal.pass-requires-clause-nodes
 pass-requires-clause-nodes g c =
     let j = g.J.Naming in
     let m = c.args.met in
-    no-members m.out (length j.graph.nodes)
-    (c.ends_leave_callers_idle.ensures.jobs j.graph c.self.invariant.1.is_graph j.callers j.limit m.caller m.version m.out.nodes c.args.self.now.moves c.requires.met.going c.requires.allowed)
+    c.take_looks.ensures.out ∙ ap (λ (l : Luggage). l.out) c.deref_mut.ensures.value
+    ∙ no-members m.luggage.value.out (length j.graph.nodes)
+    (c.ends_leave_callers_idle.ensures.jobs j.graph c.self.invariant.1.is_graph j.callers j.limit m.caller m.version m.luggage.value.out.nodes c.args.self.now.moves c.requires.met.going c.requires.allowed)
     c.requires.met.size
 
 pub returns : goal.returns

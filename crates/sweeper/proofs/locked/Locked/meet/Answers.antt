@@ -17,10 +17,10 @@ returns-clause-met g c =
     let i = c.live.invariant in
     let front = events m.note.list in
     let l = subst (λ (k : ℕ). IsLater j.graph j.callers j.limit k front c.args.self.now.moves) i.1 c.learn.ensures.later in record {
-      going = c.tokens_stay.ensures.going j.graph c.self.invariant.1.is_graph j.callers j.limit m.caller m.version m.out.nodes front c.args.self.now.moves l i.3;
+      going = c.tokens_stay.ensures.going j.graph c.self.invariant.1.is_graph j.callers j.limit m.caller m.version m.luggage.value.out.nodes front c.args.self.now.moves l i.3;
       size = i.2;
       empty = i.4;
-      looks = c.tokens_stay.ensures.looks j.graph j.callers j.limit m.caller m.version (vec_capacity m.looks) m.out.nodes front c.args.self.now.moves l i.3 i.5;
+      looks = c.tokens_stay.ensures.looks j.graph j.callers j.limit m.caller m.version (vec_capacity m.luggage.value.looks) m.luggage.value.out.nodes front c.args.self.now.moves l i.3 i.5;
     }
 
 pub returns-clause-same : goal.returns-clause-same
@@ -30,5 +30,5 @@ returns-clause-same g c =
     let i = c.live.invariant in
     let front = events m.note.list in
     let l = subst (λ (k : ℕ). IsLater j.graph j.callers j.limit k front c.args.self.now.moves) i.1 c.learn.ensures.later in
-    ap (λ (out : List Answer). going m.caller m.version c.args.self.now.moves out) (c.tokens_stay.ensures.jobs j.graph c.self.invariant.1.is_graph j.callers j.limit m.caller m.version m.out.nodes front c.args.self.now.moves l i.3)
+    ap (λ (out : List Answer). going m.caller m.version c.args.self.now.moves out) (c.tokens_stay.ensures.jobs j.graph c.self.invariant.1.is_graph j.callers j.limit m.caller m.version m.luggage.value.out.nodes front c.args.self.now.moves l i.3)
     ∙ ap (λ (v : Going). seen v c.args.self.now.moves) c.live.view_is

@@ -1,4 +1,4 @@
-use Rattle.std.proofs.Common.{length, map, ap, arith}
+use Rattle.std.proofs.Common.{length, ap, arith}
 use Rattle.std.proofs.lemmas.List.{length-map}
 use Rattle.flow_model.specs.Parts.Books.{Book, work_in}
 use Rattle.sweeper.proofs.locked.Locked.nearest_frame.Goals as goal

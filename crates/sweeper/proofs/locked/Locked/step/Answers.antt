@@ -16,11 +16,11 @@ live-requires-clause-met g c =
     let moves = c.args.self.now.moves in
     let may = c.requires.turn.allowed c.args.step refl in
     let no_end = c.requires.turn.goes_on c.args.step refl in
-    let after = c.steps_keep_calls.ensures.going j.graph c.self.invariant.1.is_graph j.callers j.limit m.caller m.version m.out.nodes moves c.args.step
-    c.requires.met.going may no_end (plain-no_job c.args.step m.version m.out.nodes c.requires.plain) in
-    is_met j.graph j.callers j.limit m m.version m.out.size m.out.nodes (moves ++ Make c.args.step ∷ []) c.make.new.self.moves
+    let after = c.steps_keep_calls.ensures.going j.graph c.self.invariant.1.is_graph j.callers j.limit m.caller m.version m.luggage.value.out.nodes moves c.args.step
+    c.requires.met.going may no_end (plain-no_job c.args.step m.version m.luggage.value.out.nodes c.requires.plain) in
+    is_met j.graph j.callers j.limit m m.version m.luggage.value.out.size m.luggage.value.out.nodes (moves ++ Make c.args.step ∷ []) c.make.new.self.moves
     refl refl refl (ap (λ h. h.moves) c.make.ensures) c.requires.met.size after c.requires.met.empty
-    (c.steps_keep_calls.ensures.looks j.graph j.callers j.limit m.caller m.version (vec_capacity m.looks) m.out.nodes moves c.args.step c.requires.met.going may no_end c.requires.met.looks)
+    (c.steps_keep_calls.ensures.looks j.graph j.callers j.limit m.caller m.version (vec_capacity m.luggage.value.looks) m.luggage.value.out.nodes moves c.args.step c.requires.met.going may no_end c.requires.met.looks)
 
 pub returns : goal.returns
 returns g c =
@@ -28,7 +28,7 @@ returns g c =
     let m = c.args.met in
     let moves = c.args.self.now.moves in
     c.live.ensures.live
-    ∙ going-same j.graph j.callers j.limit m.caller m.version m.out.nodes m.out.nodes c.make.new.self.moves (moves ++ Make c.args.step ∷ []) _
+    ∙ going-same j.graph j.callers j.limit m.caller m.version m.luggage.value.out.nodes m.luggage.value.out.nodes c.make.new.self.moves (moves ++ Make c.args.step ∷ []) _
     refl (ap (λ h. h.moves) c.make.ensures)
-    (c.steps_keep_calls.ensures.jobs j.graph c.self.invariant.1.is_graph j.callers j.limit m.caller m.version m.out.nodes moves c.args.step
-    c.requires.met.going (c.requires.turn.allowed c.args.step refl) (plain-no_job c.args.step m.version m.out.nodes c.requires.plain))
+    (c.steps_keep_calls.ensures.jobs j.graph c.self.invariant.1.is_graph j.callers j.limit m.caller m.version m.luggage.value.out.nodes moves c.args.step
+    c.requires.met.going (c.requires.turn.allowed c.args.step refl) (plain-no_job c.args.step m.version m.luggage.value.out.nodes c.requires.plain))
