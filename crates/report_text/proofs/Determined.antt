@@ -18,24 +18,7 @@ use Rattle.report_text.specs.declared.data.Report.{Report}
 use Rattle.report_text.specs.Printed.{line_of, data_of}
 use Rattle.report_text.specs.Runs.{Run, IsRun, text_of}
 use Rattle.report_text.proofs.OneReport.{one_report, one_zip, run_is_data}
-
--- ---- lists by their first item
-
-first_or : {A : Type 0} → A → List A → A
-first_or x [] = x
-first_or x (y ∷ ys) = y
-
-rest_of : {A : Type 0} → List A → List A
-rest_of [] = []
-rest_of (y ∷ ys) = ys
-
-pub same_first : {A : Type 0} (x y : A) (xs ys : List A) → x ∷ xs ≡ y ∷ ys → x ≡ y
-unfolding first_or
-same_first x y xs ys e = ap (first_or x) e
-
-pub same_rest : {A : Type 0} (x y : A) (xs ys : List A) → x ∷ xs ≡ y ∷ ys → xs ≡ ys
-unfolding rest_of
-same_rest x y xs ys e = ap rest_of e
+use Rattle.report_text.proofs.Firsts.{same_first, same_rest}
 
 -- ---- the calls of one caller
 

@@ -15,8 +15,9 @@ use Rattle.report_text.specs.declared.data.CallLine.{CallLine}
 use Rattle.report_text.specs.Pieces.{Ends, IsBlankFirst, IsValue}
 use Rattle.report_text.specs.Report.{counted, named_value, more_looks, looks_text, fire_looks, fire_text, reply_text, line_end, why_text, refused_line, final_line, done_line}
 use Rattle.report_text.specs.Printed.{line_text, IsLook, AreLooks, IsReply, IsWhy, NoCall, NoRefusal, NoFinal}
-use Rattle.report_text.proofs.Unique.{one_piece, one_named, inner_name, same_head, same_tail, not_empty, numbers_differ, blank_ends, behind_count}
+use Rattle.report_text.proofs.Unique.{one_piece, one_named, inner_name, numbers_differ, blank_ends, behind_count}
 use Rattle.report_text.proofs.LooksLaws.{looks_end}
+use Rattle.report_text.proofs.Firsts.{same_first, same_rest, not_empty}
 
 -- behind two labels and their numbers stands one text alone
 pub behind_counts : (text first second : List ℕ) (a b : ℕ) (behind : List ℕ) (m n : ℕ) (rest : List ℕ) → IsBlankFirst second → a < 2 ^ 32 → b < 2 ^ 32 → m < 2 ^ 32 → n < 2 ^ 32 → Ends behind → Ends rest
@@ -49,8 +50,8 @@ one_why text (UnknownName p) (UnknownName q) y z hv hw hy hz e f =
 one_why text (VersionsUsedUp p) (VersionsUsedUp q) y z hv hw hy hz e f =
     let parts = behind_count text (codes " versions used up ") p q y z hv hw hy hz (e ∙ append_assoc (codes " versions used up ") (decimal p) y) (f ∙ append_assoc (codes " versions used up ") (decimal q) z) in
     (ap VersionsUsedUp parts.0, parts.1)
-one_why text (UnknownName p) (VersionsUsedUp q) y z hv hw hy hz e f = absurd (numbers_differ 117 118 (omega arith) (same_head 117 118 _ _ (same_tail 32 32 _ _ (sym e ∙ f))))
-one_why text (VersionsUsedUp p) (UnknownName q) y z hv hw hy hz e f = absurd (numbers_differ 117 118 (omega arith) (same_head 117 118 _ _ (same_tail 32 32 _ _ (sym f ∙ e))))
+one_why text (UnknownName p) (VersionsUsedUp q) y z hv hw hy hz e f = absurd (numbers_differ 117 118 (omega arith) (same_first 117 118 _ _ (same_rest 32 32 _ _ (sym e ∙ f))))
+one_why text (VersionsUsedUp p) (UnknownName q) y z hv hw hy hz e f = absurd (numbers_differ 117 118 (omega arith) (same_first 117 118 _ _ (same_rest 32 32 _ _ (sym f ∙ e))))
 
 pub refused_flat : (refused : Refused) (rest : List ℕ) → refused_line refused ++ rest ≡ counted (codes "refused thread ") refused.caller (counted (codes " call ") refused.number (why_text refused.why ++ 10 ∷ rest))
 refused_flat refused rest =
@@ -87,7 +88,7 @@ no_looks text none (look ∷ looks) after are e =
     absurd (none look.0 look.1 (more_looks looks ++ 10 ∷ after) are.0.0 are.0.1 (looks_end looks after) (e ∙ append_assoc (named_value look) (more_looks looks) (10 ∷ after)))
 
 pub looks_behind : (text behind : List ℕ) → text ≡ codes " look " ++ behind → (them : List (List ℕ × Value)) (after : List ℕ) → text ≡ fire_looks them ++ 10 ∷ after → (them ≢ []) × (behind ≡ looks_text them ++ 10 ∷ after)
-looks_behind text behind first [] after e = absurd (numbers_differ 10 32 (omega arith) (sym (same_head 32 10 _ _ (sym first ∙ e))))
+looks_behind text behind first [] after e = absurd (numbers_differ 10 32 (omega arith) (sym (same_first 32 10 _ _ (sym first ∙ e))))
 looks_behind text behind first (look ∷ looks) after e =
     (λ none. has_no_look none, append_cancel_left (codes " look ") behind (looks_text (look ∷ looks) ++ 10 ∷ after) (sym first ∙ e))
   where
@@ -112,7 +113,7 @@ only_fire Q text no_read all names (Seen values) after is e = absurd (no_read (l
 -- a reply with that word is one of a read
 pub only_read : (text behind result : List ℕ) → text ≡ codes " read " ++ behind → ((them : List (List ℕ × Value)) (after : List ℕ) → AreLooks them → behind ≡ looks_text them ++ 10 ∷ after → result ≡ 10 ∷ after)
     → (names : List (List ℕ)) (it : Reply) (after : List ℕ) → IsReply names it → text ≡ reply_text names it ++ 10 ∷ after → result ≡ 10 ∷ after
-only_read text behind result first all names (Fired a b values) after is e = absurd (numbers_differ 102 114 (omega arith) (sym (same_head 114 102 _ _ (same_tail 32 32 _ _ (sym first ∙ e)))))
+only_read text behind result first all names (Fired a b values) after is e = absurd (numbers_differ 102 114 (omega arith) (sym (same_first 114 102 _ _ (same_rest 32 32 _ _ (sym first ∙ e)))))
 only_read text behind result first all names (Seen values) after is e =
     all (zip names values) after is.1 (append_cancel_left (codes " read ") behind (looks_text (zip names values) ++ 10 ∷ after)
     (sym first ∙ e ∙ append_assoc (codes " read ") (looks_text (zip names values)) (10 ∷ after)))

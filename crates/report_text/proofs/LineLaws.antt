@@ -1,7 +1,7 @@
 -- One more line, and one more look, behind those that were read.
 use Rattle.std.proofs.Common.{◌≡◌, ℕ, ◌+◌, ◌<◌, ◌≤◌, List, [], ◌∷◌, ◌++◌, length, refl, sym, ap, ◌∙◌, append_assoc, append-nil, length-append, arith, codes, Bool, false, true≢false}
 use Rattle.std.specs.Prelude.{IsTrue, decimal}
-use Rattle.std.specs.List.{AllByRecursion, flat_map, zip}
+use Rattle.std.specs.List.{flat_map, zip}
 use Rattle.std.proofs.lemmas.List.Concat.{flat_map-append}
 use Rattle.script_tree.specs.declared.value.Value.{Value}
 use Rattle.report_text.specs.Report.{counted, named_value, more_looks, looks_text, fire_looks, fire_text}
@@ -14,10 +14,6 @@ line_added f xs x text rest after whole next =
     ∙ sym (append_assoc (flat_map f xs) (f x) after)
     ∙ ap (λ v. (flat_map f xs ++ v) ++ after) (sym (append-nil (f x)))
     ∙ ap (λ v. v ++ after) (sym (flat_map-append f xs (x ∷ [])))
-
-pub all_added : {A : Type 0} (P : A → Type 0) (xs : List A) (x : A) → AllByRecursion P xs → P x → AllByRecursion P (xs ++ x ∷ [])
-all_added P [] x each one = (one, tt)
-all_added P (y ∷ ys) x each one = (each.0, all_added P ys x each.1 one)
 
 pub zip_added : (names : List (List ℕ)) (values : List Value) (name : List ℕ) (value : Value) → length values ≡ length names → zip (names ++ name ∷ []) (values ++ value ∷ []) ≡ zip names values ++ (name, value) ∷ []
 zip_added [] [] name value e = refl

@@ -3,11 +3,13 @@ use Rattle.std.proofs.Common.{◌≡◌, ℕ, List, [], ◌∷◌, ◌++◌, len
 use Rattle.std.specs.List.{zip}
 use Rattle.std.proofs.lemmas.List.{append_cancel_left}
 use Rattle.script_tree.specs.declared.value.Value.{Value}
+use Rattle.script_tree.proofs.Lists.{all_end}
 use Rattle.report_text.specs.Pieces.{Ends}
 use Rattle.report_text.specs.Report.{named_value, more_looks}
 use Rattle.report_text.specs.Printed.{IsLook, AreLooks}
-use Rattle.report_text.proofs.LineLaws.{all_added, zip_added}
-use Rattle.report_text.proofs.Unique.{one_named, same_head, not_empty, numbers_differ}
+use Rattle.report_text.proofs.LineLaws.{zip_added}
+use Rattle.report_text.proofs.Unique.{one_named, numbers_differ}
+use Rattle.report_text.proofs.Firsts.{same_first, not_empty}
 
 -- where a text is looks up to the end of a line, so is what is left of it
 pub record Left (rest after : List ℕ) : Type 0 where
@@ -28,7 +30,7 @@ looks_end (look ∷ looks) after = refl
 
 left_behind : (looks : List (List ℕ × Value)) (name : List ℕ) (value : Value) (rest behind after : List ℕ) → AreLooks looks → IsLook (name, value) → Ends behind
     → rest ≡ codes ", " ++ (named_value (name, value) ++ behind) → rest ≡ more_looks looks ++ 10 ∷ after → Left behind after
-left_behind [] name value rest behind after are is ends e left = absurd (numbers_differ 10 44 (omega arith) (sym (same_head 44 10 _ _ (sym e ∙ left))))
+left_behind [] name value rest behind after are is ends e left = absurd (numbers_differ 10 44 (omega arith) (sym (same_first 44 10 _ _ (sym e ∙ left))))
 left_behind (look ∷ looks) name value rest behind after are is ends e left =
     let flat = left ∙ append_assoc (codes ", " ++ named_value look) (more_looks looks) (10 ∷ after) ∙ append_assoc (codes ", ") (named_value look) (more_looks looks ++ 10 ∷ after) in
     let parts = one_named name look.0 value look.1 behind (more_looks looks ++ 10 ∷ after) is.0 are.0.0 is.1 are.0.1 ends (looks_end looks after)
@@ -55,4 +57,4 @@ pub nothing_left : (rest : List ℕ) → rest ≡ [] → (look : List ℕ × Val
 nothing_left rest none look behind is ends e = not_empty 44 _ (sym e ∙ none)
 
 pub looks_are_added : (names : List (List ℕ)) (values : List Value) (name : List ℕ) (value : Value) → length values ≡ length names → AreLooks (zip names values) → IsLook (name, value) → AreLooks (zip (names ++ name ∷ []) (values ++ value ∷ []))
-looks_are_added names values name value e are is = rw (zip_added names values name value e) (all_added IsLook (zip names values) (name, value) are is)
+looks_are_added names values name value e are is = rw (zip_added names values name value e) (all_end IsLook (zip names values) (name, value) are is)

@@ -34,9 +34,10 @@ use Rattle.report_text.specs.Json.{value_data, look_data, list_data, reply_data,
 use Rattle.report_text.specs.Pieces.{IsValue}
 use Rattle.report_text.specs.Printed.{line_of, IsLook, AreLooks, IsReply, IsLine, IsWhy, IsRefusal, data_of, IsReport}
 use Rattle.report_text.specs.Runs.{Run, IsRun, json_text_of}
-use Rattle.report_text.proofs.Determined.{same_first, same_rest, one_run}
+use Rattle.report_text.proofs.Determined.{one_run}
 use Rattle.report_text.proofs.OneReport.{one_zip, same_look, same_line, same_refused}
 use Rattle.report_text.proofs.Unique.{one_fault, numbers_differ}
+use Rattle.report_text.proofs.Firsts.{same_first, same_rest}
 
 -- ---- a text of JSON has one tree
 

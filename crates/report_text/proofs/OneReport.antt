@@ -16,9 +16,10 @@ use Rattle.report_text.specs.declared.reading.ReportFault.TheVariants.{Syntax, M
 use Rattle.report_text.specs.Report.{counted, named_value, more_looks, looks_text, fire_looks, reply_text, why_text, refused_line, final_line, done_line, call_line, report_of}
 use Rattle.report_text.specs.Printed.{line_text, line_of, data_of, lines_before, printed, IsLook, AreLooks, IsReply, IsLine, IsRefusal, AreLines, AreRefusals, IsReport, NoCall, NoRefusal, NoFinal, StopsWithin, StopsBehind, Stops}
 use Rattle.report_text.specs.Reading.{IsReadAs}
-use Rattle.report_text.proofs.Unique.{one_named, same_head, same_tail, numbers_differ, behind_count}
+use Rattle.report_text.proofs.Unique.{one_named, numbers_differ, behind_count}
 use Rattle.report_text.proofs.LooksLaws.{looks_end}
 use Rattle.report_text.proofs.EntryLaws.{not_at_end, fire_flat, fire_looks_end, done_flat, refused_flat, why_ends, one_why, line_flat, reply_ends}
+use Rattle.report_text.proofs.Firsts.{same_first, same_rest}
 
 -- ---- looks
 pub same_look : (a b : List ℕ × Value) → a.0 ≡ b.0 → a.1 ≡ b.1 → a ≡ b
@@ -28,9 +29,9 @@ same_look a b names values = pair a.0 b.0 a.1 b.1 names values
     pair n m v u p q = rw (p, q) refl
 
 one_more : (ls ms : List (List ℕ × Value)) (x y : List ℕ) → AreLooks ls → AreLooks ms → more_looks ls ++ 10 ∷ x ≡ more_looks ms ++ 10 ∷ y → (ls ≡ ms) × (x ≡ y)
-one_more [] [] x y hl hm e = (refl, same_tail 10 10 x y e)
-one_more [] (m ∷ ms) x y hl hm e = absurd (numbers_differ 10 44 (omega arith) (same_head 10 44 _ _ e))
-one_more (l ∷ ls) [] x y hl hm e = absurd (numbers_differ 10 44 (omega arith) (same_head 10 44 _ _ (sym e)))
+one_more [] [] x y hl hm e = (refl, same_rest 10 10 x y e)
+one_more [] (m ∷ ms) x y hl hm e = absurd (numbers_differ 10 44 (omega arith) (same_first 10 44 _ _ e))
+one_more (l ∷ ls) [] x y hl hm e = absurd (numbers_differ 10 44 (omega arith) (same_first 10 44 _ _ (sym e)))
 one_more (l ∷ ls) (m ∷ ms) x y hl hm e =
     let left = append_assoc (codes ", " ++ named_value l) (more_looks ls) (10 ∷ x) ∙ append_assoc (codes ", ") (named_value l) (more_looks ls ++ 10 ∷ x) in
     let right = append_assoc (codes ", " ++ named_value m) (more_looks ms) (10 ∷ y) ∙ append_assoc (codes ", ") (named_value m) (more_looks ms ++ 10 ∷ y) in
@@ -40,7 +41,7 @@ one_more (l ∷ ls) (m ∷ ms) x y hl hm e =
     (rw (same_look l m parts.0 parts.1) (ap (λ t. m ∷ t) rest.0), rest.1)
 
 one_looks : (ls ms : List (List ℕ × Value)) (x y : List ℕ) → AreLooks ls → AreLooks ms → looks_text ls ++ 10 ∷ x ≡ looks_text ms ++ 10 ∷ y → (ls ≡ ms) × (x ≡ y)
-one_looks [] [] x y hl hm e = (refl, same_tail 10 10 x y e)
+one_looks [] [] x y hl hm e = (refl, same_rest 10 10 x y e)
 one_looks [] (m ∷ ms) x y hl hm e = absurd (not_at_end m.0 m.1 (more_looks ms ++ 10 ∷ y) x hm.0.0 (sym (append_assoc (named_value m) (more_looks ms) (10 ∷ y)) ∙ sym e))
 one_looks (l ∷ ls) [] x y hl hm e = absurd (not_at_end l.0 l.1 (more_looks ls ++ 10 ∷ x) y hl.0.0 (sym (append_assoc (named_value l) (more_looks ls) (10 ∷ x)) ∙ e))
 one_looks (l ∷ ls) (m ∷ ms) x y hl hm e =
@@ -50,9 +51,9 @@ one_looks (l ∷ ls) (m ∷ ms) x y hl hm e =
     (rw (same_look l m parts.0 parts.1) (ap (λ t. m ∷ t) rest.0), rest.1)
 
 one_fire_looks : (ls ms : List (List ℕ × Value)) (x y : List ℕ) → AreLooks ls → AreLooks ms → fire_looks ls ++ 10 ∷ x ≡ fire_looks ms ++ 10 ∷ y → (ls ≡ ms) × (x ≡ y)
-one_fire_looks [] [] x y hl hm e = (refl, same_tail 10 10 x y e)
-one_fire_looks [] (m ∷ ms) x y hl hm e = absurd (numbers_differ 10 32 (omega arith) (same_head 10 32 _ _ e))
-one_fire_looks (l ∷ ls) [] x y hl hm e = absurd (numbers_differ 10 32 (omega arith) (same_head 10 32 _ _ (sym e)))
+one_fire_looks [] [] x y hl hm e = (refl, same_rest 10 10 x y e)
+one_fire_looks [] (m ∷ ms) x y hl hm e = absurd (numbers_differ 10 32 (omega arith) (same_first 10 32 _ _ e))
+one_fire_looks (l ∷ ls) [] x y hl hm e = absurd (numbers_differ 10 32 (omega arith) (same_first 10 32 _ _ (sym e)))
 one_fire_looks (l ∷ ls) (m ∷ ms) x y hl hm e =
     one_looks (l ∷ ls) (m ∷ ms) x y hl hm (append_cancel_left (codes " look ") (looks_text (l ∷ ls) ++ 10 ∷ x) (looks_text (m ∷ ms) ++ 10 ∷ y) e)
 
@@ -87,8 +88,8 @@ one_reply n m (Seen v) (Seen u) x y hr hs e =
     (sym (append_assoc (codes " read ") (looks_text (zip n v)) (10 ∷ x)) ∙ e ∙ append_assoc (codes " read ") (looks_text (zip m u)) (10 ∷ y))) in
     let parts = one_zip n m v u hr.0 hs.0 looks.0 in
     (parts.0, ap Seen parts.1, looks.1)
-one_reply n m (Fired a b v) (Seen u) x y hr hs e = absurd (numbers_differ 102 114 (omega arith) (same_head 102 114 _ _ (same_tail 32 32 _ _ e)))
-one_reply n m (Seen v) (Fired c d u) x y hr hs e = absurd (numbers_differ 102 114 (omega arith) (same_head 102 114 _ _ (same_tail 32 32 _ _ (sym e))))
+one_reply n m (Fired a b v) (Seen u) x y hr hs e = absurd (numbers_differ 102 114 (omega arith) (same_first 102 114 _ _ (same_rest 32 32 _ _ e)))
+one_reply n m (Seen v) (Fired c d u) x y hr hs e = absurd (numbers_differ 102 114 (omega arith) (same_first 102 114 _ _ (same_rest 32 32 _ _ (sym e))))
 
 line_from : ℕ → ℕ → Reply → List (List ℕ) → CallLine
 line_from version caller reply names = record { version = version; caller = caller; reply = reply; names = names }
@@ -124,7 +125,7 @@ one_refusal a b x y ha hb e =
     (sym (refused_flat a x) ∙ e ∙ refused_flat b y) in
     let second = behind_count _ (codes " call ") a.number b.number said_a said_b ha.number hb.number (why_ends a.why (10 ∷ x)) (why_ends b.why (10 ∷ y)) refl first.1 in
     let parts = one_why _ a.why b.why (10 ∷ x) (10 ∷ y) ha.why hb.why refl refl refl second.1 in
-    (same_refused a b first.0 second.0 parts.0, same_tail 10 10 x y parts.1)
+    (same_refused a b first.0 second.0 parts.0, same_rest 10 10 x y parts.1)
 
 one_final : (a b : List ℕ × Value) (x y : List ℕ) → IsLook a → IsLook b → final_line a ++ x ≡ final_line b ++ y → (a ≡ b) × (x ≡ y)
 one_final a b x y ha hb e =
@@ -132,7 +133,7 @@ one_final a b x y ha hb e =
     let tail_b = append_assoc (named_value b) (10 ∷ []) y in
     let inner = append_cancel_left (codes "final ") ((named_value a ++ 10 ∷ []) ++ x) ((named_value b ++ 10 ∷ []) ++ y) e in
     let parts = one_named a.0 b.0 a.1 b.1 (10 ∷ x) (10 ∷ y) ha.0 hb.0 ha.1 hb.1 refl refl (sym tail_a ∙ inner ∙ tail_b) in
-    (same_look a b parts.0 parts.1, same_tail 10 10 x y parts.2)
+    (same_look a b parts.0 parts.1, same_rest 10 10 x y parts.2)
 
 -- ---- lines of one kind
 one_section : {A : Type 0} (f : A → List ℕ) (P : A → Type 0) → ((x y : A) (s t : List ℕ) → P x → P y → f x ++ s ≡ f y ++ t → (x ≡ y) × (s ≡ t))
@@ -148,13 +149,13 @@ one_section f P one (x ∷ xs) (y ∷ ys) s t hx hy ns nt e =
 
 -- a text without calls, refusals or last values in front, by the byte that it begins with
 no_call_by : (b : ℕ) (bs : List ℕ) → 99 < b → NoCall (b ∷ bs)
-no_call_by b bs other = λ line rest is e. numbers_differ 99 b other (sym (same_head b 99 _ _ e))
+no_call_by b bs other = λ line rest is e. numbers_differ 99 b other (sym (same_first b 99 _ _ e))
 
 no_refusal_by : (b : ℕ) (bs : List ℕ) → b < 114 → NoRefusal (b ∷ bs)
-no_refusal_by b bs other = λ refused rest is e. numbers_differ b 114 other (same_head b 114 _ _ e)
+no_refusal_by b bs other = λ refused rest is e. numbers_differ b 114 other (same_first b 114 _ _ e)
 
 no_final_by : (b : ℕ) (bs : List ℕ) → b < 102 → NoFinal (b ∷ bs)
-no_final_by b bs other = λ last rest is e. numbers_differ b 102 other (same_head b 102 _ _ e)
+no_final_by b bs other = λ last rest is e. numbers_differ b 102 other (same_first b 102 _ _ e)
 
 no_refusal_in : (finals : List (List ℕ × Value)) (behind : List ℕ) → (finals ≡ [] → NoRefusal behind) → NoRefusal (flat_map final_line finals ++ behind)
 no_refusal_in [] behind none = none refl

@@ -1,5 +1,5 @@
 -- A piece, a number and a value can be read from the front of a text in one way alone.
-use Rattle.std.proofs.Common.{◌≡◌, ℕ, suc, ◌<◌, Bool, true, false, true≢false, ◌&&◌, List, [], ◌∷◌, ◌++◌, refl, sym, ap, ◌∙◌, append_assoc, arith, rules, codes, ⊎_elim}
+use Rattle.std.proofs.Common.{◌≡◌, ℕ, suc, ◌<◌, true, false, true≢false, List, [], ◌∷◌, ◌++◌, refl, sym, ap, ◌∙◌, append_assoc, arith, rules, codes, ⊎_elim}
 use Rattle.std.specs.Prelude.{◌^◌, decimal, ℤ, pos, negsuc, FitsSigned, IsTrue, ◌==◌, nat_lt, if◌then◌else◌, Option, Some, None, IfNone}
 use Rattle.std.specs.Int.{w64, IsInRange}
 use Rattle.std.specs.Fmt.{signed_decimal}
@@ -15,54 +15,24 @@ use Rattle.script_tree.specs.declared.value.Fault.{Fault}
 use Rattle.script_tree.specs.declared.value.Fault.TheVariants.{Overflow, ZeroDivisor, Kind, NoChoice}
 use Rattle.script_tree.specs.declared.value.Value.{Value}
 use Rattle.script_tree.specs.declared.value.Value.TheVariants.{Int, Bool as Truth, Fault as Faulty}
+use Rattle.script_tree.proofs.Truths.{and_left, and_right}
 use Rattle.report_text.specs.Pieces.{is_inner, Ends, IsBlankFirst, IsValue, IsPlain}
 use Rattle.report_text.specs.Report.{counted, named_value}
-
-tail_of : List ℕ → List ℕ
-tail_of [] = []
-tail_of (b ∷ bs) = bs
-
-head_of : List ℕ → ℕ
-head_of [] = 0
-head_of (b ∷ bs) = b
-
-pub same_tail : (b c : ℕ) (x y : List ℕ) → b ∷ x ≡ c ∷ y → x ≡ y
-unfolding tail_of
-same_tail b c x y e = ap tail_of e
-
-pub same_head : (b c : ℕ) (x y : List ℕ) → b ∷ x ≡ c ∷ y → b ≡ c
-unfolding head_of
-same_head b c x y e = ap head_of e
-
-first_true : (a b : Bool) → (a && b) ≡ true → a ≡ true
-first_true true b e = refl
-first_true false b e = e
-
-second_true : (a b : Bool) → (a && b) ≡ true → b ≡ true
-second_true true b e = e
-second_true false b e = absurd (true≢false (sym e))
+use Rattle.report_text.proofs.Firsts.{same_first, same_rest, not_empty}
 
 -- a byte within one text and a byte that ends another differ
 apart : (b c : ℕ) → is_inner b ≡ true → is_inner c ≡ false → b ≡ c → ⊥
 apart b c inner un same = true≢false (sym inner ∙ ap is_inner same ∙ un)
 
-has_byte : List ℕ → Bool
-has_byte [] = false
-has_byte (b ∷ bs) = true
-
-pub not_empty : (b : ℕ) (bs : List ℕ) → b ∷ bs ≡ [] → ⊥
-unfolding has_byte
-not_empty b bs e = true≢false (ap has_byte e)
-
 pub one_piece : (x y z w : List ℕ) → list_all is_inner x ≡ true → list_all is_inner z ≡ true → Ends y → Ends w → x ++ y ≡ z ++ w → (x ≡ z) × (y ≡ w)
 one_piece [] y [] w hx hz hy hw e = (refl, e)
 one_piece [] [] (c ∷ z) w hx hz hy hw e = absurd (not_empty c (z ++ w) (sym e))
-one_piece [] (b ∷ y) (c ∷ z) w hx hz hy hw e = absurd (apart c b (first_true (is_inner c) (list_all is_inner z) hz) hy (sym (same_head b c y (z ++ w) e)))
+one_piece [] (b ∷ y) (c ∷ z) w hx hz hy hw e = absurd (apart c b (and_left (is_inner c) (list_all is_inner z) hz) hy (sym (same_first b c y (z ++ w) e)))
 one_piece (b ∷ x) y [] [] hx hz hy hw e = absurd (not_empty b (x ++ y) e)
-one_piece (b ∷ x) y [] (c ∷ w) hx hz hy hw e = absurd (apart b c (first_true (is_inner b) (list_all is_inner x) hx) hw (same_head b c (x ++ y) w e))
+one_piece (b ∷ x) y [] (c ∷ w) hx hz hy hw e = absurd (apart b c (and_left (is_inner b) (list_all is_inner x) hx) hw (same_first b c (x ++ y) w e))
 one_piece (b ∷ x) y (c ∷ z) w hx hz hy hw e =
-    let rest = one_piece x y z w (second_true (is_inner b) (list_all is_inner x) hx) (second_true (is_inner c) (list_all is_inner z) hz) hy hw (same_tail b c (x ++ y) (z ++ w) e) in
-    let first = same_head b c (x ++ y) (z ++ w) e in
+    let rest = one_piece x y z w (and_right (is_inner b) (list_all is_inner x) hx) (and_right (is_inner c) (list_all is_inner z) hz) hy hw (same_rest b c (x ++ y) (z ++ w) e) in
+    let first = same_first b c (x ++ y) (z ++ w) e in
     (rw first (ap (λ l. c ∷ l) rest.0), rest.1)
 
 -- digits stand within a piece
@@ -85,10 +55,10 @@ inner_word b h = rw (differs b 32 h refl, differs b 44 h refl, differs b 61 h re
 
 inner_words : (bs : List ℕ) → list_all is_word bs ≡ true → list_all is_inner bs ≡ true
 inner_words [] h = refl
-inner_words (b ∷ bs) h = rw (inner_word b (first_true (is_word b) (list_all is_word bs) h), inner_words bs (second_true (is_word b) (list_all is_word bs) h)) refl
+inner_words (b ∷ bs) h = rw (inner_word b (and_left (is_word b) (list_all is_word bs) h), inner_words bs (and_right (is_word b) (list_all is_word bs) h)) refl
 
 pub inner_name : (text : List ℕ) → IsTrue (is_name text) → list_all is_inner text ≡ true
-inner_name text h = inner_words text (first_true (list_all is_word text) _ (second_true (starts_well text) _ h))
+inner_name text h = inner_words text (and_left (list_all is_word text) _ (and_right (starts_well text) _ h))
 
 wider : (n : ℕ) → n < 2 ^ 32 → n < 2 ^ 64
 wider n h = omega (arith, h)
@@ -112,7 +82,7 @@ digit_first n b bs h above e =
 
 no_letter : (z : ℤ) (b : ℕ) (bs : List ℕ) → FitsSigned w64 z → 57 < b → signed_decimal z ≡ b ∷ bs → ⊥
 no_letter (pos n) b bs h above e = let big : n < 2 ^ 64 = omega (arith, h.sfits) in digit_first n b bs big above e
-no_letter (negsuc n) b bs h above e = let first = same_head 45 b (decimal (suc n)) bs e in absurd (omega (arith, first, above))
+no_letter (negsuc n) b bs h above e = let first = same_first 45 b (decimal (suc n)) bs e in absurd (omega (arith, first, above))
 
 -- the words for faults
 inner_fault : (f : Fault) → list_all is_inner (fault_text f) ≡ true
@@ -157,14 +127,14 @@ one_value (Truth false) (Int z) y w hv hu hy hw e =
     let parts = one_piece (codes "false") y (signed_decimal z) w refl (inner_signed z hu) hy hw e in absurd (no_letter z _ _ hu (omega arith) (sym parts.0))
 one_value (Truth true) (Truth true) y w hv hu hy hw e = (refl, append_cancel_left (codes "true") y w e)
 one_value (Truth false) (Truth false) y w hv hu hy hw e = (refl, append_cancel_left (codes "false") y w e)
-one_value (Truth true) (Truth false) y w hv hu hy hw e = absurd (numbers_differ 102 116 (omega arith) (sym (same_head 116 102 _ _ e)))
-one_value (Truth false) (Truth true) y w hv hu hy hw e = absurd (numbers_differ 102 116 (omega arith) (same_head 102 116 _ _ e))
-one_value (Truth true) (Faulty f) y w hv hu hy hw e = absurd (numbers_differ 102 116 (omega arith) (sym (same_head 116 102 _ _ e)))
-one_value (Faulty f) (Truth true) y w hv hu hy hw e = absurd (numbers_differ 102 116 (omega arith) (same_head 102 116 _ _ e))
+one_value (Truth true) (Truth false) y w hv hu hy hw e = absurd (numbers_differ 102 116 (omega arith) (sym (same_first 116 102 _ _ e)))
+one_value (Truth false) (Truth true) y w hv hu hy hw e = absurd (numbers_differ 102 116 (omega arith) (same_first 102 116 _ _ e))
+one_value (Truth true) (Faulty f) y w hv hu hy hw e = absurd (numbers_differ 102 116 (omega arith) (sym (same_first 116 102 _ _ e)))
+one_value (Faulty f) (Truth true) y w hv hu hy hw e = absurd (numbers_differ 102 116 (omega arith) (same_first 102 116 _ _ e))
 one_value (Truth false) (Faulty f) y w hv hu hy hw e =
-    absurd (numbers_differ 108 117 (omega arith) (same_head 108 117 _ _ (same_tail 97 97 _ _ (same_tail 102 102 _ _ e))))
+    absurd (numbers_differ 108 117 (omega arith) (same_first 108 117 _ _ (same_rest 97 97 _ _ (same_rest 102 102 _ _ e))))
 one_value (Faulty f) (Truth false) y w hv hu hy hw e =
-    absurd (numbers_differ 108 117 (omega arith) (sym (same_head 117 108 _ _ (same_tail 97 97 _ _ (same_tail 102 102 _ _ e)))))
+    absurd (numbers_differ 108 117 (omega arith) (sym (same_first 117 108 _ _ (same_rest 97 97 _ _ (same_rest 102 102 _ _ e)))))
 one_value (Faulty f) (Int z) y w hv hu hy hw e =
     let parts = one_piece (codes "fault") (32 ∷ (fault_text f ++ y)) (signed_decimal z) w refl (inner_signed z hu) refl hw e in absurd (no_letter z _ _ hu (omega arith) (sym parts.0))
 one_value (Faulty f) (Faulty g) y w hv hu hy hw e =
@@ -177,7 +147,7 @@ pub one_named : (n m : List ℕ) (v u : Value) (y w : List ℕ) → IsTrue (is_n
 one_named n m v u y w hn hm hv hu hy hw e =
     let flat = sym (append_assoc n (codes "=" ++ value_text v) y) ∙ e ∙ append_assoc m (codes "=" ++ value_text u) w in
     let parts = one_piece n (61 ∷ (value_text v ++ y)) m (61 ∷ (value_text u ++ w)) (inner_name n hn) (inner_name m hm) refl refl flat in
-    let values = one_value v u y w hv hu hy hw (same_tail 61 61 _ _ parts.1) in
+    let values = one_value v u y w hv hu hy hw (same_rest 61 61 _ _ parts.1) in
     (parts.0, values.0, values.1)
 
 -- ---- what is not read from the front of a text
@@ -219,9 +189,9 @@ pub not_faulty : (text behind : List ℕ) → text ≡ codes "fault " ++ behind 
     → (v : Value) (rest : List ℕ) → IsValue v → Ends rest → text ≡ value_text v ++ rest → ⊥
 not_faulty text behind whole none (Int x) rest hv ends e =
     let parts = one_piece (signed_decimal x) rest (codes "fault") (32 ∷ behind) (inner_signed x hv) refl ends refl (sym e ∙ whole) in no_letter x _ _ hv (omega arith) parts.0
-not_faulty text behind whole none (Truth true) rest hv ends e = numbers_differ 102 116 (omega arith) (sym (same_head 116 102 _ _ (sym e ∙ whole)))
+not_faulty text behind whole none (Truth true) rest hv ends e = numbers_differ 102 116 (omega arith) (sym (same_first 116 102 _ _ (sym e ∙ whole)))
 not_faulty text behind whole none (Truth false) rest hv ends e =
-    numbers_differ 108 117 (omega arith) (same_head 108 117 _ _ (same_tail 97 97 _ _ (same_tail 102 102 _ _ (sym e ∙ whole))))
+    numbers_differ 108 117 (omega arith) (same_first 108 117 _ _ (same_rest 97 97 _ _ (same_rest 102 102 _ _ (sym e ∙ whole))))
 not_faulty text behind whole none (Faulty f) rest hv ends e = none f rest ends (append_cancel_left (codes "fault ") behind (fault_text f ++ rest) (sym whole ∙ e))
 
 -- a text without that word in front is of a value that is no fault

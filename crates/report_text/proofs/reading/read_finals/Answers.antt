@@ -1,8 +1,9 @@
 use Rattle.std.proofs.Common.{ℕ, List}
 use Rattle.script_tree.specs.declared.value.Value.{Value}
+use Rattle.script_tree.proofs.Lists.{all_end}
 use Rattle.report_text.specs.Report.{final_line}
 use Rattle.report_text.specs.Printed.{IsLook}
-use Rattle.report_text.proofs.LineLaws.{line_added, all_added, few_added}
+use Rattle.report_text.proofs.LineLaws.{line_added, few_added}
 use Rattle.report_text.proofs.reading.read_finals.Goals as goal
 
 pub loop-rest-preserved : goal.loop-rest-preserved
@@ -13,6 +14,6 @@ loop-rest-preserved c =
     let read = c.in-Some.ensures in
     rw c.in_ok-push-in-Some.ensures.items (
       line_added final_line lines last c.args.text.now c.loop-rest.rest.now c.in-Some.after.now kept.0 read.text,
-      all_added IsLook lines last kept.1 read.data,
+      all_end IsLook lines last kept.1 read.data,
       few_added lines last c.in-Some.after.now c.loop-rest.rest.now c.args.text.now kept.2 read.shorter,
     )
