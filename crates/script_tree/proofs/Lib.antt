@@ -4,3 +4,4 @@ pub mod Lists
 pub mod Texts
 pub mod BitLemmas
 pub mod NameText
+pub mod NamePlaces
