@@ -1,5 +1,5 @@
 -- A graph with one more declaration keeps what graphs keep.
-use Rattle.std.proofs.Common.{◌≡◌, ℕ, ◌+◌, ◌<◌, ◌≤◌, ◌==◌, nat_lt, if◌then◌else◌, Bool, true, false, List, [], ◌∷◌, ◌++◌, length, map, find, get_or, Option, Some, None, refl, sym, ap, subst, ◌∙◌, arith, add-zero, zero-add, add-one, length-append}
+use Rattle.std.proofs.Common.{◌≡◌, ℕ, ◌+◌, ◌<◌, ◌≤◌, ◌==◌, nat_lt, if◌then◌else◌, Bool, true, false, List, [], ◌∷◌, ◌++◌, length, map, find, get_or, Option, Some, None, refl, sym, ap, subst, ◌∙◌, arith, add-zero, zero-add, length-append}
 use Rattle.std.specs.List.{AllByRecursion, list_any}
 use Rattle.std.specs.Str.{bytes_eq}
 use Rattle.std.specs.Cmp.Lexicographic.{bytes_decides}
@@ -9,6 +9,7 @@ use Rattle.std.proofs.lemmas.List.Folds.{list_any-append}
 use Rattle.std.proofs.lemmas.Bool.Decides.{eqb_tells, nat_tests}
 use Rattle.script_tree.specs.declared.limits.TheConstants.{NODES}
 use Rattle.script_tree.specs.Names.{place_in}
+use Rattle.script_tree.proofs.Lists.{all_append, all_front, all_behind}
 use Rattle.signal_graph.specs.declared.node.Selector.{Selector}
 use Rattle.signal_graph.specs.declared.node.Node.{Node}
 use Rattle.signal_graph.specs.declared.node.Node.TheVariants as node
@@ -29,19 +30,6 @@ declared_where_none_is_not names (name ∷ used) h =
     let rest = declared_where_none_is_not names used in
     let both : (is_declared names name ≡ true) × (find (is_undeclared names) used ≡ None) = (grind arith, grind arith) in
     (both.0, rest both.1)
-
--- the two parts of a list of declared names
-all-front : (P : List ℕ → Type 0) (xs ys : List (List ℕ)) → AllByRecursion P (xs ++ ys) → AllByRecursion P xs
-all-front P [] ys h = tt
-all-front P (x ∷ xs) ys h = (h.0, all-front P xs ys h.1)
-
-all-back : (P : List ℕ → Type 0) (xs ys : List (List ℕ)) → AllByRecursion P (xs ++ ys) → AllByRecursion P ys
-all-back P [] ys h = h
-all-back P (x ∷ xs) ys h = all-back P xs ys h.1
-
-all-join : (P : List ℕ → Type 0) (xs ys : List (List ℕ)) → AllByRecursion P xs → AllByRecursion P ys → AllByRecursion P (xs ++ ys)
-all-join P [] ys a b = b
-all-join P (x ∷ xs) ys a b = (a.0, all-join P xs ys a.1 b)
 
 place_below : (names : List (List ℕ)) (name : List ℕ) → is_declared names name ≡ true → place_in names name < length names
 place_below names name h = grind (arith, nat_tests)
@@ -65,9 +53,9 @@ is_selector names more part h k d = record {
   few = rw length-map h.few;
   no_acc = h.no_acc;
   no_picks = h.no_picks;
-  resolves = resolves names more part.0.names (all-front _ part.0.names part.1 d);
-  inputs_earlier = places_below names part.0.names (all-front _ part.0.names part.1 d);
-  candidates_earlier = places_below names part.1 (all-back _ part.0.names part.1 d);
+  resolves = resolves names more part.0.names (all_front _ part.0.names part.1 d);
+  inputs_earlier = places_below names part.0.names (all_front _ part.0.names part.1 d);
+  candidates_earlier = places_below names part.1 (all_behind _ part.0.names part.1 d);
   kept = k;
 }
 
@@ -75,8 +63,8 @@ are_selectors : (names more : List (List ℕ)) (parts : List Part) → AllByRecu
     → AllByRecursion (IsSelector (names ++ more) (length names)) (map (selector_of names) parts)
 are_selectors names more [] h k d = tt
 are_selectors names more (part ∷ parts) h k d = (
-  is_selector names more part h.0 k.0 (all-front _ (part.0.names ++ part.1) (names_of_parts parts) d),
-  are_selectors names more parts h.1 k.1 (all-back _ (part.0.names ++ part.1) (names_of_parts parts) d),
+  is_selector names more part h.0 k.0 (all_front _ (part.0.names ++ part.1) (names_of_parts parts) d),
+  are_selectors names more parts h.1 k.1 (all_behind _ (part.0.names ++ part.1) (names_of_parts parts) d),
 )
 
 -- the inputs of all selectors are the places of their scripts' names
@@ -88,9 +76,9 @@ all_inputs names (part ∷ parts) =
 scripts_declared : (names : List (List ℕ)) (parts : List Part) → AreDeclared names (names_of_parts parts) → AreDeclared names (script_names parts)
 scripts_declared names [] h = tt
 scripts_declared names (part ∷ parts) h =
-    let here = all-front _ (part.0.names ++ part.1) (names_of_parts parts) h in
-    all-join _ part.0.names (script_names parts) (all-front _ part.0.names part.1 here)
-    (scripts_declared names parts (all-back _ (part.0.names ++ part.1) (names_of_parts parts) h))
+    let here = all_front _ (part.0.names ++ part.1) (names_of_parts parts) h in
+    all_append _ part.0.names (script_names parts) (all_front _ part.0.names part.1 here)
+    (scripts_declared names parts (all_behind _ (part.0.names ++ part.1) (names_of_parts parts) h))
 
 -- declared names are the same where their places are
 same_place : (names : List (List ℕ)) (a b : List ℕ) → is_declared names a ≡ true → is_declared names b ≡ true

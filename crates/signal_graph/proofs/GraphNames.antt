@@ -1,5 +1,5 @@
 -- The index of a table of names, with one more name.
-use Rattle.std.proofs.Common.{zero, suc, get_or, add-one, IfSome, IfNone, ◌≡◌, ℕ, ◌+◌, if◌then◌else◌, Bool, true, false, List, [], ◌∷◌, ◌++◌, length, Option, Some, None, refl, sym, ap, subst, ◌∙◌, arith, ◌<◌, ◌≤◌, nat_lt, length-append, unwrap_or, zero-add}
+use Rattle.std.proofs.Common.{zero, suc, get_or, add-one, IfSome, IfNone, ◌≡◌, ℕ, ◌+◌, if◌then◌else◌, Bool, true, false, List, [], ◌∷◌, ◌++◌, length, Option, Some, None, refl, sym, ap, subst, ◌∙◌, arith, ◌<◌, nat_lt, length-append, unwrap_or, zero-add}
 use Rattle.std.specs.Ordering.{nat_cmp, is_eq}
 use Rattle.std.specs.Cmp.{eq_by_cmp_equiv}
 use Rattle.std.specs.Cmp.Lexicographic.{slice_cmp, nat_list_cmp_total, nat_list_eq_equiv, bytes_decides}
@@ -10,6 +10,7 @@ use Rattle.std.specs.Global.{Vec}
 use Rattle.std.proofs.lemmas.Map.Text.{is_eq-slice_cmp}
 use Rattle.script_tree.specs.declared.limits.TheConstants.{NODES}
 use Rattle.script_tree.specs.Names.{place_in}
+use Rattle.script_tree.proofs.NamePlaces.{place_within}
 use Rattle.std.proofs.lemmas.Bool.Decides.{nat_tests}
 use Rattle.signal_graph.specs.Tables.{found_from, is_declared, IsTable}
 
@@ -49,11 +50,6 @@ pub found_at_place : (n : ℕ) (names : List (List ℕ)) (name : List ℕ)
 found_at_place n [] name = refl
 found_at_place n (other ∷ names) name =
     let rest = found_at_place (n + 1) names name in grind (arith, nat_tests, rest)
-
-pub place_within : (names : List (List ℕ)) (name : List ℕ) → place_in names name ≤ length names
-place_within [] name = omega arith
-place_within (other ∷ names) name =
-    let rest = place_within names name in grind (arith, rest)
 
 -- the place of a name from the answer of the index
 pub place_of_found : (names : List (List ℕ)) (name : List ℕ) → unwrap_or (if is_declared names name then Some (place_in names name) else None) (length names) ≡ place_in names name

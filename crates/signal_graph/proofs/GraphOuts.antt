@@ -1,5 +1,5 @@
 -- The nodes that name a node, with one more node.
-use Rattle.std.proofs.Common.{◌≡◌, ℕ, ◌+◌, ◌<◌, ◌==◌, ◌||◌, if◌then◌else◌, Bool, true, false, List, [], ◌∷◌, ◌++◌, length, filter, get_or, refl, sym, ap, subst, ◌∙◌, arith, add-zero, zero-add, add-one, length-take, take, ◌≤◌}
+use Rattle.std.proofs.Common.{◌≡◌, ℕ, ◌+◌, ◌<◌, ◌==◌, ◌||◌, if◌then◌else◌, Bool, List, [], ◌∷◌, ◌++◌, length, filter, get_or, refl, sym, ap, subst, ◌∙◌, arith, add-zero, zero-add, add-one, length-take, take, ◌≤◌}
 use Rattle.std.specs.List.{All, AllByRecursion}
 use Rattle.std.proofs.lemmas.List.{get_or_append_left, get_or_default}
 use Rattle.std.proofs.lemmas.List.Elements.{All-from_recursion, filter-append}
@@ -7,7 +7,7 @@ use Rattle.std.proofs.lemmas.List.Folds.{list_any-append}
 use Rattle.std.proofs.Math.Seq.{get_or-append_seam}
 use Rattle.script_tree.specs.declared.value.Value.TheVariants.{Fault as Faulty}
 use Rattle.script_tree.specs.declared.value.Fault.TheVariants.{Kind}
-use Rattle.script_tree.proofs.Lists.{all_weaker}
+use Rattle.script_tree.proofs.Lists.{all_weaker, all_filter}
 use Rattle.signal_graph.specs.declared.node.Node.{Node}
 use Rattle.signal_graph.specs.declared.node.Node.TheVariants.{Source}
 use Rattle.signal_graph.specs.Graph.{numbers_from, is_in, inputs_of, static_outs}
@@ -25,11 +25,6 @@ numbers_below k [] = tt
 numbers_below k (y ∷ ys) =
     let further : (k + 1) + length ys ≡ k + length (y ∷ ys) = omega arith in
     (omega arith, subst (λ b. AllByRecursion (λ n. n < b) (numbers_from (k + 1) ys)) further (numbers_below (k + 1) ys))
-
-all_filter : (P : ℕ → Type 0) (p : ℕ → Bool) (ns : List ℕ) → AllByRecursion P ns → AllByRecursion P (filter p ns)
-all_filter P p [] h = tt
-all_filter P p (n ∷ ns) h =
-    elim (p n) as (λ b. AllByRecursion P (if b then n ∷ filter p ns else filter p ns)) [ true ↦ (h.0, all_filter P p ns h.1) | false ↦ all_filter P p ns h.1 ]
 
 filter_same : (p q : ℕ → Bool) (ns : List ℕ) → AllByRecursion (λ n. p n ≡ q n) ns → filter p ns ≡ filter q ns
 filter_same p q [] h = refl

@@ -64,7 +64,7 @@ same_map a b [] h = refl
 same_map a b (x ∷ xs) h = ap (λ v. v ∷ map (at a) xs) h.0 ∙ ap (λ vs. at b x ∷ vs) (same_map a b xs h.1)
 
 -- what holds of all members of a list holds of one that is in it
-in_all : (P : ℕ → Type 0) (n : ℕ) (ns : List ℕ) → is_in n ns ≡ true → AllByRecursion P ns → P n
+pub in_all : (P : ℕ → Type 0) (n : ℕ) (ns : List ℕ) → is_in n ns ≡ true → AllByRecursion P ns → P n
 in_all P n [] e h = absurd (cc)
 in_all P n (m ∷ ns) e h = cases (m == n) refl (λ k. in_all P n ns k h.1)
   where

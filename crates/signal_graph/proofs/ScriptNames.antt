@@ -1,5 +1,5 @@
 -- A node's inputs are the nodes whose names stand in its scripts.
-use Rattle.std.proofs.Common.{◌≡◌, ℕ, zero, suc, ◌+◌, ◌<◌, ◌≤◌, ◌==◌, ◌||◌, if◌then◌else◌, Bool, true, false, List, [], ◌∷◌, ◌++◌, length, map, filter, get_or, refl, sym, ap, subst, ◌∙◌, inl, inr, arith, zero-add}
+use Rattle.std.proofs.Common.{◌≡◌, ℕ, zero, suc, ◌+◌, ◌<◌, ◌≤◌, ◌==◌, ◌||◌, if◌then◌else◌, Bool, true, false, List, [], ◌∷◌, length, map, filter, get_or, refl, sym, ap, subst, ◌∙◌, inl, inr, arith, zero-add}
 use Rattle.std.specs.Prelude.{◌⊎◌}
 use Rattle.std.specs.List.{AllByRecursion, list_any}
 use Rattle.std.specs.Str.{bytes_eq}
@@ -144,7 +144,7 @@ none_before p k (x ∷ xs) n h = by_test (p k) (none_before p (k + 1) xs n (omeg
     by_test false rest = rest
 
 -- a number is among those that pass a test exactly where it passes
-among : (p : ℕ → Bool) (k : ℕ) (xs : List Node) (n : ℕ) → k ≤ n → n < k + length xs → is_in n (filter p (numbers_from k xs)) ≡ p n
+pub among : (p : ℕ → Bool) (k : ℕ) (xs : List Node) (n : ℕ) → k ≤ n → n < k + length xs → is_in n (filter p (numbers_from k xs)) ≡ p n
 among p k [] n a b = absurd (omega (arith, a, b))
 among p k (x ∷ xs) n a b = by_order (cases_lt k n) (λ more. among p (k + 1) xs n (omega (arith, more)) (omega (arith, b)))
   where
