@@ -6,6 +6,7 @@ use Rattle.std.proofs.lemmas.List.{length-map}
 use Rattle.std.proofs.lemmas.Bool.Decides.{eqb_tells}
 use Rattle.std.proofs.lemmas.List.Elements.{All-head, All-tail}
 use Rattle.script_tree.specs.declared.value.Value.{Value}
+use Rattle.script_tree.proofs.Lists.{same_first, same_rest}
 use Rattle.signal_graph.specs.declared.call.Call.{Call}
 use Rattle.signal_graph.specs.declared.call.Reply.{Reply}
 use Rattle.signal_graph.specs.declared.log.Logged.{Logged}
@@ -18,7 +19,6 @@ use Rattle.report_text.specs.declared.data.Report.{Report}
 use Rattle.report_text.specs.Printed.{line_of, data_of}
 use Rattle.report_text.specs.Runs.{Run, IsRun, text_of}
 use Rattle.report_text.proofs.OneReport.{one_report, one_zip, run_is_data}
-use Rattle.report_text.proofs.Firsts.{same_first, same_rest}
 
 -- ---- the calls of one caller
 

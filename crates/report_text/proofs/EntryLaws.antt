@@ -6,6 +6,7 @@ use Rattle.std.proofs.lemmas.List.{append_cancel_left}
 use Rattle.script_tree.specs.Names.{is_name}
 use Rattle.script_tree.specs.Printed.{value_text}
 use Rattle.script_tree.specs.declared.value.Value.{Value}
+use Rattle.script_tree.proofs.Lists.{same_first, same_rest, not_empty}
 use Rattle.signal_graph.specs.declared.call.Reply.{Reply}
 use Rattle.signal_graph.specs.declared.call.Reply.TheVariants.{Fire as Fired, Read as Seen}
 use Rattle.signal_graph.specs.declared.log.Refused.{Refused}
@@ -17,7 +18,6 @@ use Rattle.report_text.specs.Report.{counted, named_value, more_looks, looks_tex
 use Rattle.report_text.specs.Printed.{line_text, IsLook, AreLooks, IsReply, IsWhy, NoCall, NoRefusal, NoFinal}
 use Rattle.report_text.proofs.Unique.{one_piece, one_named, inner_name, numbers_differ, blank_ends, behind_count}
 use Rattle.report_text.proofs.LooksLaws.{looks_end}
-use Rattle.report_text.proofs.Firsts.{same_first, same_rest, not_empty}
 
 -- behind two labels and their numbers stands one text alone
 pub behind_counts : (text first second : List ℕ) (a b : ℕ) (behind : List ℕ) (m n : ℕ) (rest : List ℕ) → IsBlankFirst second → a < 2 ^ 32 → b < 2 ^ 32 → m < 2 ^ 32 → n < 2 ^ 32 → Ends behind → Ends rest

@@ -4,6 +4,7 @@ use Rattle.std.specs.Prelude.{IsTrue, decimal}
 use Rattle.std.specs.List.{flat_map, zip}
 use Rattle.std.proofs.lemmas.List.Concat.{flat_map-append}
 use Rattle.script_tree.specs.declared.value.Value.{Value}
+use Rattle.script_tree.proofs.Lists.{zip_end}
 use Rattle.report_text.specs.Report.{counted, named_value, more_looks, looks_text, fire_looks, fire_text}
 
 -- what is left, once one more line is read
@@ -14,12 +15,6 @@ line_added f xs x text rest after whole next =
     ∙ sym (append_assoc (flat_map f xs) (f x) after)
     ∙ ap (λ v. (flat_map f xs ++ v) ++ after) (sym (append-nil (f x)))
     ∙ ap (λ v. v ++ after) (sym (flat_map-append f xs (x ∷ [])))
-
-pub zip_added : (names : List (List ℕ)) (values : List Value) (name : List ℕ) (value : Value) → length values ≡ length names → zip (names ++ name ∷ []) (values ++ value ∷ []) ≡ zip names values ++ (name, value) ∷ []
-zip_added [] [] name value e = refl
-zip_added [] (v ∷ vs) name value e = absurd (omega (arith, e))
-zip_added (n ∷ ns) [] name value e = absurd (omega (arith, e))
-zip_added (n ∷ ns) (v ∷ vs) name value e = let shorter : length vs ≡ length ns = omega (arith, e) in ap (λ l. (n, v) ∷ l) (zip_added ns vs name value shorter)
 
 pub looks_added : (names : List (List ℕ)) (values : List Value) (name : List ℕ) (value : Value) (whole rest after : List ℕ) → 0 < length names → length values ≡ length names
     → whole ≡ looks_text (zip names values) ++ rest → rest ≡ codes ", " ++ (named_value (name, value) ++ after)
@@ -35,7 +30,7 @@ looks_added (n ∷ ns) (v ∷ vs) name value whole rest after some e text next =
     ∙ append_assoc first (more_looks (zip ns vs)) rest
     ∙ ap (λ t. first ++ t) more
     ∙ sym (append_assoc first (flat_map line (zip ns vs ++ (name, value) ∷ [])) after)
-    ∙ ap (λ l. (first ++ flat_map line l) ++ after) (sym (zip_added ns vs name value shorter))
+    ∙ ap (λ l. (first ++ flat_map line l) ++ after) (sym (zip_end ns vs name value (sym shorter)))
 
 pub some_added : {A : Type 0} (xs : List A) (x : A) → 0 < length (xs ++ x ∷ [])
 some_added xs x = omega (arith, length-append xs (x ∷ []))

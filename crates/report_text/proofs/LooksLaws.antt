@@ -3,13 +3,11 @@ use Rattle.std.proofs.Common.{◌≡◌, ℕ, List, [], ◌∷◌, ◌++◌, len
 use Rattle.std.specs.List.{zip}
 use Rattle.std.proofs.lemmas.List.{append_cancel_left}
 use Rattle.script_tree.specs.declared.value.Value.{Value}
-use Rattle.script_tree.proofs.Lists.{all_end}
+use Rattle.script_tree.proofs.Lists.{all_end, same_first, not_empty, zip_end}
 use Rattle.report_text.specs.Pieces.{Ends}
 use Rattle.report_text.specs.Report.{named_value, more_looks}
 use Rattle.report_text.specs.Printed.{IsLook, AreLooks}
-use Rattle.report_text.proofs.LineLaws.{zip_added}
 use Rattle.report_text.proofs.Unique.{one_named, numbers_differ}
-use Rattle.report_text.proofs.Firsts.{same_first, not_empty}
 
 -- where a text is looks up to the end of a line, so is what is left of it
 pub record Left (rest after : List ℕ) : Type 0 where
@@ -57,4 +55,4 @@ pub nothing_left : (rest : List ℕ) → rest ≡ [] → (look : List ℕ × Val
 nothing_left rest none look behind is ends e = not_empty 44 _ (sym e ∙ none)
 
 pub looks_are_added : (names : List (List ℕ)) (values : List Value) (name : List ℕ) (value : Value) → length values ≡ length names → AreLooks (zip names values) → IsLook (name, value) → AreLooks (zip (names ++ name ∷ []) (values ++ value ∷ []))
-looks_are_added names values name value e are is = rw (zip_added names values name value e) (all_end IsLook (zip names values) (name, value) are is)
+looks_are_added names values name value e are is = rw (zip_end names values name value (sym e)) (all_end IsLook (zip names values) (name, value) are is)

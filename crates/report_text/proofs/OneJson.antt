@@ -21,6 +21,7 @@ use Rattle.serde_json.specs.Written.{number_text, outline, items_outline, compac
 use Rattle.serde_json.proofs.Texts.{print-outline}
 use Rattle.script_tree.specs.declared.value.Value.{Value}
 use Rattle.script_tree.specs.declared.value.Value.TheVariants.{Int, Bool as Truth, Fault as Faulty}
+use Rattle.script_tree.proofs.Lists.{same_first, same_rest}
 use Rattle.signal_graph.specs.declared.call.Call.{Call}
 use Rattle.signal_graph.specs.declared.call.Reply.{Reply}
 use Rattle.signal_graph.specs.declared.call.Reply.TheVariants.{Fire as Fired, Read as Seen}
@@ -37,7 +38,6 @@ use Rattle.report_text.specs.Runs.{Run, IsRun, json_text_of}
 use Rattle.report_text.proofs.Determined.{one_run}
 use Rattle.report_text.proofs.OneReport.{one_zip, same_look, same_line, same_refused}
 use Rattle.report_text.proofs.Unique.{one_fault, numbers_differ}
-use Rattle.report_text.proofs.Firsts.{same_first, same_rest}
 
 -- ---- a text of JSON has one tree
 

@@ -4,6 +4,7 @@ use Rattle.std.specs.Prelude.{◌^◌, Result, Ok, Err}
 use Rattle.std.specs.List.{AllByRecursion, flat_map, zip}
 use Rattle.std.proofs.lemmas.List.{append_cancel_left}
 use Rattle.script_tree.specs.declared.value.Value.{Value}
+use Rattle.script_tree.proofs.Lists.{same_first, same_rest}
 use Rattle.signal_graph.specs.declared.call.Reply.{Reply}
 use Rattle.signal_graph.specs.declared.call.Reply.TheVariants.{Fire as Fired, Read as Seen}
 use Rattle.signal_graph.specs.declared.log.Logged.{Logged}
@@ -19,7 +20,6 @@ use Rattle.report_text.specs.Reading.{IsReadAs}
 use Rattle.report_text.proofs.Unique.{one_named, numbers_differ, behind_count}
 use Rattle.report_text.proofs.LooksLaws.{looks_end}
 use Rattle.report_text.proofs.EntryLaws.{not_at_end, fire_flat, fire_looks_end, done_flat, refused_flat, why_ends, one_why, line_flat, reply_ends}
-use Rattle.report_text.proofs.Firsts.{same_first, same_rest}
 
 -- ---- looks
 pub same_look : (a b : List ℕ × Value) → a.0 ≡ b.0 → a.1 ≡ b.1 → a ≡ b

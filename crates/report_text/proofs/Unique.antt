@@ -16,9 +16,9 @@ use Rattle.script_tree.specs.declared.value.Fault.TheVariants.{Overflow, ZeroDiv
 use Rattle.script_tree.specs.declared.value.Value.{Value}
 use Rattle.script_tree.specs.declared.value.Value.TheVariants.{Int, Bool as Truth, Fault as Faulty}
 use Rattle.script_tree.proofs.Truths.{and_left, and_right}
+use Rattle.script_tree.proofs.Lists.{same_first, same_rest, not_empty}
 use Rattle.report_text.specs.Pieces.{is_inner, Ends, IsBlankFirst, IsValue, IsPlain}
 use Rattle.report_text.specs.Report.{counted, named_value}
-use Rattle.report_text.proofs.Firsts.{same_first, same_rest, not_empty}
 
 -- a byte within one text and a byte that ends another differ
 apart : (b c : ℕ) → is_inner b ≡ true → is_inner c ≡ false → b ≡ c → ⊥
