@@ -1,11 +1,11 @@
 -- A run of scripts one after the other is a merge of them.
-use Rattle.std.proofs.Common.{◌≡◌, ℕ, zero, suc, ◌+◌, ◌-◌, ◌<◌, ◌≤◌, min, Bool, true, false, cond, List, [], ◌∷◌, ◌++◌, length, take, Option, Some, None, refl, sym, ap, ◌∙◌, subst, arith, length-append, append_assoc}
+use Rattle.std.proofs.Common.{◌≡◌, ℕ, zero, suc, ◌+◌, ◌-◌, ◌<◌, ◌≤◌, min, Bool, true, false, cond, List, [], ◌∷◌, ◌++◌, length, take, Option, Some, None, refl, sym, ap, ◌∙◌, subst, arith, length-append, append_assoc, append-nil}
 use Rattle.std.specs.Prelude.{◌==◌, is_none, slice_index, slice_index_or, count_by, All}
 use Rattle.std.specs.List.Sorted.{IsStrictlyIncreasing}
 use Rattle.std.proofs.lemmas.Bool.Decides.{eqb_tells}
 use Rattle.std.proofs.lemmas.List.{length-take, length-map, map-append, take-map, take_min}
 use Rattle.std.proofs.lemmas.List.Sums.{sum_by-cons}
-use Rattle.std.proofs.lemmas.List.Elements.{filter-append, All-append}
+use Rattle.std.proofs.lemmas.List.Elements.{filter-append, All-push}
 use Rattle.script_tree.proofs.Numbers.{equal_to_itself}
 use Rattle.signal_graph.specs.declared.call.Call.{Call}
 use Rattle.signal_graph.specs.declared.log.Logged.{Logged}
@@ -44,25 +44,13 @@ pub record Grown (caller : ℕ) (before after : List Logged) (made : List Call) 
 
 grown_by_none : (caller : ℕ) (log : List Logged) → Grown caller log log []
 grown_by_none caller log = record {
-  own = sym (append_none (calls_in (entries_of caller log)));
-  made_next = sym (append_no_pair (made_in log));
+  own = sym (append-nil (calls_in (entries_of caller log)));
+  made_next = sym (append-nil (made_in log));
   others = λ c other. refl;
   size = omega arith;
   versions = λ h. h;
   callers = λ n low high h. h;
 }
-  where
-    append_no_pair : (xs : List (ℕ × Call)) → xs ++ [] ≡ xs
-    append_no_pair [] = refl
-    append_no_pair (x ∷ xs) = ap (λ ys. x ∷ ys) (append_no_pair xs)
-
-    append_none : (xs : List Call) → xs ++ [] ≡ xs
-    append_none [] = refl
-    append_none (x ∷ xs) = ap (λ ys. x ∷ ys) (append_none xs)
-
-all_one : (P : Logged → Type 0) (entry : Logged) → P entry → All P (entry ∷ [])
-all_one P entry h zero d within = h
-all_one P entry h (suc k) d within = absurd (omega arith)
 
 grown_by_one : (graph : Graph) (caller : ℕ) (call : Call) (log : List Logged) → Grown caller log (log ++ entry_of graph caller log call ∷ []) (call ∷ [])
 grown_by_one graph caller call log =
@@ -74,7 +62,7 @@ grown_by_one graph caller call log =
       others = λ c other. filter-append (λ (e : Logged). e.caller == c) log (entry ∷ []) ∙ ap (λ b. entries_of c log ++ cond b (entry ∷ []) []) (apart c other) ∙ append_none (entries_of c log);
       size = length-append log (entry ∷ []);
       versions = λ h. map-append (λ (e : Logged). e.version) log (entry ∷ []) ∙ ap (λ vs. vs ++ (length log + 1) ∷ []) h ∙ ap (λ v. upto 1 (length log) ++ v ∷ []) swapped ∙ sym (upto_more 1 (length log)) ∙ ap (upto 1) (sym (length-append log (entry ∷ [])));
-      callers = λ n low high h. All-append (IsOfCaller n) log (entry ∷ []) h (all_one (IsOfCaller n) entry (low, high));
+      callers = λ n low high h. All-push (IsOfCaller n) log entry h (low, high);
     }
   where
     append_none : (xs : List Logged) → xs ++ [] ≡ xs

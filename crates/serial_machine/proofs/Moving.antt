@@ -1,7 +1,7 @@
 -- A run that takes its scripts: the room of its log, and what is left of lists whose items move.
-use Rattle.std.proofs.Common.{◌≡◌, ℕ, zero, suc, ◌+◌, ◌-◌, ◌<◌, ◌≤◌, min, Bool, true, false, cond, List, [], ◌∷◌, ◌++◌, length, drop, get_or, Option, Some, None, refl, sym, ap, ◌∙◌, subst, arith, length-append}
-use Rattle.std.specs.Prelude.{All, sum_by}
-use Rattle.std.proofs.lemmas.List.{drop_more, length-take}
+use Rattle.std.proofs.Common.{◌≡◌, ℕ, suc, ◌+◌, ◌-◌, ◌<◌, ◌≤◌, min, Bool, true, false, cond, List, [], ◌∷◌, length, drop, get_or, Option, Some, None, sym, ap, ◌∙◌, subst, arith, length-append}
+use Rattle.std.specs.Prelude.{sum_by}
+use Rattle.std.proofs.lemmas.List.{drop_more}
 use Rattle.std.proofs.lemmas.List.Sums.{sum_by-cons}
 use Rattle.signal_graph.specs.declared.call.Call.{Call}
 use Rattle.signal_graph.specs.declared.log.Logged.{Logged}
@@ -26,16 +26,6 @@ grows_run graph limit caller scripts progress = let size = run_size graph limit 
 -- a whole run's log has as many entries as there are well-named calls, up to the limit
 pub whole_size : (graph : Graph) (limit : ℕ) (scripts : List (List Call)) → length (all_run graph limit 1 scripts nothing_yet).log ≡ min limit (count_well_named graph scripts)
 whole_size graph limit scripts = let size = run_size graph limit 1 scripts nothing_yet in omega (arith, size)
-
-pub all_first : {A : Type 0} (P : A → Type 0) (x : A) (xs : List A) → All P (x ∷ xs) → P x
-all_first P x xs h = h 0 x (omega arith)
-
-pub all_rest : {A : Type 0} (P : A → Type 0) (x : A) (xs : List A) → All P (x ∷ xs) → All P xs
-all_rest P x xs h k d within = h (suc k) d (omega arith)
-
-pub nothing_left : {A : Type 0} (xs : List A) → length xs ≡ 0 → xs ≡ []
-nothing_left [] h = refl
-nothing_left (x ∷ xs) h = absurd (omega arith)
 
 named_cond : (b : Bool) (call : Call) (calls : List Call) (n : ℕ) → length calls ≤ n → length (cond b (call ∷ calls) calls) ≤ suc n
 named_cond true call calls n h = omega arith

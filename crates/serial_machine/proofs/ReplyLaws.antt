@@ -1,9 +1,10 @@
 -- The reply that the values before a call and after it give is the one-thread machine's.
-use Rattle.std.proofs.Common.{◌≡◌, ℕ, ◌+◌, ◌<◌, ◌≤◌, Bool, true, false, List, [], ◌∷◌, length, refl, sym, ap, ◌∙◌, subst, arith}
+use Rattle.std.proofs.Common.{◌≡◌, ℕ, ◌+◌, ◌≤◌, Bool, true, false, List, [], ◌∷◌, length, refl, sym, ap, ◌∙◌, arith}
 use Rattle.std.specs.Prelude.{map, filter, cond, not, nat_lt, ◌&&◌, ◌||◌, ◌==◌}
 use Rattle.std.specs.List.{list_any}
 use Rattle.std.proofs.lemmas.List.{get_or_past}
 use Rattle.std.proofs.lemmas.Bool.Decides.{eqb_tells, nat_tests}
+use Rattle.std.proofs.lemmas.List.Elements.{filter_agree}
 use Rattle.script_tree.specs.declared.value.Value.{Value}
 use Rattle.script_tree.specs.declared.value.Value.TheVariants.{Fault as Faulty}
 use Rattle.script_tree.specs.declared.value.Fault.TheVariants.{NoChoice}
@@ -15,26 +16,13 @@ use Rattle.signal_graph.specs.Graph.{Graph, node_at, numbers, numbers_from, is_i
 use Rattle.signal_graph.specs.Values.{Values, at, values, deps}
 use Rattle.signal_graph.specs.Machine.{differs, same, after, reply, evaluated, looked, sets_of, looks_of}
 use Rattle.signal_graph.specs.OnePass.{after_call}
+use Rattle.signal_graph.proofs.ScriptNames.{among}
 use Rattle.serial_machine.specs.Between.{is_evaluated, count_changed, count_evaluated, looked_in, reply_between}
 
 -- a test of each member that gives the same gives the same of all
 any_same : (p q : ℕ → Bool) → ((n : ℕ) → p n ≡ q n) → (ns : List ℕ) → list_any p ns ≡ list_any q ns
 any_same p q e [] = refl
 any_same p q e (n ∷ ns) = ap (λ b. b || list_any p ns) (e n) ∙ ap (λ b. q n || b) (any_same p q e ns)
-
-filter_same : (p q : ℕ → Bool) → ((n : ℕ) → p n ≡ q n) → (ns : List ℕ) → filter p ns ≡ filter q ns
-filter_same p q e [] = refl
-filter_same p q e (n ∷ ns) =
-    ap (λ b. cond b (n ∷ filter p ns) (filter p ns)) (e n) ∙ ap (λ r. cond (q n) (n ∷ r) r) (filter_same p q e ns)
-
--- a number is among those that pass a test, of the numbers from n on, where it is one of them and passes it
-not_below : (p : ℕ → Bool) (d n : ℕ) (nodes : List Node) → d < n → is_in d (filter p (numbers_from n nodes)) ≡ false
-not_below p d n [] h = refl
-not_below p d n (node ∷ rest) h = cases (p n) (n == d) (grind (arith, eqb_tells)) (not_below p d (n + 1) rest (omega arith))
-  where
-    cases : (t e : Bool) → e ≡ false → is_in d (filter p (numbers_from (n + 1) rest)) ≡ false → list_any (λ m. m == d) (cond t (n ∷ filter p (numbers_from (n + 1) rest)) (filter p (numbers_from (n + 1) rest))) ≡ false
-    cases true e other later = grind (arith, eqb_tells, later)
-    cases false e other later = later
 
 not_beyond : (p : ℕ → Bool) (d n : ℕ) (nodes : List Node) → n + length nodes ≤ d → is_in d (filter p (numbers_from n nodes)) ≡ false
 not_beyond p d n [] h = refl
@@ -43,25 +31,6 @@ not_beyond p d n (node ∷ rest) h = cases (p n) (not_beyond p d (n + 1) rest (o
     cases : (t : Bool) → is_in d (filter p (numbers_from (n + 1) rest)) ≡ false → list_any (λ m. m == d) (cond t (n ∷ filter p (numbers_from (n + 1) rest)) (filter p (numbers_from (n + 1) rest))) ≡ false
     cases true later = let ne : (n == d) ≡ false = grind (arith, eqb_tells) in ap (λ b. b || is_in d (filter p (numbers_from (n + 1) rest))) ne ∙ later
     cases false later = later
-
-is_within : (p : ℕ → Bool) (d n : ℕ) (nodes : List Node) → n ≤ d → d < n + length nodes → is_in d (filter p (numbers_from n nodes)) ≡ p d
-is_within p d n [] low high = absurd (omega arith)
-is_within p d n (node ∷ rest) low high =
-    cases (p n) (n == d) refl refl (not_below p d (n + 1) rest) (λ above. is_within p d (n + 1) rest above (omega arith))
-  where
-    cases : (t e : Bool) → p n ≡ t → (n == d) ≡ e → (d < n + 1 → is_in d (filter p (numbers_from (n + 1) rest)) ≡ false) → (n + 1 ≤ d → is_in d (filter p (numbers_from (n + 1) rest)) ≡ p d) → is_in d (cond t (n ∷ filter p (numbers_from (n + 1) rest)) (filter p (numbers_from (n + 1) rest))) ≡ p d
-    cases true true passes here below above =
-        let e : n ≡ d = grind (arith, eqb_tells, here) in
-        ap (λ b. b || is_in d (filter p (numbers_from (n + 1) rest))) here ∙ sym (subst (λ m. p m ≡ true) e passes)
-    cases false true passes here below above =
-        let e : n ≡ d = grind (arith, eqb_tells, here) in
-        below (omega arith) ∙ sym (subst (λ m. p m ≡ false) e passes)
-    cases true false passes there below above =
-        let ne : n ≡ d → ⊥ = λ i. grind (arith, eqb_tells, there) in
-        ap (λ b. b || is_in d (filter p (numbers_from (n + 1) rest))) there ∙ above (grind arith)
-    cases false false passes there below above =
-        let ne : n ≡ d → ⊥ = λ i. grind (arith, eqb_tells, there) in
-        above (grind arith)
 
 -- behind the end of both lists no value differs
 beyond : (values : Values) (d : ℕ) → length values ≤ d → at values d ≡ Faulty NoChoice
@@ -76,7 +45,7 @@ changed_is : (graph : Graph) (before now : Values) → length before ≡ length 
 changed_is graph before now b n d = cases (nat_lt d (length graph.nodes)) refl
   where
     cases : (t : Bool) → nat_lt d (length graph.nodes) ≡ t → is_in d (filter (differs before now) (numbers graph)) ≡ differs before now d
-    cases true within = is_within (differs before now) d 0 graph.nodes (omega arith) (grind (arith, nat_tests, within))
+    cases true within = among (differs before now) 0 graph.nodes d (omega arith) (grind (arith, nat_tests, within))
     cases false past =
         let h : length graph.nodes ≤ d = grind (arith, nat_tests, past) in
         not_beyond (differs before now) d 0 graph.nodes (omega arith) ∙ sym (differs_beyond before now d (omega arith) (omega arith))
@@ -84,7 +53,7 @@ changed_is graph before now b n d = cases (nat_lt d (length graph.nodes)) refl
 -- the nodes whose dependencies changed are those whose dependencies differ
 evaluated_is : (graph : Graph) (kept next : Values) → length (values graph kept) ≡ length graph.nodes → length (values graph next) ≡ length graph.nodes → length (evaluated graph kept next) ≡ count_evaluated graph (values graph kept) (values graph next)
 evaluated_is graph kept next b n =
-    ap length (filter_same _ (λ m. is_evaluated (values graph kept) (values graph next) (node_at graph m))
+    ap length (filter_agree _ (λ m. is_evaluated (values graph kept) (values graph next) (node_at graph m))
     (λ m. ap (λ t. not (is_source (node_at graph m)) && t) (any_same _ (differs (values graph kept) (values graph next)) (λ d. changed_is graph (values graph kept) (values graph next) b n d) (deps graph kept m)))
     (numbers graph))
 

@@ -1,6 +1,6 @@
 -- A run of scripts one after the other is legal.
 use Rattle.std.proofs.Common.{◌≡◌, ℕ, zero, suc, ◌+◌, ◌-◌, ◌<◌, ◌≤◌, List, [], ◌∷◌, ◌++◌, length, drop, get_or, Option, Some, None, refl, sym, ap, ◌∙◌, subst, arith}
-use Rattle.std.proofs.lemmas.List.{drop_more}
+use Rattle.std.proofs.lemmas.List.{drop_more, drop_all}
 use Rattle.signal_graph.specs.declared.call.Call.{Call}
 use Rattle.signal_graph.specs.declared.log.Logged.{Logged}
 use Rattle.signal_graph.specs.declared.log.Why.{Why}
@@ -75,12 +75,6 @@ stands_more machine moved log more entry call same grown called at =
     ∙ ap (λ g. state_after g more) (sym same))
     at
 
-all_left : (scripts : List (List Call)) (n : ℕ) → length scripts ≤ n → drop n scripts ≡ []
-all_left [] zero h = refl
-all_left [] (suc n) h = refl
-all_left (calls ∷ scripts) zero h = absurd (omega arith)
-all_left (calls ∷ scripts) (suc n) h = all_left scripts n (omega arith)
-
 -- behind the last caller nothing is left to run
 pub run_ends : (graph : Graph) (limit caller : ℕ) (scripts : List (List Call)) (n : ℕ) (progress : Progress) → length scripts ≤ n → all_run graph limit caller (drop n scripts) progress ≡ progress
-run_ends graph limit caller scripts n progress h = ap (λ cs. all_run graph limit caller cs progress) (all_left scripts n h)
+run_ends graph limit caller scripts n progress h = ap (λ cs. all_run graph limit caller cs progress) (drop_all n scripts h)

@@ -2,6 +2,7 @@
 use Rattle.std.proofs.Common.{◌≡◌, ℕ, zero, suc, ◌+◌, ◌<◌, ◌≤◌, List, [], ◌∷◌, ◌++◌, length, take, refl, sym, ap, ◌∙◌, subst, arith}
 use Rattle.std.specs.Prelude.{slice_index_or}
 use Rattle.script_tree.specs.declared.value.Value.{Value}
+use Rattle.script_tree.proofs.Lists.{same_first, same_rest}
 use Rattle.signal_graph.specs.declared.call.Call.{Call}
 use Rattle.signal_graph.specs.declared.log.Logged.{Logged}
 use Rattle.signal_graph.specs.declared.log.Refused.{Refused}
@@ -71,25 +72,19 @@ same_entry a b caller version call reply =
     ∙ ap (λ c. record { caller = b.caller; version = b.version; call = c; reply = a.reply }) call
     ∙ ap (λ r. record { caller = b.caller; version = b.version; call = b.call; reply = r }) reply
 
-first_pair : (p q : ℕ × Call) (ps qs : List (ℕ × Call)) → p ∷ ps ≡ q ∷ qs → p ≡ q
-first_pair p q ps qs h = cc
-
-other_pairs : (p q : ℕ × Call) (ps qs : List (ℕ × Call)) → p ∷ ps ≡ q ∷ qs → ps ≡ qs
-other_pairs p q ps qs h = cc
-
 -- the calls with their callers, the versions and the machine determine a log
 same_log : (graph : Graph) (kept : Values) (from : ℕ) (log other : List Logged) → made_in log ≡ made_in other → CountsOn from log → CountsOn from other → LegalFrom graph kept log → LegalFrom graph kept other → log ≡ other
 same_log graph kept from [] [] made counts counts_too legal legal_too = refl
 same_log graph kept from [] (e ∷ other) made counts counts_too legal legal_too = absurd (cc)
 same_log graph kept from (e ∷ log) [] made counts counts_too legal legal_too = absurd (cc)
 same_log graph kept from (a ∷ log) (b ∷ other) made counts counts_too legal legal_too =
-    let pair = first_pair (a.caller, a.call) (b.caller, b.call) (made_in log) (made_in other) made in
+    let pair = same_first (a.caller, a.call) (b.caller, b.call) (made_in log) (made_in other) made in
     let caller : a.caller ≡ b.caller = ap (λ (p : ℕ × Call). p.0) pair in
     let call : a.call ≡ b.call = ap (λ (p : ℕ × Call). p.1) pair in
     let version : a.version ≡ b.version = counts 0 a (omega arith) ∙ sym (counts_too 0 a (omega arith)) in
     let reply : a.reply ≡ b.reply = legal.0 ∙ ap (reply graph kept) call ∙ sym legal_too.0 in
     let later = same_log graph (after graph kept a.call) (from + 1) log other
-    (other_pairs (a.caller, a.call) (b.caller, b.call) (made_in log) (made_in other) made)
+    (same_rest (a.caller, a.call) (b.caller, b.call) (made_in log) (made_in other) made)
     (counts_later from a log counts) (counts_later from b other counts_too)
     legal.1 (subst (λ c. LegalFrom graph (after graph kept c) other) (sym call) legal_too.1) in
     ap (λ e. e ∷ log) (same_entry a b caller version call reply) ∙ ap (λ es. b ∷ es) later

@@ -24,14 +24,14 @@ use Rattle.signal_graph.proofs.GraphNodes.{node_is}
 pub few_names : (names : List (List ℕ)) (script : Scripted) (inputs : List ℕ) → Resolves names script inputs → Kept script → length inputs ≤ INPUTS
 few_names names script inputs r k = omega (arith, k.few, length-map inputs (λ n. get_or names n []), ap length r)
 
-few : (names : List (List ℕ)) (n : ℕ) (node : Node) → IsNode names n node → length (inputs_of node) ≤ INPUTS
-few names n (Source start) h = omega arith
-few names n (Signal script inputs) h = few_names names script inputs h.2 h.4
-few names n (Fold start script inputs) h = few_names names script inputs h.2 h.4
-few names n (Choose selectors body inputs) h = h.5
+pub few_inputs : (names : List (List ℕ)) (n : ℕ) (node : Node) → IsNode names n node → length (inputs_of node) ≤ INPUTS
+few_inputs names n (Source start) h = omega arith
+few_inputs names n (Signal script inputs) h = few_names names script inputs h.2 h.4
+few_inputs names n (Fold start script inputs) h = few_names names script inputs h.2 h.4
+few_inputs names n (Choose selectors body inputs) h = h.5
 
 pub graph_few : (graph : Graph) → IsGraph graph → (n : ℕ) → n < length graph.nodes → length (inputs_of (node_at graph n)) ≤ INPUTS
-graph_few graph g n within = few graph.names (0 + n) (node_at graph n) (node_is graph.names 0 graph.nodes n (Source (Faulty Kind)) g.nodes within)
+graph_few graph g n within = few_inputs graph.names (0 + n) (node_at graph n) (node_is graph.names 0 graph.nodes n (Source (Faulty Kind)) g.nodes within)
 
 -- what is among what was seen, or among the rest
 old_item : (s d x a : Bool) → (s || d) ≡ (s || a) → (x ≡ true → s ≡ true) → (s || d) ≡ (s || (x || a))

@@ -1,6 +1,8 @@
 use Rattle.std.proofs.Common.{◌≡◌, ◌+◌, ◌<◌, ◌≤◌, ◌^◌, ◌∷◌, [], ℕ, min, List, take, length, sym, ap, ◌∙◌, subst, arith}
 use Rattle.std.specs.Prelude.{All, sum_by}
 use Rattle.std.specs.Vec.Iter.{into_iter_items}
+use Rattle.std.proofs.lemmas.List.Elements.{All-tail}
+use Rattle.std.proofs.lemmas.List.{nil_from_length}
 use Rattle.signal_graph.specs.declared.log.Logged.{Logged}
 use Rattle.signal_graph.specs.declared.log.Refused.{Refused}
 use Rattle.signal_graph.specs.declared.call.Call.{Call}
@@ -13,7 +15,7 @@ use Rattle.serial_machine.specs.Running.{IsWithinLimits}
 use Rattle.serial_machine.specs.SerialOrder.{made_in, serial_calls, CountsVersions}
 use Rattle.serial_machine.proofs.Runs.{run_is_legal}
 use Rattle.serial_machine.proofs.Merging.{run_is_merge, run_makes_first, run_counts_versions}
-use Rattle.serial_machine.proofs.Moving.{few_of_all, all_rest, nothing_left, room_for_caller, moved_caller, whole_run}
+use Rattle.serial_machine.proofs.Moving.{few_of_all, room_for_caller, moved_caller, whole_run}
 use Rattle.serial_machine.proofs.run.serial_owned.Goals as goal
 
 legal : (graph : Graph) (limit : ℕ) (scripts : List (List Call)) (log : List Logged) (progress : Progress) → log ≡ progress.log → progress ≡ all_run graph limit 1 scripts nothing_yet → Legal graph log
@@ -55,8 +57,8 @@ loop-calls-preserved c =
       c.in_ok-call_all.ensures.capacity ∙ i.2,
       (let size = i.3 in omega arith),
       (let was = i.4 in omega arith),
-      all_rest (λ (calls : List Call). length calls < 2 ^ 32) c.in-Some.calls rest (subst (All (λ (calls : List Call). length calls < 2 ^ 32)) steps i.5),
-      all_rest (All IsWithinLimits) c.in-Some.calls rest (subst (All (All IsWithinLimits)) steps i.6),
+      All-tail (λ (calls : List Call). length calls < 2 ^ 32) c.in-Some.calls rest (subst (All (λ (calls : List Call). length calls < 2 ^ 32)) steps i.5),
+      All-tail (All IsWithinLimits) c.in-Some.calls rest (subst (All (All IsWithinLimits)) steps i.6),
       moved_caller c.args.graph.now at.run.graph c.args.versions at.run.limit at.caller c.in-Some.calls rest (into_iter_items at.calls-iterator)
           c.args.scripts at.run.progress c.call_all.new.self.progress i.0 i.1 steps c.in_ok-call_all.ensures.called i.7,
     )
@@ -65,7 +67,7 @@ pub returns-clause-legal : goal.returns-clause-legal
 returns-clause-legal c =
     let at = c.loop-calls in
     let none = c.in-None.ensures.steps in
-    let empty : into_iter_items at.calls-iterator ≡ [] = nothing_left (into_iter_items at.calls-iterator) (sym at.invariant.4 ∙ none.0) in
+    let empty : into_iter_items at.calls-iterator ≡ [] = nil_from_length (into_iter_items at.calls-iterator) (sym at.invariant.4 ∙ none.0) in
     let whole = whole_run c.args.graph.now c.args.versions (at.caller + 1) (into_iter_items at.calls-iterator) c.args.scripts at.run.progress empty at.invariant.7 in
     legal c.args.graph.now c.args.versions c.args.scripts c.finish.result.log.entries at.run.progress c.finish.ensures.log whole
 
@@ -73,7 +75,7 @@ pub returns-clause-merge : goal.returns-clause-merge
 returns-clause-merge c =
     let at = c.loop-calls in
     let none = c.in-None.ensures.steps in
-    let empty : into_iter_items at.calls-iterator ≡ [] = nothing_left (into_iter_items at.calls-iterator) (sym at.invariant.4 ∙ none.0) in
+    let empty : into_iter_items at.calls-iterator ≡ [] = nil_from_length (into_iter_items at.calls-iterator) (sym at.invariant.4 ∙ none.0) in
     let whole = whole_run c.args.graph.now c.args.versions (at.caller + 1) (into_iter_items at.calls-iterator) c.args.scripts at.run.progress empty at.invariant.7 in
     merge c.args.graph.now c.args.versions c.args.scripts c.finish.result.log.entries c.finish.result.refused at.run.progress c.finish.ensures.log c.finish.ensures.refused whole
 
@@ -81,7 +83,7 @@ pub returns-clause-calls : goal.returns-clause-calls
 returns-clause-calls c =
     let at = c.loop-calls in
     let none = c.in-None.ensures.steps in
-    let empty : into_iter_items at.calls-iterator ≡ [] = nothing_left (into_iter_items at.calls-iterator) (sym at.invariant.4 ∙ none.0) in
+    let empty : into_iter_items at.calls-iterator ≡ [] = nil_from_length (into_iter_items at.calls-iterator) (sym at.invariant.4 ∙ none.0) in
     let whole = whole_run c.args.graph.now c.args.versions (at.caller + 1) (into_iter_items at.calls-iterator) c.args.scripts at.run.progress empty at.invariant.7 in
     in_order c.args.graph.now c.args.versions c.args.scripts c.finish.result.log.entries at.run.progress c.finish.ensures.log whole
 
@@ -89,6 +91,6 @@ pub returns-clause-versions : goal.returns-clause-versions
 returns-clause-versions c =
     let at = c.loop-calls in
     let none = c.in-None.ensures.steps in
-    let empty : into_iter_items at.calls-iterator ≡ [] = nothing_left (into_iter_items at.calls-iterator) (sym at.invariant.4 ∙ none.0) in
+    let empty : into_iter_items at.calls-iterator ≡ [] = nil_from_length (into_iter_items at.calls-iterator) (sym at.invariant.4 ∙ none.0) in
     let whole = whole_run c.args.graph.now c.args.versions (at.caller + 1) (into_iter_items at.calls-iterator) c.args.scripts at.run.progress empty at.invariant.7 in
     counting c.args.graph.now c.args.versions c.args.scripts c.finish.result.log.entries at.run.progress c.finish.ensures.log whole

@@ -1,8 +1,9 @@
 use Rattle.std.proofs.Common.{◌≡◌, ◌∷◌, length, ap, ◌∙◌, subst, arith}
 use Rattle.std.specs.Prelude.{All}
 use Rattle.std.specs.Vec.Iter.{into_iter_items}
+use Rattle.std.proofs.lemmas.List.Elements.{All-tail}
 use Rattle.serial_machine.specs.Running.{IsWithinLimits}
-use Rattle.serial_machine.proofs.Moving.{all_rest, room_for_next, moved_next}
+use Rattle.serial_machine.proofs.Moving.{room_for_next, moved_next}
 use Rattle.serial_machine.proofs.run.Run.call_all.Goals as goal
 
 pub call-requires-clause-room : goal.call-requires-clause-room
@@ -28,7 +29,7 @@ loop-call-preserved c =
       c.in_ok-call.ensures.capacity ∙ i.2,
       (let size = i.3 in omega arith),
       (let was = i.4 in omega arith),
-      all_rest IsWithinLimits x rest (subst (All IsWithinLimits) steps i.5),
+      All-tail IsWithinLimits x rest (subst (All IsWithinLimits) steps i.5),
       moved_next c.args.self.now.graph at.self.graph c.args.self.now.limit at.self.limit c.args.caller at.number x rest (into_iter_items at.call-iterator)
           c.args.calls at.self.progress c.call.new.self.progress c.args.self.now.progress i.0 i.1 steps c.in_ok-call.ensures.called i.6,
     )
