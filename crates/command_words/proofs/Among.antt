@@ -1,7 +1,8 @@
 -- Options of kinds that may be given, none twice: one after the other, each of a kind that may still be given.
-use Rattle.std.proofs.Common.{◌≡◌, ℕ, zero, suc, ◌<◌, Bool, true, false, List, [], ◌∷◌, map, length, refl, sym, ap, true≢false, arith}
-use Rattle.std.specs.Prelude.{◌≢◌, ⊤, IsTrue, slice_index_or}
+use Rattle.std.proofs.Common.{◌≡◌, zero, suc, Bool, true, false, List, [], ◌∷◌, map, refl, sym, ap, true≢false, arith}
+use Rattle.std.specs.Prelude.{◌≢◌, ⊤, IsTrue}
 use Rattle.std.specs.List.{AllByRecursion, AllPairs}
+use Rattle.std.proofs.lemmas.List.Elements.{All-from_recursion, recursion_from_All}
 use Rattle.command_words.specs.declared.kinds.Kind.{Kind}
 use Rattle.command_words.specs.declared.kinds.Kind.TheVariants.{Json, Versions}
 use Rattle.command_words.specs.declared.kinds.Kinds.{Kinds}
@@ -46,28 +47,17 @@ abbrev NoneTwice : List Kind → Type 0
 NoneTwice [] = ⊤
 NoneTwice (kind ∷ kinds) = AllByRecursion (λ other. kind ≢ other) kinds × NoneTwice kinds
 
-apart_at : (kind : Kind) (kinds : List Kind) (k : ℕ) (d : Kind) → AllByRecursion (λ other. kind ≢ other) kinds → k < length kinds
-    → kind ≢ slice_index_or kinds k d
-apart_at kind [] k d all within = absurd (omega (arith, within))
-apart_at kind (x ∷ xs) zero d all within = all.0
-apart_at kind (x ∷ xs) (suc k) d all within = apart_at kind xs k d all.1 (omega (arith, within))
-
 pub all_apart : (kinds : List Kind) → NoneTwice kinds → AllPairs (λ a b. a ≢ b) kinds
 all_apart [] none i j d less within = absurd (omega (arith, within))
 all_apart (x ∷ xs) none zero zero d less within = absurd (omega (arith, less))
-all_apart (x ∷ xs) none zero (suc j) d less within = apart_at x xs j d none.0 (omega (arith, within))
+all_apart (x ∷ xs) none zero (suc j) d less within = All-from_recursion (λ other. x ≢ other) xs none.0 j d (omega (arith, within))
 all_apart (x ∷ xs) none (suc i) zero d less within = absurd (omega (arith, less))
 all_apart (x ∷ xs) none (suc i) (suc j) d less within = all_apart xs none.1 i j d (omega (arith, less)) (omega (arith, within))
-
-each_apart : (kind : Kind) (others : List Kind) → ((k : ℕ) (d : Kind) → k < length others → kind ≢ slice_index_or others k d)
-    → AllByRecursion (λ other. kind ≢ other) others
-each_apart kind [] all = tt
-each_apart kind (x ∷ xs) all = (all zero x (omega arith), each_apart kind xs (λ k d within. all (suc k) d (omega (arith, within))))
 
 none_twice : (kinds : List Kind) → AllPairs (λ a b. a ≢ b) kinds → NoneTwice kinds
 none_twice [] apart = tt
 none_twice (x ∷ xs) apart = (
-  each_apart x xs (λ k d within. apart zero (suc k) d (omega arith) (omega (arith, within))),
+  recursion_from_All (λ other. x ≢ other) xs (λ k d within. apart zero (suc k) d (omega arith) (omega (arith, within))),
   none_twice xs (λ i j d less within. apart (suc i) (suc j) d (omega (arith, less)) (omega (arith, within))),
 )
 

@@ -8,6 +8,7 @@ use Rattle.std.specs.Str.{IsUtf8, IsAscii}
 use Rattle.std.specs.Str.Parse.{AllDigits, digits_value}
 use Rattle.std.specs.Char.{digit_value}
 use Rattle.std.proofs.lemmas.Str.{IsUtf8-from_ascii}
+use Rattle.std.proofs.lemmas.Bool.{and_parts}
 use Rattle.std.proofs.lemmas.Bool.Decides.{nat_tests}
 use Rattle.std.proofs.lemmas.List.Folds.{list_all-append}
 use Rattle.command_words.specs.declared.command.Command.{Command}
@@ -19,8 +20,7 @@ use Rattle.command_words.specs.declared.verb.Verb.TheVariants as verb
 use Rattle.command_words.specs.Words.{Given, Json, Versions, IsBlock, AreBlocks, AreOptions, AreNoOptions, IsNumber, IsOperand, AsksFor}
 use Rattle.command_words.specs.Words.{ReadsWords, word_of, takes_number, kinds_of, asked, versions_in, json_in, HasFewVersions}
 use Rattle.command_words.specs.Blocks.{Gives, AsksByOptions, ReadsOptions}
-use Rattle.command_words.proofs.Limits.{both}
-use Rattle.command_words.proofs.Blocks.{Text, first, tail, one_given}
+use Rattle.command_words.proofs.Blocks.{Text, first_word, tail, one_given}
 
 -- ---- a command line is ASCII, so it is text
 
@@ -30,8 +30,8 @@ is_ascii (b ∷ bs) = nat_lt b 128 && is_ascii bs
 
 ascii_at : (bs : List ℕ) → is_ascii bs ≡ true → IsAscii bs
 ascii_at [] h i = omega arith
-ascii_at (b ∷ bs) h zero = grind (arith, nat_tests, (both (nat_lt b 128) (is_ascii bs) h).0)
-ascii_at (b ∷ bs) h (suc i) = ascii_at bs (both (nat_lt b 128) (is_ascii bs) h).1 i
+ascii_at (b ∷ bs) h zero = grind (arith, nat_tests, (and_parts (nat_lt b 128) (is_ascii bs) h).0)
+ascii_at (b ∷ bs) h (suc i) = ascii_at bs (and_parts (nat_lt b 128) (is_ascii bs) h).1 i
 
 digit_ascii : (c : ℕ) → digit_value c < 10 → nat_lt c 128 ≡ true
 digit_ascii c h = grind (arith, nat_tests, h)
@@ -42,8 +42,8 @@ digits_ascii (d ∷ ds) h = rw (digit_ascii d h.0, digits_ascii ds h.1) refl
 
 all_text : (words : List Text) → list_all is_ascii words ≡ true → All IsUtf8 words
 all_text [] h k d within = absurd (omega (arith, within))
-all_text (w ∷ ws) h zero d within = IsUtf8-from_ascii w (ascii_at w (both (is_ascii w) (list_all is_ascii ws) h).0)
-all_text (w ∷ ws) h (suc k) d within = all_text ws (both (is_ascii w) (list_all is_ascii ws) h).1 k d (omega (arith, within))
+all_text (w ∷ ws) h zero d within = IsUtf8-from_ascii w (ascii_at w (and_parts (is_ascii w) (list_all is_ascii ws) h).0)
+all_text (w ∷ ws) h (suc k) d within = all_text ws (and_parts (is_ascii w) (list_all is_ascii ws) h).1 k d (omega (arith, within))
 
 block_ascii : (option : Given) (block : List Text) → IsBlock option block → list_all is_ascii block ≡ true
 block_ascii Json block is = subst (λ ws. list_all is_ascii ws ≡ true) (sym is) refl
@@ -125,7 +125,7 @@ none_asked command a = absurd (omega (arith, ap length a.words_are))
 
 pub no_verb : (first : Text) (rest : List Text) → ((verb : Verb) → first ≡ word_of verb → ⊥) → (command : Command)
     → AsksFor (first ∷ rest) command → ⊥
-no_verb word rest none command a = none a.verb (ap first a.words_are)
+no_verb word rest none command a = none a.verb (ap first_word a.words_are)
 
 -- ---- a command's word
 
@@ -171,7 +171,7 @@ same_behind false xs ys before after m n f g e =
     (f.1 ∙ sym g.1, ap (λ ws. ws ++ before) (sym f.0) ∙ e ∙ ap (λ ws. ws ++ after) g.0)
 same_behind true xs ys before after m n f g e =
     let same : f.0 ∷ before ≡ g.0 ∷ after = ap (λ ws. ws ++ before) (sym f.1) ∙ e ∙ ap (λ ws. ws ++ after) g.1 in
-    (f.3 ∙ ap (digits_value 10) (ap first same) ∙ sym g.3, ap tail same)
+    (f.3 ∙ ap (digits_value 10) (ap first_word same) ∙ sym g.3, ap tail same)
 
 asks : (verb : Verb) (operand options : List Text) (number : ℕ) (command : Command) → IsTaken (takes_number verb) operand number
     → AsksByOptions verb number options command → AsksFor (word_of verb ∷ (operand ++ options)) command
@@ -190,7 +190,7 @@ asks verb operand options number command takes by = record {
 asks_none : (verb : Verb) (operand options : List Text) (number : ℕ) (command : Command) → IsTaken (takes_number verb) operand number
     → AreNoOptions (kinds_of verb) options → AsksFor (word_of verb ∷ (operand ++ options)) command → ⊥
 asks_none verb operand options number command takes none a =
-    let same = one_verb a.verb verb (sym (ap first a.words_are)) in
+    let same = one_verb a.verb verb (sym (ap first_word a.words_are)) in
     let operands = subst (λ v. IsTaken (takes_number v) a.operand a.number) same (taken a.verb a.operand a.number a.takes) in
     let behind = (same_behind (takes_number verb) operand a.operand options a.options number a.number takes operands
     (ap tail a.words_are)).1 in
@@ -226,7 +226,7 @@ numbered_read verb text options number r takes is same read =
 has_number : (verb : Verb) (behind : List Text) (command : Command) → takes_number verb ≡ true → AsksFor (word_of verb ∷ behind) command
     → (text : Text) × (rest : List Text) × IsNumber text × (behind ≡ text ∷ rest)
 has_number verb behind command takes a =
-    let same = one_verb a.verb verb (sym (ap first a.words_are)) in
+    let same = one_verb a.verb verb (sym (ap first_word a.words_are)) in
     let operand = subst (λ t. IsTaken t a.operand a.number) (ap takes_number same ∙ takes) (taken a.verb a.operand a.number a.takes) in
     (operand.0, a.options, operand.2, ap tail a.words_are ∙ ap (λ ws. ws ++ a.options) operand.1)
 
@@ -236,7 +236,7 @@ none_behind verb command takes a = let h = has_number verb [] command takes a in
 pub not_number : (verb : Verb) (text : Text) (options : List Text) (command : Command) → takes_number verb ≡ true → (IsNumber text → ⊥)
     → AsksFor (word_of verb ∷ text ∷ options) command → ⊥
 not_number verb text options command takes none a =
-    let h = has_number verb (text ∷ options) command takes a in none (subst IsNumber (sym (ap first h.3)) h.2)
+    let h = has_number verb (text ∷ options) command takes a in none (subst IsNumber (sym (ap first_word h.3)) h.2)
 
 pub ruleset numbered_laws = (numbered_read, none_behind, not_number)
 
@@ -245,7 +245,7 @@ pub ruleset numbered_laws = (numbered_read, none_behind, not_number)
 pub one_command : (words : List Text) (a b : Command) → AsksFor words a → AsksFor words b → a ≡ b
 one_command words a b x y =
     let words_same = sym x.words_are ∙ y.words_are in
-    let same = one_verb x.verb y.verb (ap first words_same) in
+    let same = one_verb x.verb y.verb (ap first_word words_same) in
     let operands = subst (λ v. IsTaken (takes_number v) x.operand x.number) same (taken x.verb x.operand x.number x.takes) in
     let behind = same_behind (takes_number y.verb) x.operand y.operand x.options y.options x.number y.number operands
     (taken y.verb y.operand y.number y.takes) (ap tail words_same) in

@@ -7,22 +7,25 @@ use Rattle.command_words.specs.Words.{Given, Json, Versions, IsBlock, AreBlocks}
 abbrev pub Text : Type 0
 Text = List ℕ
 
-abbrev pub first : List Text → Text
-first [] = []
-first (word ∷ words) = word
+abbrev pub first_word : List Text → Text
+first_word [] = []
+first_word (word ∷ words) = word
 
 abbrev pub tail : List Text → List Text
 tail [] = []
 tail (word ∷ words) = words
 
+abbrev pub second_word : List Text → Text
+second_word words = first_word (tail words)
+
 -- the option whose block stands first, if one does, and the words behind it
 
 abbrev first_option : List Text → Given
-first_option words = if bytes_eq (first words) (codes "--json") then Json else
-    (if bytes_eq (first words) (codes "--versions") then Versions (first (tail words)) else Versions (drop 11 (first words)))
+first_option words = if bytes_eq (first_word words) (codes "--json") then Json else
+    (if bytes_eq (first_word words) (codes "--versions") then Versions (second_word words) else Versions (drop 11 (first_word words)))
 
 abbrev behind_first : List Text → List Text
-behind_first words = if bytes_eq (first words) (codes "--versions") then tail (tail words) else tail words
+behind_first words = if bytes_eq (first_word words) (codes "--versions") then tail (tail words) else tail words
 
 pub option_read : (option : Given) (block rest : List Text) → IsBlock option block → first_option (block ++ rest) ≡ option
 option_read Json block rest is = subst (λ b. first_option (b ++ rest) ≡ Json) (sym is) refl

@@ -5,7 +5,8 @@ use Rattle.std.specs.Prelude.{slice_index_or}
 use Rattle.std.specs.Str.{bytes_eq}
 use Rattle.std.specs.Borrow.{Bor}
 use Rattle.std.proofs.lemmas.List.{take-append-drop, drop-map, take_all, length-map}
-use Rattle.std.proofs.lemmas.Slice.Eq.{bytes_eq-Decides}
+use Rattle.std.proofs.lemmas.Bool.{and_parts}
+use Rattle.script_tree.proofs.Texts.{same_text}
 use Rattle.command_words.specs.declared.kinds.Kind.{Kind}
 use Rattle.command_words.specs.declared.kinds.Kind.TheVariants as kind
 use Rattle.command_words.specs.declared.kinds.Kinds.{Kinds}
@@ -13,23 +14,20 @@ use Rattle.command_words.specs.Words.{Given, Json, Versions, kind_of, has, IsBlo
 use Rattle.command_words.specs.Kinds.{without}
 use Rattle.command_words.specs.Blocks.{Begins, BeginsWithNone, AreSome}
 use Rattle.command_words.specs.Tests.{is_limit, is_limit_within}
-use Rattle.command_words.proofs.Limits.{both, limit_spelled, limit_tested}
+use Rattle.command_words.proofs.Limits.{limit_spelled, limit_tested}
 use Rattle.command_words.proofs.Among.{AreAmong, all_apart, among_kept, among_may, among_once}
-use Rattle.command_words.proofs.Blocks.{Text, one_option, one_rest, not_empty}
+use Rattle.command_words.proofs.Blocks.{Text, first_word, second_word, one_option, one_rest, not_empty}
 
 -- ---- the first block
-
-same : (xs ys : Text) → bytes_eq xs ys ≡ true → xs ≡ ys
-same xs ys h = (bytes_eq-Decides xs ys).0 h
 
 pub json_begins : (first : Text) (rest : List Text) → first ≡ codes "--json" → Begins (first ∷ rest) kind.Json 1
 json_begins first rest e = record { option = Json; of_kind = refl; block = ap (λ w. w ∷ []) e; some = omega arith; within = omega arith }
 
 within_limit : (first : Text) → is_limit_within first ≡ true → IsBlock (Versions (drop 11 first)) (first ∷ [])
 within_limit first h =
-    let parts = both (bytes_eq (take 11 first) (codes "--versions=")) (is_limit (drop 11 first)) h in
+    let parts = and_parts (bytes_eq (take 11 first) (codes "--versions=")) (is_limit (drop 11 first)) h in
     let joined = sym (take-append-drop 11 first)
-    ∙ ap (λ front. front ++ drop 11 first) (same (take 11 first) (codes "--versions=") parts.0) in
+    ∙ ap (λ front. front ++ drop 11 first) (same_text (take 11 first) (codes "--versions=") parts.0) in
     (limit_spelled (drop 11 first) parts.1, inr (ap (λ w. w ∷ []) joined))
 
 pub within_begins : (first : Text) (rest : List Text) → is_limit_within first ≡ true → Begins (first ∷ rest) kind.Versions 1
@@ -51,14 +49,6 @@ behind_begins first text rest e h = record {
   some = omega arith;
   within = omega arith;
 }
-
-abbrev first_word : List Text → Text
-first_word [] = []
-first_word (w ∷ ws) = w
-
-abbrev second_word : List Text → Text
-second_word [] = []
-second_word (w ∷ ws) = first_word ws
 
 pub none_begins : (first : Text) (rest : List Text) → (first ≡ codes "--json" → ⊥) → is_limit_within first ≡ false
     → (first ≡ codes "--versions" → ⊥) → BeginsWithNone (first ∷ rest)
@@ -108,19 +98,16 @@ no_block kinds words some none = record { none = from }
     from [] are = some are.blocks
     from (option ∷ given) are = none.none option are.blocks.0 are.blocks.1 are.blocks.2 are.blocks.3
 
-split : (words : List Text) (count : ℕ) → words ≡ take count words ++ drop count words
-split words count = sym (take-append-drop count words)
-
 -- where words begin with a block of a kind, other options of theirs do too
 pub not_had : (kinds : Kinds) (words : List Text) (kind : Kind) (count : ℕ) → Begins words kind count → has kinds kind ≡ false
     → AreNoOptions kinds words
 not_had kinds words kind count b not = record { none = from }
   where
     from : (given : List Given) → AreOptions kinds given words → ⊥
-    from [] are = not_empty b.option (take count words) (drop count words) words are.blocks (split words count) b.block
+    from [] are = not_empty b.option (take count words) (drop count words) words are.blocks (sym (take-append-drop count words)) b.block
     from (option ∷ given) are =
         let one = one_option option b.option are.blocks.0 (take count words) are.blocks.1
-        (drop count words) words are.blocks.2 are.blocks.3 (split words count) b.block in
+        (drop count words) words are.blocks.2 are.blocks.3 (sym (take-append-drop count words)) b.block in
         true≢false (sym are.may.0 ∙ ap (has kinds) (ap kind_of one ∙ b.of_kind) ∙ not)
 
 pub one_more : (kinds : Kinds) (words : List Text) (kind : Kind) (count : ℕ) → Begins words kind count → has kinds kind ≡ true
@@ -132,7 +119,7 @@ one_more kinds words kind count b had some =
     record {
       given = b.option ∷ some.given;
       are = record {
-        blocks = (take count words, drop count words, split words count, b.block, some.are.blocks);
+        blocks = (take count words, drop count words, sym (take-append-drop count words), b.block, some.are.blocks);
         may = among_may kinds (b.option ∷ some.given) all;
         once = among_once kinds (b.option ∷ some.given) all;
       };
@@ -143,12 +130,12 @@ pub none_more : (kinds : Kinds) (words : List Text) (kind : Kind) (count : ℕ) 
 none_more kinds words kind count b none = record { none = from }
   where
     from : (given : List Given) → AreOptions kinds given words → ⊥
-    from [] are = not_empty b.option (take count words) (drop count words) words are.blocks (split words count) b.block
+    from [] are = not_empty b.option (take count words) (drop count words) words are.blocks (sym (take-append-drop count words)) b.block
     from (option ∷ given) are =
         let one = one_option option b.option are.blocks.0 (take count words) are.blocks.1
-        (drop count words) words are.blocks.2 are.blocks.3 (split words count) b.block in
+        (drop count words) words are.blocks.2 are.blocks.3 (sym (take-append-drop count words)) b.block in
         let rest = one_rest option b.option are.blocks.0 (take count words) are.blocks.1 (drop count words) words are.blocks.2 are.blocks.3
-        (split words count) b.block in
+        (sym (take-append-drop count words)) b.block in
         let among = (among_kept kinds (option ∷ given) are.may are.once).1 in
         let fewer = subst (λ k. AreAmong (without kinds k) given) (ap kind_of one ∙ b.of_kind) among in
         none.none given (record {

@@ -1,9 +1,10 @@
 -- Digits and limits of versions.
-use Rattle.std.proofs.Common.{◌≡◌, ℕ, ◌≤◌, ◌<◌, Bool, true, false, List, [], ◌∷◌, length, refl, sym, ap, subst, ◌∙◌, arith, true≢false}
+use Rattle.std.proofs.Common.{◌≡◌, ℕ, ◌≤◌, ◌<◌, true, false, List, [], ◌∷◌, length, refl, sym, ap, subst, ◌∙◌, arith}
 use Rattle.std.specs.Prelude.{nat_lt, nat_le, ◌^◌, ◌==◌, ◌&&◌}
 use Rattle.std.specs.List.{list_all}
 use Rattle.std.specs.Char.{is_ascii_digit, digit_value}
 use Rattle.std.specs.Str.Parse.{AllDigits, IsNumeral, digits_value, without_leading_plus}
+use Rattle.std.proofs.lemmas.Bool.{and_parts}
 use Rattle.std.proofs.lemmas.Bool.Decides.{nat_tests}
 use Rattle.script_tree.specs.declared.limits.TheConstants.{VERSIONS}
 use Rattle.command_words.specs.Words.{IsLimit}
@@ -15,13 +16,9 @@ digit_below c h = grind (arith, nat_tests, h)
 not_plus : (c : ℕ) → is_ascii_digit c ≡ true → (c == 43) ≡ false
 not_plus c h = grind (arith, nat_tests, h)
 
-pub both : (a b : Bool) → (a && b) ≡ true → (a ≡ true) × (b ≡ true)
-both true b h = (refl, h)
-both false b h = absurd (true≢false (sym h))
-
 pub all_digits : (ds : List ℕ) → list_all is_ascii_digit ds ≡ true → AllDigits 10 ds
 all_digits [] h = tt
-all_digits (d ∷ ds) h = let p = both (is_ascii_digit d) (list_all is_ascii_digit ds) h in (digit_below d p.0, all_digits ds p.1)
+all_digits (d ∷ ds) h = let p = and_parts (is_ascii_digit d) (list_all is_ascii_digit ds) h in (digit_below d p.0, all_digits ds p.1)
 
 digit_from : (c : ℕ) → digit_value c < 10 → is_ascii_digit c ≡ true
 digit_from c h = grind (arith, nat_tests, h)
@@ -32,7 +29,7 @@ digits_all (d ∷ ds) h = rw (digit_from d h.0, digits_all ds h.1) refl
 
 pub no_plus : (ds : List ℕ) → list_all is_ascii_digit ds ≡ true → without_leading_plus ds ≡ ds
 no_plus [] h = refl
-no_plus (d ∷ ds) h = rw (not_plus d (both (is_ascii_digit d) (list_all is_ascii_digit ds) h).0) refl
+no_plus (d ∷ ds) h = rw (not_plus d (and_parts (is_ascii_digit d) (list_all is_ascii_digit ds) h).0) refl
 
 pub within_parsed : (ds : List ℕ) (n : ℕ) → list_all is_ascii_digit ds ≡ true → digits_value 10 (without_leading_plus ds) ≡ n
     → nat_le n 4000000 ≡ nat_le (digits_value 10 ds) 4000000
@@ -59,10 +56,10 @@ pub ruleset limit_laws = (within_parsed, beyond_parsed)
 
 pub limit_spelled : (text : List ℕ) → is_limit text ≡ true → IsLimit text
 limit_spelled text h =
-    let p = both (nat_lt 0 (length text) && nat_le (length text) 7)
+    let p = and_parts (nat_lt 0 (length text) && nat_le (length text) 7)
     (list_all is_ascii_digit text && nat_le (digits_value 10 text) VERSIONS) h in
-    let lengths = both (nat_lt 0 (length text)) (nat_le (length text) 7) p.0 in
-    let rest = both (list_all is_ascii_digit text) (nat_le (digits_value 10 text) VERSIONS) p.1 in
+    let lengths = and_parts (nat_lt 0 (length text)) (nat_le (length text) 7) p.0 in
+    let rest = and_parts (list_all is_ascii_digit text) (nat_le (digits_value 10 text) VERSIONS) p.1 in
     record {
       digits = (grind (arith, nat_tests, lengths.0), all_digits text rest.0);
       few = grind (arith, nat_tests, lengths.1);
