@@ -4,7 +4,7 @@ use Rattle.std.proofs.Math.ListN.{drop_of_length-le}
 use Rattle.std.specs.Prelude.{if◌then◌else◌, ◌||◌}
 use Rattle.std.specs.List.{All, onto_first}
 use Rattle.std.specs.Str.{bytes_eq}
-use Rattle.std.proofs.lemmas.Grind.{common_steps}
+use Rattle.std.proofs.lemmas.List.{take_more}
 use Rattle.expr_script.specs.declared.pieces.Piece.{Piece}
 use Rattle.expr_script.specs.Pieces.{words_among, bytes_of}
 use Rattle.expr_script.proofs.CutBounds.{all_within}
@@ -28,11 +28,8 @@ drop_at pieces at d p h e =
     let there : drop at pieces ≡ get_or pieces at d ∷ drop (at + 1) pieces = rw (add-one, drop-cons pieces at d) refl in
     there ∙ ap (λ x. x ∷ drop (at + 1) pieces) (sym e)
 
-take_next : (pieces : List Piece) (at : ℕ) (d : Piece) → at < length pieces → take (at + 1) pieces ≡ take at pieces ++ get_or pieces at d ∷ []
-take_next pieces at d h = grind (arith, common_steps)
-
-take_more : (pieces : List Piece) (at : ℕ) (d p : Piece) → at < length pieces → p ≡ get_or pieces at d → take (at + 1) pieces ≡ take at pieces ++ p ∷ []
-take_more pieces at d p h e = take_next pieces at d h ∙ ap (λ x. take at pieces ++ x ∷ []) (sym e)
+take_known : (pieces : List Piece) (at : ℕ) (d p : Piece) → at < length pieces → p ≡ get_or pieces at d → take (at + 1) pieces ≡ take at pieces ++ p ∷ []
+take_known pieces at d p h e = take_more pieces at d h ∙ ap (λ x. take at pieces ++ x ∷ []) (sym e)
 
 words_append : (text : List ℕ) (a b : List Piece) → words_among text (a ++ b) ≡ words_among text a ++ words_among text b
 words_append text [] b = refl
@@ -51,7 +48,7 @@ not_here word text pieces at d p h e f n =
           ∙ ap (λ ws. words_among text (take at pieces) ++ before word ws) cut_here
           ∙ ap (λ t. words_among text (take at pieces) ++ (if t then [] else w ∷ before word rest)) f
           ∙ sym (append_assoc (words_among text (take at pieces)) (w ∷ []) (before word rest))
-          ∙ ap (λ ws. ws ++ before word rest) (sym (words_append text (take at pieces) (p ∷ [])) ∙ ap (words_among text) (sym (take_more pieces at d p h e)));
+          ∙ ap (λ ws. ws ++ before word rest) (sym (words_append text (take at pieces) (p ∷ [])) ∙ ap (words_among text) (sym (take_known pieces at d p h e)));
       behind_it = n.behind_it ∙ ap (behind word) cut_here ∙ ap (λ t. if t then rest else behind word rest) f;
       has_it = n.has_it ∙ ap (has word) cut_here ∙ ap (λ t. t || has word rest) f;
     }

@@ -26,7 +26,8 @@ no_word n word h d = by_test (bytes_eq (decimal n) word) refl
 are_digits : (n : ℕ) → n < 2 ^ 64 → is_digits (decimal n) ≡ true
 are_digits n h = and_from (nat_lt 0 (length (decimal n))) (list_all is_ascii_digit (decimal n)) (lt-ltb 0 (length (decimal n)) (decimal_nonempty n h)) (decimal_digits n h)
 
-plain_back : (n : ℕ) → n < 2 ^ 63 → one_word (decimal n) ≡ Some (Int (pos n))
+-- a number is read from its digits
+pub plain_back : (n : ℕ) → n < 2 ^ 63 → one_word (decimal n) ≡ Some (Int (pos n))
 plain_back n h =
     let small : n < 2 ^ 64 = omega (arith, h) in
     ap (λ t. if t then Some (Truth true) else if bytes_eq (decimal n) (codes "false") then Some (Truth false) else plain (decimal n)) (no_word n (codes "true") small refl)
