@@ -7,6 +7,8 @@ use Rattle.std.proofs.lemmas.List.{get_or_append_left, map_push}
 use Rattle.std.proofs.lemmas.List.Elements.{All-head, All-tail, All-push, All-weaker, All-map}
 use Rattle.script_tree.specs.declared.limits.TheConstants.{NODES}
 use Rattle.script_tree.specs.Names.{place_in}
+use Rattle.script_tree.proofs.Lists.{zip_end}
+use Rattle.script_tree.proofs.NamePlaces.{place_within}
 use Rattle.signal_graph.specs.declared.builder.DeclKind.{DeclKind}
 use Rattle.signal_graph.specs.declared.builder.DeclKind.TheVariants as kind
 use Rattle.signal_graph.specs.declared.builder.GraphFault.TheVariants as fault
@@ -16,7 +18,7 @@ use Rattle.signal_graph.specs.declared.node.Selector.{Selector}
 use Rattle.signal_graph.specs.Declarations.{Part, is_undeclared, names_of, names_of_part, names_of_parts, node_of, refusal, selector_of, unknown_input, with_declaration}
 use Rattle.signal_graph.specs.Graph.{Graph, name_at}
 use Rattle.signal_graph.specs.Tables.{is_declared}
-use Rattle.signal_graph.proofs.GraphNames.{name_at_place, place_within}
+use Rattle.signal_graph.proofs.GraphNames.{name_at_place}
 use Rattle.deck_lines.specs.declared.line.Line.{Line}
 use Rattle.deck_lines.specs.declared.line.Line.TheVariants.{Declares}
 use Rattle.deck_text.specs.Appended.{CandidatesBelow}
@@ -120,12 +122,6 @@ order_declared graph name k h =
 
 abbrev pub declarations : Graph → List Line
 declarations graph = map (declaration graph) (zip graph.names graph.nodes)
-
-zip_end : {K X : Type 0} (ks : List K) (xs : List X) (k : K) (x : X) → length ks ≡ length xs → zip (ks ++ k ∷ []) (xs ++ x ∷ []) ≡ zip ks xs ++ (k, x) ∷ []
-zip_end [] [] k x e = refl
-zip_end [] (y ∷ xs) k x e = absurd (omega (arith, e))
-zip_end (j ∷ ks) [] k x e = absurd (omega (arith, e))
-zip_end (j ∷ ks) (y ∷ xs) k x e = ap (λ pairs. (j, y) ∷ pairs) (zip_end ks xs k x (omega (arith, e)))
 
 -- what isn't refused uses no unknown name
 none_unknown : (few double : Bool) (o : Option (List ℕ)) → (if few then (if double then Some fault.DoubleName else unknown_input o) else Some fault.TooManyNodes) ≡ None → o ≡ None

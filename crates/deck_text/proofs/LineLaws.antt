@@ -1,21 +1,16 @@
 -- The first line of a text.
-use Rattle.std.proofs.Common.{◌≡◌, ℕ, suc, ◌+◌, ◌<◌, Bool, true, false, List, [], ◌∷◌, length, take, drop, refl, sym, ap, ◌∙◌, arith}
+use Rattle.std.proofs.Common.{◌≡◌, ℕ, ◌+◌, ◌<◌, Bool, true, false, List, [], ◌∷◌, length, take, drop, refl, sym, ap, ◌∙◌, arith}
 use Rattle.std.specs.List.{onto_first, before_first, after_first, position_or_len}
+use Rattle.script_tree.proofs.Lists.{take_next, drop_next}
 use Rattle.deck_text.specs.Lines.{is_line_feed, lines}
-
-take_next : (n b : ℕ) (text : List ℕ) → take (1 + n) (b ∷ text) ≡ b ∷ take n text
-take_next n b text = let e : 1 + n ≡ suc n = omega arith in ap (λ k. take k (b ∷ text)) e
-
-pub drop_next : (n b : ℕ) (text : List ℕ) → drop (1 + n + 1) (b ∷ text) ≡ drop (n + 1) text
-drop_next n b text = let e : 1 + n + 1 ≡ suc (n + 1) = omega arith in ap (λ k. drop k (b ∷ text)) e
 
 lines_from : (b : ℕ) (text : List ℕ) (v : Bool) → is_line_feed b ≡ v → lines (b ∷ text) ≡ before_first is_line_feed (b ∷ text) ∷ lines (after_first is_line_feed (b ∷ text))
 lines_from b text true e = rw e refl
 lines_from b [] false e = rw e refl
 lines_from b (c ∷ text) false e =
     let n = position_or_len is_line_feed (c ∷ text) in
-    let first = take_next n b (c ∷ text) in
-    let rest = drop_next n b (c ∷ text) in
+    let first = take_next (1 + n) n b (c ∷ text) (omega arith) in
+    let rest = drop_next (1 + n + 1) (n + 1) b (c ∷ text) (omega arith) in
     rw e (
     ap (onto_first b) (lines_from c text (is_line_feed c) refl)
     ∙ ap (λ line. line ∷ lines (drop (n + 1) (c ∷ text))) (sym first)

@@ -3,6 +3,7 @@ use Rattle.std.proofs.Common.{◌≡◌, ◌≢◌, ℕ, ◌+◌, ◌<◌, ◌�
 use Rattle.std.specs.Prelude.{Option, Some, None, nat_lt, if◌then◌else◌, find, Bool, true, false}
 use Rattle.std.proofs.lemmas.Bool.Decides.{nat_tests}
 use Rattle.std.proofs.lemmas.Option.{none-some}
+use Rattle.std.proofs.lemmas.List.{same_from_push}
 use Rattle.script_tree.specs.declared.limits.TheConstants.{DECK_BYTES, NODES, THREADS}
 use Rattle.signal_graph.specs.declared.builder.DeclKind.{DeclKind}
 use Rattle.signal_graph.specs.declared.builder.GraphFault.{GraphFault}
@@ -28,21 +29,12 @@ use Rattle.deck_text.specs.Spelled.{Joins, Adds, Extends, Lead, SpellsDeck, noth
 use Rattle.deck_text.proofs.Reasoning.{IsDeclaring, IsBeginning, OneForm, Apart, said_part, line_part, one_part, Stands, well_placed, no_syntax, no_limit}
 use Rattle.deck_text.proofs.Refusing.{OneLine}
 
--- lists that end alike
-snoc_same : {A : Type 0} (xs ys : List A) (x y : A) → xs ++ x ∷ [] ≡ ys ++ y ∷ [] → (xs ≡ ys) × (x ≡ y)
-snoc_same [] [] x y e = (refl, ap (λ zs. get_or zs 0 x) e)
-snoc_same [] (b ∷ ys) x y e = absurd (let n = ap length e in let k = length-append ys (y ∷ []) in omega (arith, n, k))
-snoc_same (a ∷ xs) [] x y e = absurd (let n = ap length e in let k = length-append xs (x ∷ []) in omega (arith, n, k))
-snoc_same (a ∷ xs) (b ∷ ys) x y e =
-    let rest = snoc_same xs ys x y (ap (drop 1) e) in
-    (ap (λ z. z ∷ xs) (ap (λ zs. get_or zs 0 a) e) ∙ ap (λ zs. b ∷ zs) rest.0, rest.1)
-
 decked_same : (a b : Decked) → a.graph ≡ b.graph → a.scripts ≡ b.scripts → a ≡ b
 decked_same a b g s = ap (λ x. record { graph = x; scripts = a.scripts }) g ∙ ap (λ (x : List (List Call)). record { graph = b.graph; scripts = x }) s
 
 joined_same : (call : Call) (old a b : List (List Call)) → Joins call old a → Joins call old b → a ≡ b
 joined_same call old a b j k =
-    let same = snoc_same j.earlier k.earlier j.newest k.newest (sym j.was ∙ k.was) in
+    let same = same_from_push j.earlier k.earlier j.newest k.newest (sym j.was ∙ k.was) in
     j.is ∙ ap (λ e. e ++ (j.newest ++ call ∷ []) ∷ []) same.0 ∙ ap (λ n. k.earlier ++ (n ++ call ∷ []) ∷ []) same.1 ∙ sym k.is
 
 added_same : (line : said_lines.Line) (old a b : Decked) → Adds line old a → Adds line old b → a ≡ b

@@ -1,12 +1,12 @@
 -- Printing lists item by item.
-use Rattle.std.proofs.Common.{◌≡◌, ℕ, zero, suc, ◌+◌, ◌<◌, ◌≤◌, List, [], ◌∷◌, ◌++◌, length, get_or, drop, refl, ap, subst, arith}
+use Rattle.std.proofs.Common.{◌≡◌, ℕ, ◌+◌, ◌<◌, ◌≤◌, List, [], ◌∷◌, ◌++◌, length, get_or, drop, refl, ap, subst, arith}
 use Rattle.std.specs.Prelude.{map, codes}
 use Rattle.std.specs.List.{All, AllByRecursion}
 use Rattle.std.proofs.lemmas.List.Elements.{All-from_recursion, All-tail}
 use Rattle.script_tree.specs.declared.value.Value.TheVariants.{Fault as Faulty}
 use Rattle.script_tree.specs.declared.value.Fault.TheVariants.{Kind}
 use Rattle.signal_graph.specs.declared.node.Node.TheVariants.{Source, Signal, Fold, Choose}
-use Rattle.std.proofs.lemmas.List.{drop_all, drop_more}
+use Rattle.std.proofs.lemmas.List.{drop_all, drop_more, get_or_default}
 use Rattle.script_tree.specs.declared.value.Value.{Value}
 use Rattle.script_tree.proofs.Lists.{drop_item}
 use Rattle.signal_graph.specs.declared.call.Call.{Call}
@@ -16,14 +16,9 @@ use Rattle.signal_graph.specs.Graph.{Graph, IsGraph, IsNode, IsSelector, name_at
 use Rattle.signal_graph.proofs.GraphNodes.{node_is}
 use Rattle.deck_text.specs.Appended.{with_word, with_set, with_call, with_thread, with_selector, with_node, with_names, with_more_names, with_sets, with_more_sets, with_looks, with_selectors, with_calls, with_threads, with_more_selectors, with_nodes, CandidatesBelow}
 
-same_further : {A : Type 0} (xs : List A) (k : ℕ) (d e : A) → k < length xs → get_or xs k d ≡ get_or xs k e
-same_further [] k d e h = absurd (omega arith)
-same_further (x ∷ xs) zero d e h = refl
-same_further (x ∷ xs) (suc k) d e h = same_further xs k d e (omega arith)
-
 -- within a list the default doesn't count
 same_at : {A : Type 0} (xs : List A) (k : ℕ) (d : A) → k < length xs → get_or xs k d ≡ get_or xs k (get_or xs k d)
-same_at xs k d h = same_further xs k d (get_or xs k d) h
+same_at xs k d h = get_or_default xs k d (get_or xs k d) h
 
 pub name_next : (text : List ℕ) (names : List (List ℕ)) (k : ℕ) (name : List ℕ) → k < length names → name ≡ get_or names k name
     → with_more_names text (drop k names) ≡ with_more_names (with_word (text ++ 44 ∷ []) name) (drop (k + 1) names)

@@ -5,6 +5,7 @@ use Rattle.std.specs.List.{AllByRecursion, list_all}
 use Rattle.std.specs.Option.{option_map_or}
 use Rattle.std.proofs.lemmas.Bool.{and_parts}
 use Rattle.script_tree.specs.Names.{is_word}
+use Rattle.script_tree.proofs.Lists.{all_front, all_behind}
 use Rattle.expr_script.specs.Cut.{begins_word}
 use Rattle.expr_script.specs.Joined.{gap, behind, joined, IsWhole, StandApart}
 use Rattle.expr_script.specs.Pieces.{is_pair, sign_len}
@@ -33,8 +34,7 @@ added_on text (word ∷ a) b = added_on (put text word) a b
 
 -- what holds all along two lists in a row holds along each
 pub all_parts : {A : Type 0} (P : A → Type 0) (xs ys : List A) → AllByRecursion P (xs ++ ys) → AllByRecursion P xs × AllByRecursion P ys
-all_parts P [] ys h = (tt, h)
-all_parts P (x ∷ xs) ys h = let parts = all_parts P xs ys h.1 in ((h.0, parts.0), parts.1)
+all_parts P xs ys h = (all_front P xs ys h, all_behind P xs ys h)
 
 -- words that stand apart are whole
 pub apart_whole : (last : List ℕ) (words : Words) → StandApart last words → AllWhole words

@@ -331,9 +331,5 @@ not_added deck name kind graph.TooManyNodes s (inl e) = (s, e)
 not_added deck name kind graph.TooManyNodes s (inr e) = absurd (subst IsWant (sym e) tt)
 not_added deck name kind graph.Memory s c = tt
 
-pub if_err : {A E : Type 0} (P Q : E → Type 0) (result : Result A E) → ((e : E) → P e → Q e) → IfErr result P → IfErr result Q
-if_err P Q (Ok x) go h = tt
-if_err P Q (Err e) go h = go e h
-
 pub fits : (p : Place) → p.end ≤ DECK_BYTES → length p.line ≤ LINE_BYTES → Fitting p
 fits p w s = record { within = w; short = s }

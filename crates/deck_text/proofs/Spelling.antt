@@ -3,6 +3,7 @@ use Rattle.std.proofs.Common.{length-append, ◌<◌, ◌+◌, ◌≡◌, ℕ, �
 use Rattle.std.specs.Prelude.{◌==◌, ◌-◌, min, Option, Some, None, Result, Ok, Err, MatchOption, IfOk}
 use Rattle.deck_text.specs.declared.fault.DeckFault.{DeckFault}
 use Rattle.std.proofs.lemmas.Bool.Decides.{nat_tests}
+use Rattle.std.proofs.lemmas.List.{nil_from_length}
 use Rattle.signal_graph.specs.declared.call.Call.{Call}
 use Rattle.signal_graph.specs.declared.builder.GraphFault.{GraphFault}
 use Rattle.script_tree.specs.declared.limits.TheConstants.{DECK_BYTES}
@@ -76,19 +77,15 @@ has_begun begun threads calls e = ap (λ b. scripts_so_far b threads calls) e
 pub call_joins : (begun : Bool) (threads : List (List Call)) (calls new : List Call) (call : Call) → begun ≡ true → new ≡ calls ++ call ∷ [] → Joins call (scripts_so_far begun threads calls) (scripts_so_far begun threads new)
 call_joins begun threads calls new call e n = record { earlier = threads; newest = calls; was = has_begun begun threads calls e; is = has_begun begun threads new e ∙ ap (λ cs. threads ++ cs ∷ []) n }
 
-empty : (rest : List ℕ) → length rest ≤ 0 → rest ≡ []
-empty [] h = refl
-empty (b ∷ rest) h = absurd (omega (arith, h))
-
 pub spelled_by : (text rest : List ℕ) (number : ℕ) (d : Decked) (result : Result Decked DeckFault) → Led text rest number d → length rest ≤ 0 → IfOk result (λ deck. deck ≡ d) → IfOk result (λ deck. 1 ≤ length deck.scripts) → IfOk result (SpellsDeck text)
 spelled_by text rest number d (Ok deck) l h e s = record {
   short = led_short text rest number d l h;
-  spells = record { lead = subst (Lead (lines text) nothing_yet) (sym e) (led_end text rest number d l (empty rest h)); thread = s };
+  spells = record { lead = subst (Lead (lines text) nothing_yet) (sym e) (led_end text rest number d l (nil_from_length rest (omega (arith, h)))); thread = s };
 }
 spelled_by text rest number d (Err fault) l h e s = tt
 
 pub none_by : (text rest : List ℕ) (number : ℕ) (d : Decked) → Led text rest number d → length rest ≤ 0 → d.scripts ≡ [] → IsThreadless text
-none_by text rest number d l h e = record { short = led_short text rest number d l h; none = record { deck = d; lead = led_end text rest number d l (empty rest h); none = e } }
+none_by text rest number d l h e = record { short = led_short text rest number d l h; none = record { deck = d; lead = led_end text rest number d l (nil_from_length rest (omega (arith, h))); none = e } }
 
 pub no_bytes : (rest : List ℕ) → (length rest == 0) ≡ true → length rest ≤ 0
 no_bytes rest e = grind (arith, nat_tests, e)

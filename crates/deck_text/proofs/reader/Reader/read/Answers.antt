@@ -1,13 +1,14 @@
 use Rattle.deck_text.specs.Readers.{deck_of}
 use Rattle.deck_text.specs.Refused.{NotTaken, IsReason}
-use Rattle.deck_text.proofs.Refusing.{at, fits, not_taken, not_read, if_err}
+use Rattle.deck_text.proofs.Refusing.{at, fits, not_taken, not_read}
 use Rattle.deck_text.proofs.reader.Reader.read.Goals as goal
+use Rattle.std.proofs.lemmas.Result.{IfErr-weaker}
 
 pub returns-in-Ok-clause-refuses : goal.returns-in-Ok-clause-refuses
 returns-in-Ok-clause-refuses c = λ end within.
     let p = at c.args.self.now end c.args.line.now in
     let fitting = fits p within c.if-line-gt-LINE_BYTES.false in
-    if_err (NotTaken c.in-Ok.said (deck_of c.args.self.now)) (IsReason p) c.take.result
+    IfErr-weaker c.take.result (NotTaken c.in-Ok.said (deck_of c.args.self.now)) (IsReason p)
     (λ reason refused. not_taken c.one_form.ensures c.one_answer.ensures.apart c.one_line.ensures p c.in-Ok.said reason fitting c.in-Ok.ensures.ok refused)
     c.take.ensures.refuses
 
