@@ -3,7 +3,8 @@ use Rattle.std.proofs.Common.{◌≡◌, ℕ, zero, suc, ◌+◌, ◌-◌, ◌<�
 use Rattle.std.specs.Prelude.{if◌then◌else◌, ◌&&◌, take_while, codes}
 use Rattle.std.specs.List.{AllByRecursion}
 use Rattle.std.proofs.lemmas.List.Sums.{take_while-cons}
-use Rattle.std.proofs.lemmas.Grind.{common_steps}
+use Rattle.std.proofs.Math.Seq.{take-append_seam, drop-append_seam}
+use Rattle.std.proofs.lemmas.List.{length-take}
 use Rattle.script_tree.specs.Names.{is_word}
 use Rattle.expr_script.specs.Pieces.{is_blank, sign_len, piece_len, pieces_from, words_among, words}
 use Rattle.expr_script.specs.Cut.{begins_word}
@@ -16,14 +17,6 @@ pub cut : ℕ → List ℕ → List (List ℕ)
 cut skip [] = []
 cut (suc skip) (b ∷ bs) = cut skip bs
 cut zero (b ∷ bs) = if is_blank b then cut zero bs else take (piece_len (b ∷ bs)) (b ∷ bs) ∷ cut (piece_len (b ∷ bs) - 1) bs
-
-drop_front : (front rest : List ℕ) → drop (length front) (front ++ rest) ≡ rest
-drop_front [] rest = refl
-drop_front (b ∷ front) rest = drop_front front rest
-
-take_front : (front rest : List ℕ) → take (length front) (front ++ rest) ≡ front
-take_front [] rest = refl
-take_front (b ∷ front) rest = ap (λ l. b ∷ l) (take_front front rest)
 
 push_front : (front : List ℕ) (b : ℕ) (bs : List ℕ) → (front ++ b ∷ []) ++ bs ≡ front ++ b ∷ bs
 push_front front b bs = append_assoc front (b ∷ []) bs
@@ -46,7 +39,7 @@ words_cut_from front (b ∷ bs) zero at e =
     by_test true p q = p
     by_test false p q =
         ap (λ k. take (piece_len (b ∷ bs)) (drop k (front ++ b ∷ bs)) ∷ words_among (front ++ b ∷ bs) (pieces_from (piece_len (b ∷ bs) - 1) (at + 1) bs)) e
-        ∙ ap (λ l. take (piece_len (b ∷ bs)) l ∷ words_among (front ++ b ∷ bs) (pieces_from (piece_len (b ∷ bs) - 1) (at + 1) bs)) (drop_front front (b ∷ bs))
+        ∙ ap (λ l. take (piece_len (b ∷ bs)) l ∷ words_among (front ++ b ∷ bs) (pieces_from (piece_len (b ∷ bs) - 1) (at + 1) bs)) (drop-append_seam front (b ∷ bs))
         ∙ ap (λ l. take (piece_len (b ∷ bs)) (b ∷ bs) ∷ l) q
 
 pub words_cut : (text : List ℕ) → words text ≡ cut 0 text
@@ -86,7 +79,7 @@ cut_whole [] rest i h m = absurd (omega (arith, i.some))
 cut_whole (b ∷ bs) rest i h m =
     ap (λ t. if t then cut zero (bs ++ rest) else take (piece_len (b ∷ (bs ++ rest))) (b ∷ (bs ++ rest)) ∷ cut (piece_len (b ∷ (bs ++ rest)) - 1) (bs ++ rest)) i.no_blank
     ∙ ap (λ n. take n (b ∷ (bs ++ rest)) ∷ cut (n - 1) (bs ++ rest)) (whole_len b bs rest i.whole h m)
-    ∙ ap (λ l. l ∷ cut (suc (length bs) - 1) (bs ++ rest)) (take_front (b ∷ bs) rest)
+    ∙ ap (λ l. l ∷ cut (suc (length bs) - 1) (bs ++ rest)) (take-append_seam (b ∷ bs) rest)
     ∙ ap (λ n. (b ∷ bs) ∷ cut n (bs ++ rest)) {x = suc (length bs) - 1} {y = length bs} (omega arith)
     ∙ ap (λ l. (b ∷ bs) ∷ l) (cut_past bs rest)
 
@@ -151,9 +144,6 @@ front_word : (n b : ℕ) (bs : List ℕ) → 0 < n → begins_word (take n (b �
 front_word zero b bs h = absurd (omega (arith, h))
 front_word (suc n) b bs h = refl
 
-length_front : (n : ℕ) (text : List ℕ) → length (take n text) ≤ n
-length_front n text = grind (arith, common_steps)
-
 -- behind a word that was cut no word begins
 word_done : (b : ℕ) (bs : List ℕ) → is_word b ≡ true → begins_word (drop (piece_len (b ∷ bs) - 1) bs) ≡ false
 word_done b bs w =
@@ -185,7 +175,7 @@ shorter_cut zero (b ∷ bs) last h =
           g,
           piece_some b bs,
           length_behind last (take n (b ∷ bs)) (cut (n - 1) bs),
-          length_front n (b ∷ bs),
+          length-take n (b ∷ bs),
           length-drop (n - 1) bs,
           between_none last (take n (b ∷ bs)) (λ e. front_word n b bs (piece_some b bs).0 ∙ h e),
         )

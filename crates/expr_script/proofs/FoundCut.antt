@@ -5,14 +5,12 @@ use Rattle.std.proofs.lemmas.Bool.{cases_lt, both_ways}
 use Rattle.std.proofs.lemmas.Bool.Decides.{nat_tests}
 use Rattle.std.proofs.lemmas.List.Sums.{take_while-cons}
 use Rattle.script_tree.specs.Names.{is_word}
+use Rattle.script_tree.proofs.Lists.{rest_within, rest_behind}
 use Rattle.expr_script.specs.declared.pieces.Piece.{Piece}
 use Rattle.expr_script.specs.Pieces.{is_blank, is_pair, sign_len, piece_len, pieces_from, pieces}
 use Rattle.expr_script.specs.Cut.{word_at, blank_at, begins_word, begins_blank, begins_pair, IsPiece, IsCut}
 use Rattle.expr_script.proofs.CutBounds.{word_some, piece_some}
 use Rattle.expr_script.proofs.OneCut.{Gap, CutFrom, is_cut, blank_no_word}
-
-pub drop_next : (text : List ℕ) (at b : ℕ) (bs : List ℕ) → drop at text ≡ b ∷ bs → drop (at + 1) text ≡ bs
-drop_next text at b bs e = sym (drop-drop 1 at text) ∙ ap (drop 1) e
 
 -- the bytes of a run, and the one behind it
 pub run_bytes : (rest : List ℕ) (j : ℕ) → j < length (take_while is_word rest) → begins_word (drop j rest) ≡ true
@@ -78,9 +76,6 @@ run_found text at b bs n e w before m =
       ready = λ next f u. absurd (both_ways _ (ends next f) u);
     }
 
-rest_within : (text : List ℕ) (at b : ℕ) (bs : List ℕ) → drop at text ≡ b ∷ bs → at < length text
-rest_within text at b bs e = omega (arith, length-drop at text, ap length e)
-
 sign_longest : (b : ℕ) (bs : List ℕ) → sign_len b bs ≡ (if begins_pair (b ∷ bs) then 2 else 1)
 sign_longest b [] = refl
 sign_longest b (c ∷ cs) = refl
@@ -134,12 +129,12 @@ widen text at next (p ∷ found) e b c = (omega (arith, c.0, e), widen_gap text 
 pieces_cut : (text rest : List ℕ) (skip at next : ℕ) → drop at text ≡ rest → next ≡ at + skip → Ready text next → CutFrom text next (pieces_from skip at rest)
 unfolding Ready
 pieces_cut text [] skip at next e n r = record { blanks = λ i h k. absurd (omega (arith, length-drop at text, ap length e, n, h, k)) }
-pieces_cut text (b ∷ bs) (suc skip) at next e n r = pieces_cut text bs skip (at + 1) next (drop_next text at b bs e) (omega (arith, n)) r
+pieces_cut text (b ∷ bs) (suc skip) at next e n r = pieces_cut text bs skip (at + 1) next (rest_behind text at b bs e) (omega (arith, n)) r
 pieces_cut text (b ∷ bs) zero at next e n r =
     by_test (is_blank b) refl
-    (λ k. pieces_cut text bs zero (at + 1) (at + 1) (drop_next text at b bs e) (omega arith)
+    (λ k. pieces_cut text bs zero (at + 1) (at + 1) (rest_behind text at b bs e) (omega arith)
     (λ u i g. ap (word_at text) {x = i} {y = at} (omega (arith, g)) ∙ ap begins_word e ∙ blank_no_word b k))
-    (λ f. pieces_cut text bs (piece_len (b ∷ bs) - 1) (at + 1) (at + piece_len (b ∷ bs)) (drop_next text at b bs e) (omega (arith, (piece_some b bs).0)) (f.ready (at + piece_len (b ∷ bs)) refl))
+    (λ f. pieces_cut text bs (piece_len (b ∷ bs) - 1) (at + 1) (at + piece_len (b ∷ bs)) (rest_behind text at b bs e) (omega (arith, (piece_some b bs).0)) (f.ready (at + piece_len (b ∷ bs)) refl))
   where
     by_test : (t : Bool) → is_blank b ≡ t → (t ≡ true → CutFrom text (at + 1) (pieces_from zero (at + 1) bs)) → (Found text (record { from = at; len = piece_len (b ∷ bs) }) → CutFrom text (at + piece_len (b ∷ bs)) (pieces_from (piece_len (b ∷ bs) - 1) (at + 1) bs)) → CutFrom text next (if t then pieces_from zero (at + 1) bs else record { from = at; len = piece_len (b ∷ bs) } ∷ pieces_from (piece_len (b ∷ bs) - 1) (at + 1) bs)
     by_test true k f g = widen text at next (pieces_from zero (at + 1) bs) (omega (arith, n)) (ap begins_blank e ∙ k) (f refl)

@@ -3,22 +3,13 @@ use Rattle.std.proofs.Common.{◌≡◌, ℕ, zero, suc, ◌+◌, ◌<◌, ◌�
 use Rattle.std.proofs.lemmas.Bool.{cases_lt, lt-ltb, le-ltb, eq-eqb}
 use Rattle.std.specs.Prelude.{if◌then◌else◌, nat_lt, ◌==◌, ◌&&◌, ◌⊎◌}
 use Rattle.std.specs.Str.{bytes_eq}
-use Rattle.std.proofs.lemmas.Grind.{common_steps}
 use Rattle.std.proofs.Math.Bool.{and-false}
-use Rattle.std.proofs.lemmas.List.{length_push}
+use Rattle.std.proofs.lemmas.List.{length_push, take_all, take-append-le, length-take-le}
 use Rattle.script_tree.specs.Names.{is_name, place_in}
 use Rattle.script_tree.proofs.Numbers.{below_differs}
+use Rattle.script_tree.proofs.NamePlaces.{place_within}
 use Rattle.expr_script.specs.Inputs.{KeepsFirst}
 use Rattle.expr_script.specs.Tokens.{with_name}
-
-le_step : (t : Bool) (p l : ℕ) → p ≤ l → (if t then 0 else p + 1) ≤ suc l
-le_step true p l h = omega arith
-le_step false p l h = omega arith
-
--- a name is at most at the end
-pub place_of-le : (names : List (List ℕ)) (w : List ℕ) → place_in names w ≤ length names
-place_of-le [] w = omega arith
-place_of-le (n ∷ names) w = le_step (bytes_eq n w) (place_in names w) (length names) (place_of-le names w)
 
 pub lt_step : (t : Bool) (p' l' p l : ℕ) → (p' < l' → p < l) → (if t then 0 else p' + 1) < suc l' → (if t then 0 else p + 1) < suc l
 lt_step true p' l' p l f h = omega arith
@@ -46,15 +37,6 @@ with_new all w n e =
 pub with_other : (all : List (List ℕ)) (w : List ℕ) → is_name w ≡ false → with_name all w ≡ all
 with_other all w n = ap (λ t. if t && (place_in all w == length all) then all ++ w ∷ [] else all) n
 
-pub take_whole : (k : ℕ) (xs : List (List ℕ)) → length xs ≤ k → take k xs ≡ xs
-take_whole k xs h = grind (arith, common_steps)
-
-take_front : (k : ℕ) (xs ys : List (List ℕ)) → k ≤ length xs → take k (xs ++ ys) ≡ take k xs
-take_front k xs ys h = grind (arith, common_steps)
-
-length_front : (k : ℕ) (xs : List (List ℕ)) → k ≤ length xs → length (take k xs) ≡ k
-length_front k xs h = grind (arith, common_steps)
-
 same_kept : {most : ℕ} {kept : List (List ℕ)} {more : Bool} {all : List (List ℕ)} (all' : List (List ℕ)) → KeepsFirst most kept more all → all' ≡ all → KeepsFirst most kept more all'
 same_kept {most} {kept} {more} {all} all' k e = record { first = k.first ∙ ap (take most) (sym e); rest = k.rest ∙ ap (λ l. nat_lt most (length l)) (sym e) }
 
@@ -71,20 +53,20 @@ all_kept : (most : ℕ) (kept all : List (List ℕ)) → kept ≡ take most all 
 all_kept most kept all e h = by_case (cases_lt most (length all))
   where
     by_case : (most < length all) ⊎ (length all ≤ most) → kept ≡ all
-    by_case (inl many) = absurd (omega (arith, ap length e, length_front most all (omega arith)))
-    by_case (inr few) = e ∙ take_whole most all few
+    by_case (inl many) = absurd (omega (arith, ap length e, length-take-le most all (omega arith)))
+    by_case (inr few) = e ∙ take_all most all few
 
 keeps_push : (most : ℕ) (kept : List (List ℕ)) (more : Bool) (all : List (List ℕ)) (w : List ℕ) → more ≡ nat_lt most (length all) → length all < most → kept ≡ all → KeepsFirst most (kept ++ w ∷ []) more (all ++ w ∷ [])
 keeps_push most kept more all w r few e =
     record {
-      first = ap (λ l. l ++ w ∷ []) e ∙ sym (take_whole most (all ++ w ∷ []) (omega (arith, length_push all w)));
+      first = ap (λ l. l ++ w ∷ []) e ∙ sym (take_all most (all ++ w ∷ []) (omega (arith, length_push all w)));
       rest = r ∙ le-ltb most (length all) (omega arith) ∙ sym (le-ltb most (length (all ++ w ∷ [])) (omega (arith, length_push all w)));
     }
 
 pub keeps_new : {most : ℕ} {kept : List (List ℕ)} {more : Bool} {all : List (List ℕ)} (w : List ℕ) → KeepsFirst most kept more all → is_name w ≡ true → length kept ≤ place_in kept w → length kept < most → KeepsFirst most (kept ++ w ∷ []) more (with_name all w)
 keeps_new {most} {kept} {more} {all} w k n h few =
     let e : kept ≡ all = all_kept most kept all k.first few in
-    let at_end : place_in all w ≡ length all = omega (arith, h, ap length e, ap (λ l. place_in l w) e, place_of-le all w) in
+    let at_end : place_in all w ≡ length all = omega (arith, h, ap length e, ap (λ l. place_in l w) e, place_within all w) in
     subst (λ (l : List (List ℕ)). KeepsFirst most (kept ++ w ∷ []) more l) (sym (with_new all w n at_end)) (keeps_push most kept more all w k.rest (omega (arith, few, ap length e)) e)
 
 keeps_rest : (most : ℕ) (kept all : List (List ℕ)) (w : List ℕ) → kept ≡ take most all → length kept ≤ place_in kept w → most ≤ length kept → place_in all w < length all → most < length all
@@ -92,13 +74,13 @@ keeps_rest most kept all w e h many p = by_case (cases_lt most (length all))
   where
     by_case : (most < length all) ⊎ (length all ≤ most) → most < length all
     by_case (inl more) = more
-    by_case (inr few) = let s : kept ≡ all = e ∙ take_whole most all few in absurd (omega (arith, h, p, ap length s, ap (λ l. place_in l w) s))
+    by_case (inr few) = let s : kept ≡ all = e ∙ take_all most all few in absurd (omega (arith, h, p, ap length s, ap (λ l. place_in l w) s))
 
 front_many : (most : ℕ) (all : List (List ℕ)) → most ≤ length (take most all) → most ≤ length all
 front_many most all h = by_case (cases_lt (length all) most)
   where
     by_case : (length all < most) ⊎ (most ≤ length all) → most ≤ length all
-    by_case (inl few) = absurd (omega (arith, h, ap length (take_whole most all (omega arith))))
+    by_case (inl few) = absurd (omega (arith, h, ap length (take_all most all (omega arith))))
     by_case (inr many) = many
 
 pub keeps_more : {most : ℕ} {kept : List (List ℕ)} {more : Bool} {all : List (List ℕ)} (w : List ℕ) → KeepsFirst most kept more all → is_name w ≡ true → length kept ≤ place_in kept w → most ≤ length kept → KeepsFirst most kept true (with_name all w)
@@ -112,8 +94,8 @@ keeps_more {most} {kept} {more} {all} w k n h many = by_case (cases_lt (place_in
         subst (λ (l : List (List ℕ)). KeepsFirst most kept true l) (sym (with_known all w there))
         (record { first = k.first; rest = sym (lt-ltb most (length all) (keeps_rest most kept all w k.first h many there)) })
     by_case (inr end) =
-        subst (λ (l : List (List ℕ)). KeepsFirst most kept true l) (sym (with_new all w n (omega (arith, end, place_of-le all w))))
+        subst (λ (l : List (List ℕ)). KeepsFirst most kept true l) (sym (with_new all w n (omega (arith, end, place_within all w))))
         (record {
-          first = k.first ∙ sym (take_front most all (w ∷ []) enough);
+          first = k.first ∙ sym (take-append-le most all (w ∷ []) enough);
           rest = sym (lt-ltb most (length (all ++ w ∷ [])) (omega (arith, enough, length_push all w)));
         })

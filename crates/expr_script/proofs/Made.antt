@@ -1,18 +1,19 @@
 -- What a script that is made from its tokens keeps.
-use Rattle.std.proofs.Common.{◌≡◌, ℕ, suc, ◌+◌, ◌<◌, ◌≤◌, Bool, true, false, List, [], ◌∷◌, ◌++◌, length, take, refl, sym, ap, ◌∙◌, subst, inl, inr, arith}
+use Rattle.std.proofs.Common.{◌≡◌, ℕ, suc, ◌+◌, ◌<◌, ◌≤◌, Bool, true, false, List, [], ◌∷◌, ◌++◌, length, refl, sym, ap, ◌∙◌, subst, inl, inr, arith}
 use Rattle.std.specs.Prelude.{◌&&◌, ◌==◌, ◌⊎◌, if◌then◌else◌, nat_lt, fold}
 use Rattle.std.specs.List.{list_all, AllByRecursion}
 use Rattle.std.specs.Str.{bytes_eq}
 use Rattle.std.proofs.lemmas.Bool.{cases_lt, lt-ltb}
 use Rattle.std.proofs.lemmas.Bool.Decides.{nat_tests}
 use Rattle.std.proofs.lemmas.Slice.Eq.{bytes_eq-Decides}
-use Rattle.std.proofs.lemmas.Grind.{common_steps}
 use Rattle.std.specs.Cmp.Derive.{both_true}
+use Rattle.std.proofs.lemmas.List.{take_all, length-take}
 use Rattle.script_tree.specs.declared.limits.TheConstants.{INPUTS, LEVELS}
 use Rattle.script_tree.specs.Names.{is_name, place_in}
 use Rattle.script_tree.specs.Tree.{Tree, Input}
 use Rattle.script_tree.specs.Scripts.{Scripted, WellFormed, all_leaves, input_below, pick_below, is_not_acc, is_literal, standing, different_names}
 use Rattle.script_tree.proofs.Truths.{and_left}
+use Rattle.script_tree.proofs.NamePlaces.{place_within}
 use Rattle.script_grammar.specs.declared.token.Token.{Token}
 use Rattle.script_grammar.specs.Grammar.{word_tree, Spells, BeginsWithin}
 use Rattle.script_grammar.specs.Words.{all_words}
@@ -22,7 +23,7 @@ use Rattle.expr_script.specs.Inputs.{KeepsFirst}
 use Rattle.expr_script.specs.Words.{name_token, token}
 use Rattle.expr_script.specs.Tokens.{with_name, script_names, names, inputs, tokens_among, tokens}
 use Rattle.expr_script.specs.Spelled.{HasAtoms, SpellsWith, SpellsTooMany}
-use Rattle.expr_script.proofs.Kept.{with_known, with_new, place_of-le, take_whole, lt_step}
+use Rattle.expr_script.proofs.Kept.{with_known, with_new, lt_step}
 use Rattle.expr_script.proofs.SameNames.{names_appear, none_standing}
 use Rattle.expr_script.proofs.Leaves.{Passes, PassesAtoms, script_passes, body_passes, token_passes, words_cons, HasLeaves}
 
@@ -55,7 +56,7 @@ with_there known w n = by_case (cases_lt (place_in known w) (length known))
 
     by_case : (place_in known w < length known) ⊎ (length known ≤ place_in known w) → place_in (with_name known w) w < length (with_name known w)
     by_case (inl there) = subst (λ (l : List (List ℕ)). place_in l w < length l) (sym (with_known known w there)) there
-    by_case (inr end) = subst (λ (l : List (List ℕ)). place_in l w < length l) (sym (with_new known w n (omega (arith, end, place_of-le known w)))) (push_there known w)
+    by_case (inr end) = subst (λ (l : List (List ℕ)). place_in l w < length l) (sym (with_new known w n (omega (arith, end, place_within known w)))) (push_there known w)
 
 fold_keeps : (words known : List (List ℕ)) (w : List ℕ) → place_in known w < length known → place_in (fold with_name known words) w < length (fold with_name known words)
 fold_keeps [] known w h = h
@@ -124,9 +125,6 @@ body_acc_atoms picks = record { truths = record { yes = refl; no = refl }; numbe
 body_pick_atoms : (picks : ℕ) → PassesAtoms (pick_below picks) (Body picks)
 body_pick_atoms picks = record { truths = record { yes = refl; no = refl }; numbers = λ m h. refl; others = λ w. body_passes (pick_below picks) picks w (record { yes = refl; no = refl }) (λ i h. h) }
 
-length_take : (n : ℕ) (xs : List (List ℕ)) → length (take n xs) ≤ n
-length_take n xs = grind (arith, common_steps)
-
 not_more : (most n : ℕ) (more : Bool) → more ≡ nat_lt most n → more ≡ false → n ≤ most
 not_more most n more e f = grind (arith, nat_tests, e, f)
 
@@ -156,11 +154,11 @@ names_stand (Body picks) words tree s h = sym (ap different_names (none_standing
 -- where all names are kept, the names and the tree make a script
 pub well_formed : (atoms : Atoms) (words kept : List (List ℕ)) (more : Bool) (tree : Tree) → KeepsFirst INPUTS kept more (names atoms words) → more ≡ false → Spells (tokens_among atoms kept words) tree → HasLeaves (tokens_among atoms kept words) tree → (kept ≡ names atoms words) × WellFormed kept tree
 well_formed atoms words kept more tree k m t s =
-    let all : kept ≡ names atoms words = k.first ∙ take_whole INPUTS (names atoms words) (not_more INPUTS (length (names atoms words)) more k.rest m) in
+    let all : kept ≡ names atoms words = k.first ∙ take_all INPUTS (names atoms words) (not_more INPUTS (length (names atoms words)) more k.rest m) in
     let spelled : HasLeaves (tokens_among atoms (names atoms words) words) tree = subst (λ (l : List (List ℕ)). HasLeaves (tokens_among atoms l words) tree) all s in (
       all,
       subst (λ (l : List (List ℕ)). WellFormed l tree) (sym all) (record {
-        few = subst (λ (l : List (List ℕ)). length l ≤ INPUTS) (sym k.first ∙ all) (length_take INPUTS (names atoms words));
+        few = subst (λ (l : List (List ℕ)). length l ≤ INPUTS) (sym k.first ∙ all) (omega (arith, length-take INPUTS (names atoms words)));
         named = all_named atoms words;
         appear = names_stand atoms words tree (subst (λ (l : List (List ℕ)). Spells (tokens_among atoms l words) tree) all t) (input_leaves atoms words tree spelled);
         inputs = input_leaves atoms words tree spelled;
@@ -186,7 +184,7 @@ pub same_tokens : (atoms : Atoms) (words kept : List (List ℕ)) (more : Bool) (
 same_tokens atoms words kept more read k r = r ∙ ap (λ l. tokens_among atoms l words) k.first
 
 pub few_kept : (all kept : List (List ℕ)) (more : Bool) → KeepsFirst INPUTS kept more all → length kept ≤ INPUTS
-few_kept all kept more k = omega (arith, ap length k.first, length_take INPUTS all)
+few_kept all kept more k = omega (arith, ap length k.first, length-take INPUTS all)
 
 pub many_names : (all kept : List (List ℕ)) (more : Bool) → KeepsFirst INPUTS kept more all → more ≡ true → INPUTS < length all
 many_names all kept more k m = grind (arith, nat_tests, k.rest, m)

@@ -5,11 +5,10 @@ use Rattle.std.proofs.lemmas.Bool.Decides.{nat_tests}
 use Rattle.script_grammar.specs.declared.token.Token.TheVariants.{Plain, Stray}
 use Rattle.script_grammar.specs.declared.token.Word.TheVariants.{Digits}
 use Rattle.std.specs.Prelude.{slice_get, Some}
-use Rattle.std.proofs.lemmas.Option.{slice_get_within, get_or_from_slice_get}
-use Rattle.std.proofs.lemmas.Grind.{common_steps}
-use Rattle.std.proofs.lemmas.List.{drop_more}
+use Rattle.std.proofs.lemmas.List.{take_more, take-append-drop}
 use Rattle.script_tree.proofs.Texts.{text_is, other_text}
 use Rattle.script_tree.specs.Names.{place_in}
+use Rattle.script_tree.proofs.Lists.{drop_got}
 use Rattle.expr_script.specs.Words.{value, number}
 
 pub value_append : (n : ℕ) (a b : List ℕ) → value n (a ++ b) ≡ value (value n a) b
@@ -20,24 +19,15 @@ pub value_grows : (n : ℕ) (ds : List ℕ) → n ≤ value n ds
 value_grows n [] = omega arith
 value_grows n (d ∷ ds) = omega (arith, value_grows (n * 10 + (d - 48)) ds)
 
-take_more : (ds : List ℕ) (i : ℕ) → i < length ds → take (i + 1) ds ≡ take i ds ++ get_or ds i 0 ∷ []
-take_more ds i h = grind (arith, common_steps)
-
-pub take_drop : {X : Type 0} (i : ℕ) (ds : List X) → ds ≡ take i ds ++ drop i ds
-take_drop i ds = grind (arith, common_steps)
-
 -- one more digit
 pub value_take_more : (ds : List ℕ) (i : ℕ) → i < length ds → value 0 (take (i + 1) ds) ≡ value 0 (take i ds) * 10 + (get_or ds i 0 - 48)
-value_take_more ds i h = ap (value 0) (take_more ds i h) ∙ value_append 0 (take i ds) (get_or ds i 0 ∷ [])
+value_take_more ds i h = ap (value 0) (take_more ds i 0 h) ∙ value_append 0 (take i ds) (get_or ds i 0 ∷ [])
 
 -- a number only grows with its digits
 pub value_take : (ds : List ℕ) (i : ℕ) → value 0 (take i ds) ≤ value 0 ds
-value_take ds i = omega (arith, ap (value 0) (take_drop i ds), value_append 0 (take i ds) (drop i ds), value_grows (value 0 (take i ds)) (drop i ds))
+value_take ds i = omega (arith, ap (value 0) (take-append-drop i ds), value_append 0 (take i ds) (drop i ds), value_grows (value 0 (take i ds)) (drop i ds))
 
 pub ruleset value_laws = (value_take_more, value_take)
-
-drop_got : (xs : List (List ℕ)) (at : ℕ) (r : List ℕ) → slice_get xs at ≡ Some r → drop at xs ≡ r ∷ drop (at + 1) xs
-drop_got xs at r g = drop_more xs at [] (slice_get_within xs at r g) ∙ ap (λ x. x ∷ drop (at + 1) xs) (get_or_from_slice_get xs at r [] g)
 
 -- a name that stands here
 pub place_here : (xs : List (List ℕ)) (at : ℕ) (r name : List ℕ) → slice_get xs at ≡ Some r → r ≡ name → place_in (drop at xs) name ≡ 0

@@ -4,7 +4,7 @@ use Rattle.std.specs.Prelude.{◌^◌, ◌&&◌, pos, negsuc, nat_lt, slice_get,
 use Rattle.std.specs.List.{AllByRecursion}
 use Rattle.std.specs.Cmp.Derive.{both_true}
 use Rattle.std.proofs.lemmas.Bool.{ltb-true, le-ltb}
-use Rattle.std.proofs.lemmas.List.{append-nil}
+use Rattle.std.proofs.lemmas.List.{append-nil, take_all}
 use Rattle.script_tree.specs.declared.limits.TheConstants.{INPUTS, LEVELS}
 use Rattle.script_tree.specs.Tree.{Tree, Number, Constant, Input, Pick, Acc, Apply, Join, If}
 use Rattle.script_tree.specs.Scripts.{Scripted, WellFormed, all_leaves, input_below, pick_below, is_not_acc, is_literal, standing}
@@ -28,7 +28,6 @@ use Rattle.expr_script.specs.Tokens.{script_names, names, inputs, tokens_among, 
 use Rattle.expr_script.specs.Printed.{token_text, printed_words, printed}
 use Rattle.expr_script.specs.Spelled.{IsFormed, IsShallow, SpellsWith}
 use Rattle.expr_script.specs.Inputs.{KeepsFirst}
-use Rattle.expr_script.proofs.Kept.{take_whole}
 use Rattle.expr_script.proofs.Made.{fold_there, well_formed, has_atoms}
 use Rattle.expr_script.proofs.Lean.{IsThere, Stands, words_lean}
 use Rattle.expr_script.proofs.CutBack.{joined_back, joined_short}
@@ -55,7 +54,7 @@ all_there (Body picks) ws = every ws
 
 -- all names are told apart
 tokens_known : (atoms : Atoms) (ws : List (List ℕ)) → length (names atoms ws) ≤ INPUTS → tokens_of atoms ws ≡ tokens_among atoms (names atoms ws) ws
-tokens_known atoms ws few = ap (λ l. tokens_among atoms l ws) (take_whole INPUTS (names atoms ws) few)
+tokens_known atoms ws few = ap (λ l. tokens_among atoms l ws) (take_all INPUTS (names atoms ws) few)
 
 same_names : (atoms : Atoms) (ws : List (List ℕ)) (s : Scripted) → SpellsWith atoms ws s → tokens_of atoms ws ≡ tokens_among atoms s.names ws
 same_names atoms ws s h = tokens_known atoms ws h.few ∙ ap (λ l. tokens_among atoms l ws) (sym h.named)
@@ -64,7 +63,7 @@ same_names atoms ws s h = tokens_known atoms ws h.few ∙ ap (λ l. tokens_among
 pub spelled_formed : (g : OfGrammar) (atoms : Atoms) (ws : List (List ℕ)) (s : Scripted) → SpellsWith atoms ws s → IsFormed atoms s × IsShallow s
 spelled_formed g atoms ws s h =
     let all = names atoms ws in
-    let keeps : KeepsFirst INPUTS all false all = record { first = sym (take_whole INPUTS all h.few); rest = sym (le-ltb INPUTS (length all) h.few) } in
+    let keeps : KeepsFirst INPUTS all false all = record { first = sym (take_all INPUTS all h.few); rest = sym (le-ltb INPUTS (length all) h.few) } in
     let spelled : Spells (tokens_among atoms all ws) s.tree = subst (λ (l : List Token). Spells l s.tree) (tokens_known atoms ws h.few) h.tree in
     let made = well_formed atoms ws all false s.tree keeps refl spelled (λ test. g.leaves test (tokens_among atoms all ws) s.tree spelled) in (
       (subst (λ (l : List (List ℕ)). WellFormed l s.tree) (sym h.named) made.1, has_atoms atoms ws s h.named (λ test. g.leaves test (tokens_of atoms ws) s.tree h.tree)),

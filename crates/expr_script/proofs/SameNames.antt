@@ -16,6 +16,7 @@ use Rattle.script_tree.specs.declared.expr.Binary.{Binary}
 use Rattle.script_tree.specs.declared.expr.Binary.TheVariants.{OrElse, Or, And, Equal, Unequal, Less, AtMost, Greater, AtLeast, Add, Subtract, Multiply, Divide, Remainder}
 use Rattle.script_tree.proofs.Truths.{and_left, and_right}
 use Rattle.script_tree.proofs.Texts.{bytes_eq-sym}
+use Rattle.script_tree.proofs.NamePlaces.{place_within}
 use Rattle.script_grammar.specs.declared.token.Word.TheVariants as word
 use Rattle.script_grammar.specs.declared.token.Token.{Token}
 use Rattle.script_grammar.specs.declared.token.Token.TheVariants as token
@@ -23,7 +24,7 @@ use Rattle.script_grammar.specs.Grammar.{Written, Plain, Inside, Before, Between
 use Rattle.expr_script.specs.declared.atoms.Atoms.TheVariants.{Script}
 use Rattle.expr_script.specs.Words.{is_digits, value, number, name_token, look_up, short_signs, long_signs, script_words, short_sign, sign_token, fixed_token, other_token, token as token_of}
 use Rattle.expr_script.specs.Tokens.{with_name, script_names, tokens_among}
-use Rattle.expr_script.proofs.Kept.{with_known, with_new, with_other, place_of-le}
+use Rattle.expr_script.proofs.Kept.{with_known, with_new, with_other}
 use Rattle.expr_script.proofs.Lean.{IsThere, name_at}
 use Rattle.expr_script.proofs.TokenBack.{called, named, digits_no_name, name_is}
 
@@ -180,7 +181,7 @@ with_distinct known w d = by_order (cases_lt (place_in known w) (length known)) 
   where
     by_order : (place_in known w < length known) ⊎ (length known ≤ place_in known w) → (n : Bool) → is_name w ≡ n → Distinct (with_name known w)
     by_order (inl there) n e = subst Distinct (sym (with_known known w there)) d
-    by_order (inr end) true e = subst Distinct (sym (with_new known w e (omega (arith, end, place_of-le known w)))) (push_distinct known w d end)
+    by_order (inr end) true e = subst Distinct (sym (with_new known w e (omega (arith, end, place_within known w)))) (push_distinct known w d end)
     by_order (inr end) false e = subst Distinct (sym (with_other known w e)) d
 
 fold_distinct : (known ws : List (List ℕ)) → Distinct known → Distinct (fold with_name known ws)
@@ -235,7 +236,7 @@ fold_different known seen (w ∷ ws) h n = by_test (list_any (bytes_eq w) seen) 
         ap (λ l. fold with_name l ws) (with_known known w (ltb-true (place_in known w) (length known) (sym (h w) ∙ e)))
         ∙ old
     by_test false e old new =
-        let at_end : place_in known w ≡ length known = omega (arith, ltb-false (place_in known w) (length known) (sym (h w) ∙ e), place_of-le known w) in
+        let at_end : place_in known w ≡ length known = omega (arith, ltb-false (place_in known w) (length known) (sym (h w) ∙ e), place_within known w) in
         ap (λ l. fold with_name l ws) (with_new known w n.0 at_end)
         ∙ new
         ∙ append_assoc known (w ∷ []) (different_names_from (w ∷ seen) ws)

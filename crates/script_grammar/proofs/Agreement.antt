@@ -1,8 +1,7 @@
 -- The grammar and the reader agree.
 use Rattle.std.proofs.Common.{◌≡◌, ℕ, ◌+◌, ◌≤◌, Bool, true, false, List, [], ◌∷◌, ◌++◌, length, take, Option, Some, None, refl, sym, ap, ◌∙◌, subst, arith, append_assoc, length-append}
 use Rattle.std.specs.Prelude.{nat_le, if◌then◌else◌}
-use Rattle.std.proofs.lemmas.Grind.{common_steps}
-use Rattle.std.proofs.lemmas.List.{append-nil}
+use Rattle.std.proofs.lemmas.List.{append-nil, take_at}
 use Rattle.std.proofs.lemmas.Bool.{leb-true}
 use Rattle.script_tree.specs.declared.expr.Unary.TheVariants.{Negate, Not}
 use Rattle.script_tree.specs.declared.expr.Binary.{Binary}
@@ -175,12 +174,9 @@ stops ts t st e none b =
     let all = sym r.reads ∙ ap (run (Some (Wants []))) b.same ∙ run_append (Some (Wants [])) (ts ++ t ∷ []) b.more ∙ ap (λ o. run o b.more) (run_append (Some (Wants [])) ts (t ∷ []) ∙ ap (λ o. run o (t ∷ [])) e ∙ ap (λ o. run o []) none) in
     cc
 
-take_front : (a b : List Token) (n : ℕ) → n ≡ length a → take n (a ++ b) ≡ a
-take_front a b n e = grind (arith, common_steps)
-
 pub first_fault : (ts more : List Token) (t : Token) (st : State) → run (Some (Wants [])) ts ≡ Some st → step st t ≡ None → FirstFault (ts ++ t ∷ more) (length ts)
 first_fault ts more t st e none = record {
   within = omega (arith, length-append ts (t ∷ more));
-  before = (subst Begins (sym (take_front ts (t ∷ more) (length ts) refl)) (begun st ts (run_says ts (Wants []) [] st refl e)));
-  here = λ b. stops ts t st e none (let n : length ts + 1 ≡ length (ts ++ t ∷ []) = omega (arith, length-append ts (t ∷ [])) in subst Begins (ap (take (length ts + 1)) (sym (append_assoc ts (t ∷ []) more)) ∙ take_front (ts ++ t ∷ []) more (length ts + 1) n) b);
+  before = (subst Begins (sym (take_at ts (t ∷ more) (length ts) refl)) (begun st ts (run_says ts (Wants []) [] st refl e)));
+  here = λ b. stops ts t st e none (let n : length ts + 1 ≡ length (ts ++ t ∷ []) = omega (arith, length-append ts (t ∷ [])) in subst Begins (ap (take (length ts + 1)) (sym (append_assoc ts (t ∷ []) more)) ∙ take_at (ts ++ t ∷ []) more (length ts + 1) (sym n)) b);
 }

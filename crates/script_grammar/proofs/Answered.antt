@@ -3,16 +3,15 @@ use Rattle.std.proofs.Common.{◌≡◌, ℕ, ◌+◌, ◌<◌, ◌≤◌, Bool,
 use Rattle.std.specs.Prelude.{nat_lt}
 use Rattle.std.proofs.lemmas.Bool.Decides.{nat_tests}
 use Rattle.std.proofs.lemmas.Grind.{common_steps}
-use Rattle.std.proofs.lemmas.List.{length-take-le}
+use Rattle.std.proofs.lemmas.List.{length-take-le, take-append-drop, take_all}
 use Rattle.script_grammar.specs.declared.token.Token.{Token}
 use Rattle.script_grammar.specs.Grammar.{Begins, BeginsWithin, IsSyntaxAt, IsTooDeepAt}
 use Rattle.script_grammar.specs.Refusals.{IsFirstFaultAt}
-use Rattle.script_grammar.proofs.Places.{take_drop, take_all}
 use Rattle.script_grammar.proofs.Depths.{one_nesting}
 
 -- the first tokens of the first tokens
 take_again : (i j : ℕ) (ts : List Token) → i ≤ j → take j ts ≡ take i ts ++ drop i (take j ts)
-take_again i j ts h = take_drop i (take j ts) ∙ ap (λ z. z ++ drop i (take j ts)) (take_within i j ts h)
+take_again i j ts h = sym (take-append-drop i (take j ts)) ∙ ap (λ z. z ++ drop i (take j ts)) (take_within i j ts h)
   where
     take_within : (i j : ℕ) (ts : List Token) → i ≤ j → take i (take j ts) ≡ take i ts
     take_within i j ts h = grind (arith, common_steps)
@@ -33,7 +32,7 @@ not_both limit n k ts le b deep h =
     absurd (omega (arith, alike, deep.deep, b.shallow k (omega (arith, length-take-le n ts le))))
 
 pub shallow_is_not_deep : (limit : ℕ) (ts : List Token) (k : ℕ) → BeginsWithin limit ts → IsTooDeepAt limit ts k → ⊥
-shallow_is_not_deep limit ts k b deep = not_both limit (length ts) k ts (omega arith) (subst (BeginsWithin limit) (sym (take_all ts)) b) deep deep.within
+shallow_is_not_deep limit ts k b deep = not_both limit (length ts) k ts (omega arith) (subst (BeginsWithin limit) (sym (take_all (length ts) ts (omega arith))) b) deep deep.within
 
 pub fault_is_not_deep : (limit : ℕ) (ts : List Token) (k j : ℕ) → IsFirstFaultAt limit ts k → IsTooDeepAt limit ts j → ⊥
 fault_is_not_deep limit ts k j f deep = by_order (nat_lt j k) refl

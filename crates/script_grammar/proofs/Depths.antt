@@ -1,7 +1,7 @@
 -- The nesting that the reader counts is the nesting in every script that begins with the same tokens.
 use Rattle.std.proofs.Common.{◌≡◌, ℕ, ◌+◌, ◌<◌, ◌≤◌, List, [], ◌∷◌, ◌++◌, length, take, drop, get_or, Option, Some, None, refl, sym, ap, ◌∙◌, subst, arith, append_assoc, below_more}
 use Rattle.std.specs.Prelude.{slice_index}
-use Rattle.std.proofs.lemmas.List.{get_or_append_left, length-take-le}
+use Rattle.std.proofs.lemmas.List.{get_or_append_left, length-take-le, take-append-drop, take_all}
 use Rattle.std.proofs.Math.Seq.{get_or-append_seam}
 use Rattle.script_tree.specs.Tree.{Tree}
 use Rattle.script_grammar.specs.declared.token.Token.{Token}
@@ -11,7 +11,7 @@ use Rattle.script_grammar.specs.Nesting.{nesting, nests}
 use Rattle.script_grammar.proofs.Complete.{run_append, complete}
 use Rattle.script_grammar.proofs.Agreement.{run_says, begun}
 use Rattle.script_grammar.proofs.Nesting.{nests_append, nests_are}
-use Rattle.script_grammar.proofs.Places.{start, take_more, run_more, take_drop, take_all}
+use Rattle.script_grammar.proofs.Places.{start, take_known, run_more}
 
 -- a text that is read has a nesting for each token
 pub nests_length : (ts : List Token) (o : Option State) (st : State) → run o ts ≡ Some st → length (nests o ts) ≡ length ts
@@ -31,7 +31,7 @@ pub record ReadsTo (limit : ℕ) (ts : List Token) (i : ℕ) (st : State) : Type
   pub shallow : (j : ℕ) → j < i → get_or (nests start ts) j 0 ≤ limit
 
 split_at : (ts : List Token) (i : ℕ) (d t : Token) → i < length ts → t ≡ get_or ts i d → ts ≡ take i ts ++ t ∷ drop (i + 1) ts
-split_at ts i d t h e = take_drop (i + 1) ts ∙ ap (λ z. z ++ drop (i + 1) ts) (take_more ts i d t h e) ∙ append_assoc (take i ts) (t ∷ []) (drop (i + 1) ts)
+split_at ts i d t h e = sym (take-append-drop (i + 1) ts) ∙ ap (λ z. z ++ drop (i + 1) ts) (take_known ts i d t h e) ∙ append_assoc (take i ts) (t ∷ []) (drop (i + 1) ts)
 
 pub nests_at : (ts : List Token) (i : ℕ) (d t : Token) (st : State) → run start (take i ts) ≡ Some st → i < length ts → t ≡ get_or ts i d → get_or (nests start ts) i 0 ≡ nesting st t
 nests_at ts i d t st r h e =
@@ -51,7 +51,7 @@ same_at w g ts more i st r le e j h =
     ∙ ap (λ z. get_or (nests start z) j 0) e
     ∙ front (take i ts) more st j r within
     ∙ sym (front (take i ts) (drop i ts) st j r within)
-    ∙ ap (λ z. get_or (nests start z) j 0) (sym (take_drop i ts))
+    ∙ ap (λ z. get_or (nests start z) j 0) (take-append-drop i ts)
 
 pub shallow_to : (limit : ℕ) (ts : List Token) (i : ℕ) (st : State) → ReadsTo limit ts i st → i ≤ length ts → BeginsWithin limit (take i ts)
 shallow_to limit ts i st r le =
@@ -68,7 +68,7 @@ shallow_to limit ts i st r le =
     }
 
 pub shallow_all : (limit : ℕ) (ts : List Token) (st : State) → ReadsTo limit ts (length ts) st → BeginsWithin limit ts
-shallow_all limit ts st r = subst (BeginsWithin limit) (take_all ts) (shallow_to limit ts (length ts) st r (omega arith))
+shallow_all limit ts st r = subst (BeginsWithin limit) (take_all (length ts) ts (omega arith)) (shallow_to limit ts (length ts) st r (omega arith))
 
 pub deep_at : (limit : ℕ) (ts : List Token) (i : ℕ) (d t : Token) (st st' : State) → ReadsTo limit ts i st → i < length ts → t ≡ get_or ts i d → step st t ≡ Some st' → limit < nesting st t → IsTooDeepAt limit ts i
 deep_at limit ts i d t st st' r h e goes deep =
