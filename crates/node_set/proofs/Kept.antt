@@ -10,7 +10,6 @@ use Rattle.node_set.specs.Bits.{with_bit, without_bit, Summarizes}
 use Rattle.node_set.specs.Members.{IsKept}
 use Rattle.node_set.proofs.BitLemmas.{is_set-with_bit, is_set-without_bit}
 use Rattle.node_set.proofs.Nodes.{nodes_of-clear, length-with, length-without}
-pub use Rattle.script_tree.proofs.Lists.{whole_slice}
 
 pub length-with_bit : (words : List ℕ) (q : ℕ) → length (with_bit words q) ≡ length words
 unfolding with_bit

@@ -1,9 +1,10 @@
 -- The nodes of a set through its words.
-use Rattle.std.proofs.Common.{◌≡◌, ℕ, suc, ◌+◌, inl, inr, ◌/◌, ◌<◌, ◌≤◌, Bool, true, false, not, ◌&&◌, ◌||◌, ◌==◌, ltb, leb, List, [], ◌∷◌, length, refl, sym, ap, ◌∙◌, subst, arith}
+use Rattle.std.proofs.Common.{◌≡◌, ℕ, suc, ◌+◌, inl, inr, ◌/◌, ◌<◌, ◌≤◌, Bool, true, false, not, ◌&&◌, ◌||◌, ◌==◌, ltb, leb, List, [], length, refl, sym, ap, ◌∙◌, subst, arith}
 use Rattle.std.specs.Prelude.{Option, Some, None, IfSome, IfNone}
 use Rattle.std.proofs.lemmas.Bool.{cases_lt, cases_eq, lt-ltb, le-ltb, eq-eqb, ne_eqb, true≢false}
 use Rattle.std.proofs.Math.Bool.{and-false}
 use Rattle.std.proofs.Math.Dec.{leb-zero}
+use Rattle.std.proofs.lemmas.List.{nil_from_length}
 use Rattle.script_tree.specs.Bits.{is_set}
 use Rattle.signal_graph.specs.Graph.{is_in}
 use Rattle.flow_model.specs.Machine.Sets.{put, take_out, IsSet}
@@ -79,14 +80,10 @@ nodes_of-clear words size none = chosen-none (is_set words) 0 size (λ q lo hi. 
 
 -- ---- what is seen of a set
 
-none_of_length : (xs : List ℕ) → length xs ≡ 0 → xs ≡ []
-none_of_length [] h = refl
-none_of_length (x ∷ xs) h = absurd (omega (arith, h))
-
 pub no_nodes : (words summary : List ℕ) (size count : ℕ) (seen : Members) → (record { size = size; nodes = nodes_of words size } ≡ seen) → IsKept words summary size count → count ≡ 0 → seen ≡ no_members seen.size
 no_nodes words summary size count seen view kept h =
     let M : List ℕ → Members = λ nodes. record { size = size; nodes = nodes } in
-    let none : nodes_of words size ≡ [] = none_of_length (nodes_of words size) (sym kept.counted ∙ h) in
+    let none : nodes_of words size ≡ [] = nil_from_length (nodes_of words size) (sym kept.counted ∙ h) in
     sym view ∙ ap M none ∙ ap (λ (m : Members). no_members m.size) view
 
 pub seen_with : (words : List ℕ) (size q : ℕ) (seen : Members) → (record { size = size; nodes = nodes_of words size } ≡ seen) → q < size → q / 64 < length words → (new : List ℕ) → new ≡ with_bit words q → (record { size = size; nodes = nodes_of new size } ≡ with_nodes seen (put q seen.nodes))
