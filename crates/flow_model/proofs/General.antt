@@ -1,5 +1,4 @@
 -- Numbers, lists and sets.
-pub mod Truths
 pub mod AnyAndAll
 pub mod Counting
 pub mod Sets

@@ -1,9 +1,8 @@
 -- Some member of a list passes a test, or none does; all do, or one doesn't; and equal tests of members are equal of the list.
-use Rattle.std.proofs.Common.{◌≡◌, ℕ, zero, suc, ◌<◌, Bool, true, false, ◌||◌, ◌==◌, ◌⊎◌, inl, inr, refl, sym, ap, arith, List, [], ◌∷◌, length, map, true≢false, ◌∙◌, subst, Option, Some, None}
+use Rattle.std.proofs.Common.{◌≡◌, ℕ, zero, suc, ◌<◌, Bool, true, false, ◌||◌, ◌==◌, ◌⊎◌, inl, inr, refl, sym, ap, arith, List, [], ◌∷◌, true≢false, ◌∙◌, subst, Option, Some, None}
 use Rattle.std.proofs.lemmas.Bool.{or_cases, or_left, or_right, and_parts, eqb-true, eq-eqb, false_from_ne_true, both_ways}
 use Rattle.std.specs.Prelude.{filter, take, slice_get}
 use Rattle.std.specs.List.{list_any, list_all}
-use Rattle.std.proofs.lemmas.List as std_list
 use Rattle.signal_graph.specs.Graph.{is_in}
 use Rattle.flow_model.specs.Machine.Words.{is_some_of}
 
@@ -86,9 +85,6 @@ get-take (x ∷ xs) zero (suc j) m h l = or_left _ _ (eq-eqb x m (same h))
     same : Some x ≡ Some m → x ≡ m
     same e = cc
 get-take (x ∷ xs) (suc k) (suc j) m h l = or_right (x == m) (is_in m (take j xs)) (get-take xs k j m h (omega (arith, l)))
-
-pub length-map : {A B : Type 0} (f : A → B) (xs : List A) → length (map f xs) ≡ length xs
-length-map f xs = std_list.length-map xs f
 
 -- ---- a number, or none
 

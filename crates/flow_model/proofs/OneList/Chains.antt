@@ -5,7 +5,6 @@ use Rattle.std.proofs.lemmas.Bool.{false_from_ne_true, both_ways}
 use Rattle.order_graph.specs.declared.pair.Pair.{Pair}
 use Rattle.order_graph.specs.Order.{Precedes, is_recorded, reaches, linked, retired}
 use Rattle.order_graph.specs.Order.Precedes.{by_pair, by_chain}
-pub use Rattle.order_graph.proofs.Reaching.{reaches-linked as reaches-link, reaches-join as reaches-trans}
 use Rattle.order_graph.proofs.Reaching.{decides, reaches-linked, reaches-retired, recorded-reaches, reaches-join}
 
 pub link-no_cycle : (ps : List Pair) (a b n : ℕ) → ((u : ℕ) → reaches ps u u ≡ false) → a ≢ b → reaches ps b a ≡ false → (u : ℕ) → reaches (linked ps a b n) u u ≡ false

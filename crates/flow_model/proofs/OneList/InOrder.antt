@@ -10,7 +10,6 @@ use Rattle.node_versions.specs.declared.entry.Entry.{Entry}
 use Rattle.node_versions.specs.Entries.{has, behind, front, rest, placed, with_state, is_done, last_done, only_done, collected}
 use Rattle.node_versions.proofs.Lists.{has-append}
 use Rattle.node_versions.proofs.KeptLemmas.{has-with_state}
-pub use Rattle.node_versions.proofs.KeptLemmas.{has-with_state as with_state-has}
 use Rattle.flow_model.specs.Machine.Changes.{first_version, last_version}
 
 -- a test of calls as a test of entries

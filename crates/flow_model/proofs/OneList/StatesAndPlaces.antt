@@ -8,7 +8,7 @@ use Rattle.node_versions.specs.declared.entry.Entry.{Entry}
 use Rattle.node_versions.specs.Entries.{IsUnique, has, at, behind, with_state, is_frame, is_done, first_open}
 use Rattle.node_versions.proofs.Lists.{has-append}
 use Rattle.node_versions.proofs.KeptLemmas.{has-with_state, has-put}
-pub use Rattle.node_versions.proofs.Places.{at-has}
+use Rattle.node_versions.proofs.Places.{at-has}
 
 -- ---- Another mode
 

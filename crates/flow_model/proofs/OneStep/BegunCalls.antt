@@ -20,7 +20,7 @@ use Rattle.flow_model.proofs.OneList.CallsAndCells.{call_of-append, last_call-ot
 use Rattle.flow_model.proofs.OneStep.VersionsStayFresh.{not_begun-live, times-append, times-in, in-times}
 use Rattle.flow_model.proofs.General.Pigeons.{total-missing, total-all, total-ones, total-length, field-distinct, Holder, holder, any-field, IsFreeSlot, find-slot}
 
-none-is : (o : Option ℕ) → is_none o ≡ true → o ≡ None
+pub none-is : (o : Option ℕ) → is_none o ≡ true → o ≡ None
 none-is None h = refl
 none-is (Some x) h = absurd (true≢false (sym h))
 

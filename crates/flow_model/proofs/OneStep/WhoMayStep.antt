@@ -2,8 +2,7 @@
 use Rattle.std.proofs.Common.{◌≡◌, ℕ, Bool, true, false, ◌||◌, refl, sym, ap, arith, List, [], ◌∷◌, true≢false, ◌∙◌, Option, Some, None}
 use Rattle.std.proofs.lemmas.Bool.{false_from_ne_true, not-true}
 use Rattle.std.specs.Prelude.{is_some}
-pub use Rattle.script_tree.proofs.Truths.{and_left, and_right}
-pub use Rattle.std.proofs.lemmas.Bool.{not-true as not_is}
+use Rattle.script_tree.proofs.Truths.{and_left, and_right}
 use Rattle.signal_graph.specs.Graph.{Graph, is_in}
 use Rattle.node_versions.specs.declared.entry.Entry.{Entry}
 use Rattle.node_versions.specs.declared.entry.State.{State}

@@ -12,7 +12,6 @@ use Rattle.signal_graph.specs.declared.node.Selector.{Selector}
 use Rattle.signal_graph.specs.Graph.{Graph, node_at, numbers_from, is_in, selectors_of, IsGraph, AreNodes, IsNode, IsSelector}
 use Rattle.signal_graph.specs.Values.{Values, select, selected, taken, picks, picks_of, nodes_in, values, val, start}
 use Rattle.signal_graph.proofs.Members.{get-in, read-from}
-pub use Rattle.signal_graph.proofs.Members.{get-in as slice_get-is_in}
 use Rattle.node_versions.specs.declared.entry.Entry.{Entry}
 use Rattle.node_versions.specs.declared.entry.State.TheVariants.{Done}
 use Rattle.node_versions.specs.Entries.{OutEdge, AreDifferent, is_frame, is_mark, has, at, behind, first_open, has_out, has_node}

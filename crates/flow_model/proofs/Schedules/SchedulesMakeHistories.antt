@@ -1,5 +1,5 @@
 -- What a schedule of turns makes is a history, in which each thread has begun or refused what it has taken of its script.
-use Rattle.std.proofs.Common.{◌≡◌, ℕ, zero, suc, ◌<◌, ◌≤◌, Bool, true, false, not, ◌==◌, nat_lt, nat_le, ◌⊎◌, inl, inr, refl, sym, ap, arith, List, [], ◌∷◌, ◌++◌, map, length, ◌∙◌, subst, Option, Some, None}
+use Rattle.std.proofs.Common.{◌≡◌, ℕ, zero, suc, ◌<◌, ◌≤◌, Bool, true, false, not, ◌==◌, nat_lt, nat_le, ◌⊎◌, inl, inr, refl, sym, ap, arith, List, [], ◌∷◌, ◌++◌, map, length, ◌∙◌, subst, Option, Some, None, ◌||◌, true≢false}
 use Rattle.std.proofs.lemmas.Bool.{and_from, eqb-true, eq-eqb, both_ways, cases_Bool}
 use Rattle.std.specs.Prelude.{slice_index_or, is_none}
 use Rattle.std.specs.List.{AllByRecursion}
@@ -15,9 +15,9 @@ use Rattle.flow_model.specs.declared.step.Step.TheVariants as steps
 use Rattle.flow_model.specs.declared.step.Turn.{Turn}
 use Rattle.flow_model.specs.declared.step.Turn.TheVariants as turn
 use Rattle.flow_model.specs.Machine.Lists.{change_at}
-use Rattle.flow_model.specs.Machine.State.{Core, live, opening}
+use Rattle.flow_model.specs.Machine.State.{Core, live, opening, LiveCall}
 use Rattle.flow_model.specs.Machine.Steps.{allowed, can_begin, has_call}
-use Rattle.flow_model.specs.Machine.Next.{next}
+use Rattle.flow_model.specs.Machine.Next.{next, lesser}
 use Rattle.flow_model.specs.Machine.Histories.{Move, Begin, Make, may, after_move, after_moves, may_all, state, is_history}
 use Rattle.flow_model.specs.Kept.Lawful.{IsLawful}
 use Rattle.flow_model.specs.Machine.Schedules.{Thread, Play, no_thread, thread, made, goes_on, refuses, refused_for, begin_or_refuse, begin_next, make_turn, turn_of, version_of, take_turn, take_turns, round_from, rounds, is_over, most_rounds, at_start, replayed}
@@ -29,6 +29,16 @@ use Rattle.flow_model.proofs.OneStep.BegunCalls.{calls-distinct}
 use Rattle.flow_model.proofs.Histories.Moves.{KeepsLawful, after_parts}
 use Rattle.flow_model.proofs.Callers.CallersHaveTheirCalls.{Counts, history-counts, history-begun}
 use Rattle.flow_model.proofs.Schedules.ThreadsTakeTheirScripts.{step-calls, begin-other_calls, step-count, begin-count, ThreadRight, thread-kept, thread-begins, thread-refuses}
+
+-- who has no live call has no version
+pub idle-version : (k : ℕ) (cs : List LiveCall) → has_call k cs ≡ false → version_of k cs ≡ None
+idle-version k [] h = refl
+idle-version k (c ∷ cs) h = go (c.caller == k) h (λ r. idle-version k cs r)
+  where
+    go : (b : Bool) → (b || has_call k cs) ≡ false → (has_call k cs ≡ false → version_of k cs ≡ None)
+        → elim b as (λ _. Option ℕ) [ true ↦ Some (lesser c.version (version_of k cs)) | false ↦ version_of k cs ] ≡ None
+    go true h r = absurd (true≢false h)
+    go false h r = r h
 
 -- ---- lists of threads
 
