@@ -1,6 +1,7 @@
 -- Reports of runs by their bytes.
 use Rattle.std.proofs.Common.{◌≡◌, ℕ, ◌≤◌, ◌↔◌, List, [], ◌∷◌, ◌++◌, length, map, sym, ap, ◌∙◌, subst, arith, length-append}
 use Rattle.std.specs.List.{flat_map}
+use Rattle.std.proofs.lemmas.List.{length-map}
 use Rattle.script_tree.specs.declared.value.Value.{Value}
 use Rattle.signal_graph.specs.declared.call.Call.{Call}
 use Rattle.signal_graph.specs.declared.log.Logged.{Logged}
@@ -12,7 +13,7 @@ use Rattle.report_text.specs.Report.{report_of, refused_line, final_line, done_l
 use Rattle.report_text.specs.Printed.{line_text, printed, data_of, IsReport}
 use Rattle.report_check.specs.Lines.{OfCall, lines_behind, lines_of}
 use Rattle.report_check.specs.Runs.{IsReportOfRun, AreReportOfRun}
-use Rattle.report_check.proofs.Judging.{size_of, behind_size}
+use Rattle.report_check.proofs.Judging.{behind_size}
 
 pub by_bytes : ((log : List Logged) (refused : List Refused) (names : List (List ℕ)) (finals : List Value) → report_of log refused names finals ≡ printed (data_of log refused names finals))
     → ((a b : Report) → IsReport a → IsReport b → printed a ≡ printed b → a ≡ b)
@@ -78,6 +79,6 @@ few_lines report =
     let f = length-append refused (last ++ done) in
     let g = length-append last done in
     let behind = behind_size report.refused report.finals report.accepted report.refusals in
-    let front = size_of OfCall report.calls in
+    let front = length-map report.calls OfCall in
     let all = length-append (map OfCall report.calls) (lines_behind report.refused report.finals report.accepted report.refusals) in
     omega (arith, a, b, c, d, e, f, g, behind, front, all)

@@ -3,8 +3,11 @@ use Rattle.std.proofs.Common.{◌≡◌, ◌≢◌, ℕ, zero, suc, ◌+◌, ◌
 use Rattle.std.specs.Prelude.{slice_get, nat_lt, Option, Some, None}
 use Rattle.std.proofs.lemmas.Bool.Decides.{nat_tests}
 use Rattle.std.specs.List.{zip}
-use Rattle.std.proofs.lemmas.List.{take_all}
+use Rattle.std.specs.Option.{option_map}
+use Rattle.std.proofs.lemmas.List.{take_all, length-map}
+use Rattle.std.proofs.lemmas.Option.{same_Some, slice_get_within, slice_get-map}
 use Rattle.script_tree.specs.declared.value.Value.{Value}
+use Rattle.script_tree.proofs.Lists.{same_first, same_rest}
 use Rattle.signal_graph.specs.declared.call.Call.{Call}
 use Rattle.signal_graph.specs.declared.log.Logged.{Logged}
 use Rattle.signal_graph.specs.declared.log.Refused.{Refused}
@@ -23,13 +26,6 @@ use Rattle.report_check.specs.Differing.{DifferFirst}
 use Rattle.report_check.specs.Stopping.{AreRightCalls, StopsAt, IsThrough}
 
 -- ---- places of lists
-
-abbrev from_some : {X : Type 0} → Option X → X → X
-from_some None d = d
-from_some (Some x) d = x
-
-pub some_is : {X : Type 0} (x y : X) → Some x ≡ Some y → x ≡ y
-some_is x y e = ap (λ o. from_some o x) e
 
 pub get_left : {X : Type 0} (xs ys : List X) (n : ℕ) → n < length xs → slice_get (xs ++ ys) n ≡ slice_get xs n
 get_left [] ys n h = absurd (omega arith)
@@ -51,14 +47,10 @@ there [] n h = absurd (omega arith)
 there (x ∷ xs) zero h = record { item = x; is = refl }
 there (x ∷ xs) (suc n) h = let r = there xs n (omega (arith, h)) in record { item = r.item; is = r.is }
 
-pub within : {X : Type 0} (xs : List X) (n : ℕ) (x : X) → slice_get xs n ≡ Some x → n < length xs
-within [] n x h = absurd (cc)
-within (y ∷ xs) zero x h = omega arith
-within (y ∷ xs) (suc n) x h = let r = within xs n x h in omega (arith, r)
-
-pub size_of : {X Y : Type 0} (f : X → Y) (xs : List X) → length (map f xs) ≡ length xs
-size_of f [] = refl
-size_of f (x ∷ xs) = ap (λ n. suc n) (size_of f xs)
+none_beyond : {X : Type 0} (xs : List X) (n : ℕ) → slice_get xs n ≡ None → length xs ≤ n
+none_beyond [] n h = omega arith
+none_beyond (x ∷ xs) zero h = absurd (cc)
+none_beyond (x ∷ xs) (suc n) h = let r = none_beyond xs n h in omega (arith, r)
 
 get_taken : {X : Type 0} (xs : List X) (p n : ℕ) → n < p → slice_get (take p xs) n ≡ slice_get xs n
 get_taken [] zero n h = absurd (omega (arith, h))
@@ -67,20 +59,7 @@ get_taken (x ∷ xs) zero n h = absurd (omega (arith, h))
 get_taken (x ∷ xs) (suc p) zero h = refl
 get_taken (x ∷ xs) (suc p) (suc n) h = get_taken xs p n (omega (arith, h))
 
-get_mapped : {X Y : Type 0} (f : X → Y) (xs : List X) (n : ℕ) (x : X) → slice_get xs n ≡ Some x → slice_get (map f xs) n ≡ Some (f x)
-get_mapped f [] n x h = absurd (cc)
-get_mapped f (y ∷ xs) zero x h = ap (λ z. Some (f z)) (some_is y x h)
-get_mapped f (y ∷ xs) (suc n) x h = get_mapped f xs n x h
-
 -- ---- lists that differ, as lines
-
-abbrev head_or : {X : Type 0} → List X → X → X
-head_or [] d = d
-head_or (x ∷ xs) d = x
-
-abbrev rest_of : {X : Type 0} → List X → List X
-rest_of [] = []
-rest_of (x ∷ xs) = xs
 
 differ_in : {X : Type 0} (f : X → ReportLine) → ((x y : X) → f x ≡ f y → x ≡ y) → (due given : List X) (behind_due behind_given : List ReportLine)
     → ((x : X) → slice_get behind_due 0 ≢ Some (f x)) → ((x : X) → slice_get behind_given 0 ≢ Some (f x)) → (place : ℕ)
@@ -90,12 +69,12 @@ differ_in f inj [] (y ∷ ys) d e not_d not_e zero h = record { in_due = omega a
 differ_in f inj [] (y ∷ ys) d e not_d not_e (suc place) h = let low = h.in_due in absurd (omega (arith, low))
 differ_in f inj (x ∷ xs) [] d e not_d not_e zero h = record { in_due = omega arith; in_given = omega arith; before = refl; there = λ k. not_e x (sym k) }
 differ_in f inj (x ∷ xs) [] d e not_d not_e (suc place) h = let low = h.in_given in absurd (omega (arith, low))
-differ_in f inj (x ∷ xs) (y ∷ ys) d e not_d not_e zero h = record { in_due = omega arith; in_given = omega arith; before = refl; there = λ k. h.there (ap (λ z. Some z) (inj x y (some_is (f x) (f y) k))) }
+differ_in f inj (x ∷ xs) (y ∷ ys) d e not_d not_e zero h = record { in_due = omega arith; in_given = omega arith; before = refl; there = λ k. h.there (ap (λ z. Some z) (inj x y (same_Some (f x) (f y) k))) }
 differ_in f inj (x ∷ xs) (y ∷ ys) d e not_d not_e (suc place) h =
     let low = h.in_due in
     let high = h.in_given in
-    let same : x ≡ y = ap (λ zs. head_or zs x) h.before in
-    let rest = differ_in f inj xs ys d e not_d not_e place (record { in_due = omega (arith, low); in_given = omega (arith, high); before = ap rest_of h.before; there = h.there }) in
+    let same : x ≡ y = same_first x y (take place xs) (take place ys) h.before in
+    let rest = differ_in f inj xs ys d e not_d not_e place (record { in_due = omega (arith, low); in_given = omega (arith, high); before = same_rest x y (take place xs) (take place ys) h.before; there = h.there }) in
     let more = rest.in_due in
     let most = rest.in_given in
     record { in_due = omega (arith, more); in_given = omega (arith, most); before = ap (λ zs. f x ∷ zs) rest.before ∙ ap (λ z. f z ∷ take place (map f ys ++ e)) same; there = rest.there }
@@ -146,7 +125,7 @@ refused_differ due given last_due last_given a b c d place h =
 -- where last values differ, behind the same refusals
 pub finals_differ : (due given : List Refused) (last_due last_given : List (List ℕ × Value)) (a b c d : ℕ) (place : ℕ) → due ≡ given → DifferFirst last_due last_given place → DifferFirst (lines_behind due last_due a b) (lines_behind given last_given c d) (length given + place)
 finals_differ due given last_due last_given a b c d place same h =
-    let size = size_of OfRefusal given in
+    let size = length-map given OfRefusal in
     subst (λ r. DifferFirst (lines_behind r last_due a b) (lines_behind given last_given c d) (length given + place)) (sym same)
     (differ_behind (map OfRefusal given) (map OfFinal last_due ++ OfDone a b ∷ []) (map OfFinal last_given ++ OfDone c d ∷ []) place
     (differ_in OfFinal (λ x y e. ap (λ l. last_or l x) e) last_due last_given (OfDone a b ∷ []) (OfDone c d ∷ []) (no_final_first a b) (no_final_first c d) place h)
@@ -155,13 +134,13 @@ finals_differ due given last_due last_given a b c d place same h =
 -- where the counts differ, behind the same refusals and last values
 pub counts_differ : (due given : List Refused) (last_due last_given : List (List ℕ × Value)) (a b c d : ℕ) → due ≡ given → last_due ≡ last_given → ((a ≡ c) × (b ≡ d) → ⊥) → DifferFirst (lines_behind due last_due a b) (lines_behind given last_given c d) (length given + length last_given)
 counts_differ due given last_due last_given a b c d same same_last other =
-    let size = size_of OfRefusal given in
-    let size_last = size_of OfFinal last_given in
+    let size = length-map given OfRefusal in
+    let size_last = length-map last_given OfFinal in
     subst (λ r. DifferFirst (lines_behind r last_due a b) (lines_behind given last_given c d) (length given + length last_given)) (sym same)
     (subst (λ l. DifferFirst (lines_behind given l a b) (lines_behind given last_given c d) (length given + length last_given)) (sym same_last)
     (differ_behind (map OfRefusal given) (map OfFinal last_given ++ OfDone a b ∷ []) (map OfFinal last_given ++ OfDone c d ∷ []) (length last_given)
     (differ_behind (map OfFinal last_given) (OfDone a b ∷ []) (OfDone c d ∷ []) 0
-    (record { in_due = omega arith; in_given = omega arith; before = refl; there = λ e. other (ap (λ l. accepted_or l a) (some_is (OfDone a b) (OfDone c d) e), ap (λ l. refusals_or l b) (some_is (OfDone a b) (OfDone c d) e)) })
+    (record { in_due = omega arith; in_given = omega arith; before = refl; there = λ e. other (ap (λ l. accepted_or l a) (same_Some (OfDone a b) (OfDone c d) e), ap (λ l. refusals_or l b) (same_Some (OfDone a b) (OfDone c d) e)) })
     (length last_given) (omega (arith, size_last)))
     (length given + length last_given) (omega (arith, size))))
 
@@ -169,20 +148,20 @@ counts_differ due given last_due last_given a b c d same same_last other =
 
 call_there : (report : Report) (place : ℕ) (call : CallLine) (line : ReportLine) → slice_get report.calls place ≡ Some call → slice_get (lines_of report) place ≡ Some line → line ≡ OfCall call
 call_there report place call line h e =
-    let inside = within report.calls place call h in
-    let size = size_of OfCall report.calls in
-    some_is line (OfCall call) (sym e ∙ get_left (map OfCall report.calls) (lines_behind report.refused report.finals report.accepted report.refusals) place (omega (arith, size, inside)) ∙ get_mapped OfCall report.calls place call h)
+    let inside = slice_get_within report.calls place call h in
+    let size = length-map report.calls OfCall in
+    same_Some line (OfCall call) (sym e ∙ get_left (map OfCall report.calls) (lines_behind report.refused report.finals report.accepted report.refusals) place (omega (arith, size, inside)) ∙ slice_get-map OfCall report.calls place ∙ ap (option_map OfCall) h)
 
 pub behind_there : (report : Report) (place at : ℕ) → at ≡ length report.calls + place → slice_get (lines_of report) at ≡ slice_get (lines_behind report.refused report.finals report.accepted report.refusals) place
 behind_there report place at e =
-    let size = size_of OfCall report.calls in
+    let size = length-map report.calls OfCall in
     get_right (map OfCall report.calls) (lines_behind report.refused report.finals report.accepted report.refusals) at place (omega (arith, e, size))
 
 pub call_at : (report : Report) (place : ℕ) (call : CallLine) → slice_get report.calls place ≡ Some call → slice_get (lines_of report) place ≡ Some (OfCall call)
 call_at report place call h =
-    let inside = within report.calls place call h in
-    let size = size_of OfCall report.calls in
-    get_left (map OfCall report.calls) (lines_behind report.refused report.finals report.accepted report.refusals) place (omega (arith, size, inside)) ∙ get_mapped OfCall report.calls place call h
+    let inside = slice_get_within report.calls place call h in
+    let size = length-map report.calls OfCall in
+    get_left (map OfCall report.calls) (lines_behind report.refused report.finals report.accepted report.refusals) place (omega (arith, size, inside)) ∙ slice_get-map OfCall report.calls place ∙ ap (option_map OfCall) h
 
 -- lines of calls that are right are right lines
 calls_right : (graph : Graph) (scripts : List (List Call)) (limit : ℕ) (report : Report) (end : ℕ) → end ≤ count_made graph scripts limit → end ≤ length report.calls → AreRightCalls graph scripts (count_made graph scripts limit) report.calls end → AreRightBefore graph scripts limit report end
@@ -217,9 +196,9 @@ stops_there graph scripts limit report place stops = by (slice_get report.calls 
 
     by : (o : Option CallLine) → slice_get report.calls place ≡ o → IsFirstWrong graph scripts limit report (place + 1)
     by (Some call) e =
-        let inside = within report.calls place call e in
-        let size = size_of OfCall report.calls in
-        let is = get_left (map OfCall report.calls) (lines_behind report.refused report.finals report.accepted report.refusals) place (omega (arith, size, inside)) ∙ get_mapped OfCall report.calls place call e in
+        let inside = slice_get_within report.calls place call e in
+        let size = length-map report.calls OfCall in
+        let is = get_left (map OfCall report.calls) (lines_behind report.refused report.finals report.accepted report.refusals) place (omega (arith, size, inside)) ∙ slice_get-map OfCall report.calls place ∙ ap (option_map OfCall) e in
         record { place = place; line = OfCall call; number = refl; there = is; before = before; wrong = λ right. stops.wrong call e (right.made below) }
     by None e =
         let beyond : length report.calls ≤ place = none_beyond report.calls place e in
@@ -234,25 +213,20 @@ stops_there graph scripts limit report place stops = by (slice_get report.calls 
           before = before;
           wrong = λ right. not_call graph scripts (count_made graph scripts limit) (log_of graph scripts (take place report.calls)) report.refused report.finals report.accepted report.refusals first.item first.is (right.made below);
         }
-      where
-        none_beyond : (xs : List CallLine) (n : ℕ) → slice_get xs n ≡ None → length xs ≤ n
-        none_beyond [] n h = omega arith
-        none_beyond (x ∷ xs) zero h = absurd (cc)
-        none_beyond (x ∷ xs) (suc n) h = let r = none_beyond xs n h in omega (arith, r)
 
 -- a line of a call behind as many as are made is the first wrong line
 pub one_too_many : (graph : Graph) (scripts : List (List Call)) (limit : ℕ) (report : Report) → IsThrough graph scripts (count_made graph scripts limit) report.calls → count_made graph scripts limit < length report.calls → IsFirstWrong graph scripts limit report (count_made graph scripts limit + 1)
 one_too_many graph scripts limit report through more =
     let made = count_made graph scripts limit in
     let found = there report.calls made more in
-    let size = size_of OfCall report.calls in
+    let size = length-map report.calls OfCall in
     let log = log_of graph scripts (take made report.calls) in
     let refused = left_out graph limit log scripts in
     record {
       place = made;
       line = OfCall found.item;
       number = refl;
-      there = get_left (map OfCall report.calls) (lines_behind report.refused report.finals report.accepted report.refusals) made (omega (arith, size, more)) ∙ get_mapped OfCall report.calls made found.item found.is;
+      there = get_left (map OfCall report.calls) (lines_behind report.refused report.finals report.accepted report.refusals) made (omega (arith, size, more)) ∙ slice_get-map OfCall report.calls made ∙ ap (option_map OfCall) found.is;
       before = calls_right graph scripts limit report made (omega arith) through.enough through.each;
       wrong = λ right. no_call_first refused (zip graph.names (finals graph log)) made (length refused) found.item (ap (slice_get (lines_due graph scripts limit log)) (minus made) ∙ right.due (omega arith));
     }
@@ -273,7 +247,7 @@ behind_right graph scripts limit report end through size same place line before 
 
     by : (o : Option CallLine) → slice_get report.calls place ≡ o → IsRight graph scripts limit report place line
     by (Some call) e =
-        let inside = within report.calls place call e in
+        let inside = slice_get_within report.calls place call e in
         calls_right graph scripts limit report (count_made graph scripts limit) (omega arith) through.enough through.each place line (omega (arith, inside, size)) is
     by None e =
         let beyond : length report.calls ≤ place = none_beyond report.calls place e in
@@ -282,11 +256,6 @@ behind_right graph scripts limit report end through size same place line before 
           made = λ h. absurd (omega (arith, beyond, size, h));
           due = λ h. same (place - count_made graph scripts limit) (omega (arith, before, h)) ∙ sym (behind_there report (place - count_made graph scripts limit) place at) ∙ is;
         }
-      where
-        none_beyond : (xs : List CallLine) (n : ℕ) → slice_get xs n ≡ None → length xs ≤ n
-        none_beyond [] n h = omega arith
-        none_beyond (x ∷ xs) zero h = absurd (cc)
-        none_beyond (x ∷ xs) (suc n) h = let r = none_beyond xs n h in omega (arith, r)
 
 -- where the lines behind first differ from those that are due, the line is the first wrong one
 pub differs_there : (graph : Graph) (scripts : List (List Call)) (limit : ℕ) (report : Report) (place : ℕ) → IsThrough graph scripts (count_made graph scripts limit) report.calls → length report.calls ≡ count_made graph scripts limit
@@ -311,14 +280,9 @@ differs_there graph scripts limit report place through size differ inside =
     minus m n = omega arith
 
 lines_size : (report : Report) → length (lines_of report) ≡ length report.calls + length (lines_behind report.refused report.finals report.accepted report.refusals)
-lines_size report = length_both (map OfCall report.calls) (lines_behind report.refused report.finals report.accepted report.refusals) (size_of OfCall report.calls)
-  where
-    length_both : (xs ys : List ReportLine) → length xs ≡ length report.calls → length (xs ++ ys) ≡ length report.calls + length ys
-    length_both xs ys e = let both = added xs ys in omega (arith, both, e)
-      where
-        added : (us vs : List ReportLine) → length (us ++ vs) ≡ length us + length vs
-        added [] vs = omega arith
-        added (u ∷ us) vs = let rest = added us vs in omega (arith, rest)
+lines_size report =
+    let behind = lines_behind report.refused report.finals report.accepted report.refusals in
+    length-append (map OfCall report.calls) behind ∙ ap (λ n. n + length behind) (length-map report.calls OfCall)
 
 -- where the lines behind are those that are due, every line is right
 pub all_right : (graph : Graph) (scripts : List (List Call)) (limit : ℕ) (report : Report) → IsThrough graph scripts (count_made graph scripts limit) report.calls → length report.calls ≡ count_made graph scripts limit
@@ -360,7 +324,7 @@ behind_size (x ∷ refused) last accepted refusals = let rest = behind_size refu
 -- the number of a line behind those of calls and of refusals, up to the last line
 pub number_within : (report : Report) (made count place : ℕ) → length report.calls ≡ made → count ≡ length report.refused → place ≤ length report.finals → made + (count + place) + 1 ≤ length (lines_of report)
 number_within report made count place size is low =
-    let calls = size_of OfCall report.calls in
+    let calls = length-map report.calls OfCall in
     let behind = behind_size report.refused report.finals report.accepted report.refusals in
     let all = length-append (map OfCall report.calls) (lines_behind report.refused report.finals report.accepted report.refusals) in
     omega (arith, all, behind, calls, size, is, low)

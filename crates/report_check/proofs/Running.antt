@@ -2,14 +2,17 @@
 use Rattle.std.proofs.Common.{◌≡◌, ℕ, zero, suc, ◌+◌, ◌-◌, ◌<◌, ◌≤◌, min, Bool, true, false, cond, List, [], ◌∷◌, ◌++◌, length, take, drop, map, get_or, refl, sym, ap, ◌∙◌, subst, arith, true≢false, length-append, append-nil, append_assoc}
 use Rattle.std.specs.Prelude.{◌==◌, slice_get, slice_index_or, nat_lt, All, Some, Result, Ok, Err, IfOk, ◌↔◌}
 use Rattle.std.specs.List.{AllByRecursion, zip}
+use Rattle.std.specs.Option.{option_map}
 use Rattle.std.specs.List.Sorted.{IsStrictlyIncreasing}
 use Rattle.std.proofs.lemmas.Bool.Decides.{nat_tests, eqb_tells}
-use Rattle.std.proofs.lemmas.List.{map-append, take_more, take_all, take-map, take-append-drop, drop_more, get_or-take, length-take}
-use Rattle.std.proofs.lemmas.Option.{get_or_from_slice_get}
-use Rattle.std.proofs.lemmas.List.Elements.{filter-append, All-append}
+use Rattle.std.proofs.lemmas.List.{map-append, take_more, take_all, take-map, take-append-drop, drop_more, get_or-take, length-take, length-map}
+use Rattle.std.proofs.lemmas.Option.{get_or_from_slice_get, same_Some, slice_get_within, slice_get-map}
+use Rattle.std.proofs.Math.Seq.{get_or-append_seam}
+use Rattle.std.proofs.lemmas.List.Elements.{filter-append, All-push}
 use Rattle.std.proofs.lemmas.List.Sums.{sum_by-append, sum_by-cons}
 use Rattle.script_tree.specs.declared.memory.OutOfMemory.{OutOfMemory}
 use Rattle.script_tree.specs.declared.value.Value.{Value}
+use Rattle.script_tree.proofs.Lists.{all_end}
 use Rattle.signal_graph.specs.declared.call.Call.{Call}
 use Rattle.signal_graph.specs.declared.call.Call.TheVariants.{Fire, Read}
 use Rattle.signal_graph.specs.declared.log.Logged.{Logged}
@@ -18,9 +21,11 @@ use Rattle.signal_graph.specs.Graph.{Graph}
 use Rattle.signal_graph.specs.Values.{Values, start}
 use Rattle.signal_graph.specs.Machine.{looks_of, reply, after}
 use Rattle.signal_graph.specs.Legal.{LegalFrom, Legal, state_from, state_after, finals}
+use Rattle.signal_graph.proofs.LegalLogs.{legal_more}
 use Rattle.call_log.specs.Made.{entries_of, calls_in, versions_in, well_named, count_well_named, script_of, IsPrefix}
 use Rattle.call_log.specs.LeftOut.{left_out}
 use Rattle.call_log.specs.Merge.{IsOfCaller, Merge}
+use Rattle.call_log.proofs.Prefixes.{as_many}
 use Rattle.report_text.specs.declared.data.CallLine.{CallLine}
 use Rattle.report_text.specs.declared.data.Report.{Report}
 use Rattle.report_text.specs.Report.{names_of}
@@ -34,7 +39,7 @@ use Rattle.report_check.specs.Runs.{IsOfRun, IsReportOfRun}
 use Rattle.report_check.specs.Stopping.{AreRightCalls}
 use Rattle.report_check.proofs.Taking.{entries_own, entries_other, count_more, log_more}
 use Rattle.report_check.proofs.Numbering.{count, IsAmong, each_once, none_else, rising_more, before_less}
-use Rattle.report_check.proofs.Judging.{some_is, there, within, no_refusal_first, no_final_first, no_call_first, refusal_or, last_or, accepted_or, refusals_or, call_at, behind_there, behind_some, not_call, right_whole}
+use Rattle.report_check.proofs.Judging.{there, no_refusal_first, no_final_first, no_call_first, refusal_or, last_or, accepted_or, refusals_or, call_at, behind_there, behind_some, not_call, right_whole}
 
 -- ---- behind right lines a log keeps what a run's log keeps
 
@@ -50,18 +55,6 @@ pub record IsMade (graph : Graph) (scripts : List (List Call)) (made : ℕ) (log
   pub once : (version : ℕ) → count version log ≤ 1
   pub rising : (caller : ℕ) → IsStrictlyIncreasing (versions_in (entries_of caller log))
 
-all_one : (P : Logged → Type 0) (entry : Logged) → P entry → All P (entry ∷ [])
-all_one P entry h zero d within = h
-all_one P entry h (suc k) d within = absurd (omega (arith, within))
-
-all_more : (P : Logged → Type 0) (log : List Logged) (entry : Logged) → AllByRecursion P log → P entry → AllByRecursion P (log ++ entry ∷ [])
-all_more P [] entry h one = (one, tt)
-all_more P (first ∷ log) entry h one = (h.0, all_more P log entry h.1 one)
-
-legal_more : (graph : Graph) (kept : Values) (log : List Logged) (entry : Logged) → LegalFrom graph kept log → entry.reply ≡ reply graph (state_from graph kept log) entry.call → LegalFrom graph kept (log ++ entry ∷ [])
-legal_more graph kept [] entry h one = (one, tt)
-legal_more graph kept (first ∷ log) entry h one = (h.0, legal_more graph (after graph kept first.call) log entry h.1 one)
-
 nothing_made : (graph : Graph) (scripts : List (List Call)) (made : ℕ) → IsMade graph scripts made []
 nothing_made graph scripts made = record {
   callers = λ k d within. absurd (omega (arith, within));
@@ -74,10 +67,10 @@ nothing_made graph scripts made = record {
 
 pub made_more : (graph : Graph) (scripts : List (List Call)) (made : ℕ) (log : List Logged) (line : CallLine) → IsMade graph scripts made log → IsRightCall graph scripts made log line → IsMade graph scripts made (log ++ entry_of graph scripts log line ∷ [])
 made_more graph scripts made log line is right = record {
-  callers = All-append (IsOfCaller (length scripts)) log (entry ∷ []) is.callers (all_one (IsOfCaller (length scripts)) entry (right.from_one, right.thread));
+  callers = All-push (IsOfCaller (length scripts)) log entry is.callers (right.from_one, right.thread);
   in_order = in_order;
   legal = legal_more graph (start graph) log entry is.legal right.reply;
-  among = all_more (IsAmong made) log entry is.among (right.low, right.high);
+  among = all_end (IsAmong made) log entry is.among (right.low, right.high);
   once = once;
   rising = rising;
 }
@@ -94,10 +87,6 @@ made_more graph scripts made log line is right = record {
         named : List Call
         named = well_named graph (script_of scripts k)
 
-        size_of : (xs : List Logged) → length (calls_in xs) ≡ length xs
-        size_of [] = refl
-        size_of (x ∷ xs) = ap (λ n. suc n) (size_of xs)
-
         by : (b : Bool) → (line.caller == (k + 1)) ≡ b → IsPrefix (calls_in (entries_of (k + 1) (log ++ entry ∷ []))) (well_named graph (script_of scripts k))
         by false e = subst (λ es. IsPrefix (calls_in es) named) (sym (entries_other (k + 1) log entry (tell line.caller (k + 1) e))) (is.in_order k within)
         by true e =
@@ -107,8 +96,8 @@ made_more graph scripts made log line is right = record {
             let grown : calls_in (entries_of (k + 1) (log ++ entry ∷ [])) ≡ calls_in before ++ entry.call ∷ [] = ap calls_in (entries_own (k + 1) log entry same) ∙ map-append (λ (x : Logged). x.call) before (entry ∷ []) in
             let left : length before < length named = subst (λ t. length before < length (well_named graph (script_of scripts t))) back (subst (λ c. length (entries_of c log) < length (well_named graph (script_of scripts (line.caller - 1)))) same right.left) in
             let next : entry.call ≡ get_or named (length before) (Read []) = ap (λ c. slice_index_or (well_named graph (script_of scripts (line.caller - 1))) (length (entries_of c log)) (Read [])) same ∙ ap (λ t. slice_index_or (well_named graph (script_of scripts t)) (length before) (Read [])) back in
-            let first : calls_in before ≡ take (length before) named = is.in_order k within ∙ ap (λ n. take n named) (size_of before) in
-            let long : length before + 1 ≡ length (calls_in before ++ entry.call ∷ []) = sym (length-append (calls_in before) (entry.call ∷ []) ∙ ap (λ n. n + 1) (size_of before)) in
+            let first : calls_in before ≡ take (length before) named = is.in_order k within ∙ ap (λ n. take n named) (as_many before) in
+            let long : length before + 1 ≡ length (calls_in before ++ entry.call ∷ []) = sym (length-append (calls_in before) (entry.call ∷ []) ∙ ap (λ n. n + 1) (as_many before)) in
             subst (λ cs. IsPrefix cs named) (sym grown)
             (ap (λ cs. cs ++ entry.call ∷ []) first ∙ ap (λ c. take (length before) named ++ c ∷ []) next ∙ sym (take_more named (length before) (Read []) left) ∙ ap (λ n. take n named) long)
 
@@ -218,27 +207,23 @@ whole_is_of_run graph scripts limit report whole = record {
     lines_are : map line_of log ≡ report.calls
     lines_are = both.1
 
-    size_of : (xs : List Logged) → length (map line_of xs) ≡ length xs
-    size_of [] = refl
-    size_of (x ∷ xs) = ap (λ n. suc n) (size_of xs)
-
     size : length log ≡ min limit (count_well_named graph scripts)
-    size = sym (size_of log) ∙ ap length lines_are ∙ whole.size
+    size = sym (length-map log line_of) ∙ ap length lines_are ∙ whole.size
 
 -- lines that all are due ones are all of them
 same_lines : (refused due : List Refused) (last last_due : List (List ℕ × Value)) (a b c d : ℕ) → ((n : ℕ) (line : ReportLine) → slice_get (lines_behind refused last a b) n ≡ Some line → slice_get (lines_behind due last_due c d) n ≡ Some line) → (refused ≡ due) × (last ≡ last_due) × (a ≡ c) × (b ≡ d)
-same_lines [] [] [] [] a b c d h = let e = some_is (OfDone c d) (OfDone a b) (h 0 (OfDone a b) refl) in (refl, refl, sym (ap (λ l. accepted_or l a) e), sym (ap (λ l. refusals_or l b) e))
+same_lines [] [] [] [] a b c d h = let e = same_Some (OfDone c d) (OfDone a b) (h 0 (OfDone a b) refl) in (refl, refl, sym (ap (λ l. accepted_or l a) e), sym (ap (λ l. refusals_or l b) e))
 same_lines [] [] [] (y ∷ ys) a b c d h = absurd (no_final_first a b y (sym (h 0 (OfDone a b) refl)))
 same_lines [] [] (x ∷ xs) [] a b c d h = absurd (no_final_first c d x (h 0 (OfFinal x) refl))
 same_lines [] [] (x ∷ xs) (y ∷ ys) a b c d h =
-    let e : x ≡ y = ap (λ l. last_or l y) (sym (some_is (OfFinal y) (OfFinal x) (h 0 (OfFinal x) refl))) in
+    let e : x ≡ y = ap (λ l. last_or l y) (sym (same_Some (OfFinal y) (OfFinal x) (h 0 (OfFinal x) refl))) in
     let rest = same_lines [] [] xs ys a b c d (λ n line is. h (suc n) line is) in
     (refl, ap (λ z. z ∷ xs) e ∙ ap (λ zs. y ∷ zs) rest.1, rest.2, rest.3)
 same_lines [] (due ∷ dues) [] last_due a b c d h = absurd (no_refusal_first [] a b due (sym (h 0 (OfDone a b) refl)))
 same_lines [] (due ∷ dues) (x ∷ xs) last_due a b c d h = absurd (no_refusal_first (x ∷ xs) a b due (sym (h 0 (OfFinal x) refl)))
 same_lines (first ∷ refused) [] last last_due a b c d h = absurd (no_refusal_first last_due c d first (h 0 (OfRefusal first) refl))
 same_lines (first ∷ refused) (due ∷ dues) last last_due a b c d h =
-    let e : first ≡ due = ap (λ l. refusal_or l due) (sym (some_is (OfRefusal due) (OfRefusal first) (h 0 (OfRefusal first) refl))) in
+    let e : first ≡ due = ap (λ l. refusal_or l due) (sym (same_Some (OfRefusal due) (OfRefusal first) (h 0 (OfRefusal first) refl))) in
     let rest = same_lines refused dues last last_due a b c d (λ n line is. h (suc n) line is) in
     (ap (λ z. z ∷ refused) e ∙ ap (λ zs. due ∷ zs) rest.0, rest.1, rest.2, rest.3)
 
@@ -262,7 +247,7 @@ right_is_whole graph scripts limit report right = record {
     behind = lines_behind report.refused report.finals report.accepted report.refusals
 
     all : (place : ℕ) (line : ReportLine) → slice_get (lines_of report) place ≡ Some line → IsRight graph scripts limit report place line
-    all place line is = right place line (within (lines_of report) place line is) is
+    all place line is = right place line (slice_get_within (lines_of report) place line is) is
 
     not_less : (m n : ℕ) → (m < n → ⊥) → n ≤ m
     not_less m n h = grind (arith, h)
@@ -320,14 +305,6 @@ run_size graph scripts limit log refused merge = by (nat_lt limit (count_well_na
         let size = merge.all_made few in
         omega (arith, size, few)
 
-at_seam : {X : Type 0} (xs ys : List X) (y d : X) → get_or (xs ++ y ∷ ys) (length xs) d ≡ y
-at_seam [] ys y d = refl
-at_seam (x ∷ xs) ys y d = at_seam xs ys y d
-
-calls_size : (xs : List Logged) → length (calls_in xs) ≡ length xs
-calls_size [] = refl
-calls_size (x ∷ xs) = ap (λ n. suc n) (calls_size xs)
-
 own_first : (log : List Logged) (entry : Logged) → entries_of entry.caller (entry ∷ log) ≡ entry ∷ entries_of entry.caller log
 own_first log entry = ap (λ b. cond b (entry ∷ entries_of entry.caller log) (entries_of entry.caller log)) (let h : (entry.caller == entry.caller) ≡ true = grind (arith, eqb_tells) in h)
 
@@ -354,13 +331,13 @@ next_of_run graph scripts limit log refused before behind entry merge split = re
   from_one = caller.0;
   thread = caller.1;
   left = left;
-  next = sym (get_or-take (length calls) named (length own) (Read []) inside) ∙ ap (λ cs. get_or cs (length own) (Read [])) (sym first ∙ parts) ∙ ap (λ n. get_or (calls_in own ++ entry.call ∷ calls_in (entries_of entry.caller behind)) n (Read [])) (sym (calls_size own)) ∙ at_seam (calls_in own) (calls_in (entries_of entry.caller behind)) entry.call (Read []);
+  next = sym (get_or-take (length calls) named (length own) (Read []) inside) ∙ ap (λ cs. get_or cs (length own) (Read [])) (sym first ∙ parts) ∙ ap (λ n. get_or (calls_in own ++ entry.call ∷ calls_in (entries_of entry.caller behind)) n (Read [])) (sym (as_many own)) ∙ get_or-append_seam (calls_in own) entry.call (calls_in (entries_of entry.caller behind)) (Read []);
 }
   where
     caller : IsOfCaller (length scripts) entry
     caller =
         let size = ap length split ∙ length-append before (entry ∷ behind) in
-        subst (IsOfCaller (length scripts)) (ap (λ l. get_or l (length before) entry) split ∙ at_seam before behind entry entry) (merge.callers (length before) entry (omega (arith, size)))
+        subst (IsOfCaller (length scripts)) (ap (λ l. get_or l (length before) entry) split ∙ get_or-append_seam before entry behind entry) (merge.callers (length before) entry (omega (arith, size)))
 
     named : List Call
     named = well_named graph (script_of scripts (entry.caller - 1))
@@ -384,7 +361,7 @@ next_of_run graph scripts limit log refused before behind entry merge split = re
     inside : length own < length calls
     inside =
         let size = ap length parts ∙ length-append (calls_in own) (entry.call ∷ calls_in (entries_of entry.caller behind)) in
-        let same = calls_size own in
+        let same = as_many own in
         omega (arith, size, same)
 
     left : length own < length named
@@ -436,7 +413,7 @@ right_of_run graph scripts limit log refused before behind entry merge legal spl
 run_is_whole : (graph : Graph) (scripts : List (List Call)) (limit : ℕ) (report : Report) (log : List Logged) → IsOfRun graph scripts limit report log → IsWhole graph scripts limit report × (log ≡ log_of graph scripts report.calls)
 run_is_whole graph scripts limit report log run = (
   record {
-    size = ap length calls ∙ size_of log ∙ size;
+    size = ap length calls ∙ length-map log line_of ∙ size;
     each = λ place line low is. right place line is;
     refused = ap (λ (r : Report). r.refused) run.lines ∙ run.merge.rest ∙ ap (λ l. left_out graph limit l scripts) agree;
     last = ap (λ (r : Report). r.finals) run.lines ∙ ap (zip graph.names) run.finals ∙ ap (λ l. zip graph.names (finals graph l)) agree;
@@ -446,10 +423,6 @@ run_is_whole graph scripts limit report log run = (
   agree,
 )
   where
-    size_of : (xs : List Logged) → length (map line_of xs) ≡ length xs
-    size_of [] = refl
-    size_of (x ∷ xs) = ap (λ n. suc n) (size_of xs)
-
     size : length log ≡ count_made graph scripts limit
     size = run_size graph scripts limit log run.refused run.merge
 
@@ -461,22 +434,17 @@ run_is_whole graph scripts limit report log run = (
 
     right : (place : ℕ) (line : CallLine) → slice_get report.calls place ≡ Some line → IsRightCall graph scripts (count_made graph scripts limit) (log_of graph scripts (take place report.calls)) line
     right place line is =
-        let inside = within report.calls place line is in
-        let long = ap length calls ∙ size_of log in
+        let inside = slice_get_within report.calls place line is in
+        let long = ap length calls ∙ length-map log line_of in
         let found = there log place (omega (arith, inside, long)) in
         let entry = found.item in
         let low : place < length log = omega (arith, inside, long) in
         let split : log ≡ take place log ++ entry ∷ drop (place + 1) log = sym (take-append-drop place log) ∙ ap (λ es. take place log ++ es) (drop_more log place entry low ∙ ap (λ e. e ∷ drop (place + 1) log) (get_or_from_slice_get log place entry entry found.is)) in
         let front : log_of graph scripts (take place report.calls) ≡ take place log = ap (λ ls. log_of graph scripts (take place ls)) calls ∙ ap (log_of graph scripts) (take-map line_of place log) ∙ logs_agree graph scripts limit log run.refused [] (take place log) (drop place log) run.merge (sym (take-append-drop place log)) in
-        let same : line_of entry ≡ line = some_is (line_of entry) line (sym (mapped log place entry found.is) ∙ ap (λ ls. slice_get ls place) (sym calls) ∙ is) in
+        let same : line_of entry ≡ line = same_Some (line_of entry) line (sym (slice_get-map line_of log place ∙ ap (option_map line_of) found.is) ∙ ap (λ ls. slice_get ls place) (sym calls) ∙ is) in
         subst (IsRightCall graph scripts (count_made graph scripts limit) (log_of graph scripts (take place report.calls))) same
         (subst (λ l. IsRightCall graph scripts (count_made graph scripts limit) l (line_of entry)) (sym front)
         (right_of_run graph scripts limit log run.refused (take place log) (drop (place + 1) log) entry run.merge run.legal split))
-      where
-        mapped : (xs : List Logged) (n : ℕ) (x : Logged) → slice_get xs n ≡ Some x → slice_get (map line_of xs) n ≡ Some (line_of x)
-        mapped [] n x h = absurd (cc)
-        mapped (y ∷ xs) zero x h = ap (λ z. Some (line_of z)) (some_is y x h)
-        mapped (y ∷ xs) (suc n) x h = mapped xs n x h
 
 pub right_is_of_run : (graph : Graph) (scripts : List (List Call)) (limit : ℕ) (report : Report) → AreRight graph scripts limit report → IsReportOfRun graph scripts limit report
 right_is_of_run graph scripts limit report right = whole_is_of_run graph scripts limit report (right_is_whole graph scripts limit report right)
@@ -499,7 +467,7 @@ yes_is graph scripts limit report Yes right = (λ e. right_is_of_run graph scrip
 yes_is graph scripts limit report (Wrong number) first = (
   λ e. absurd (cc),
   λ run.
-      absurd (first.wrong (run_is_right graph scripts limit report run first.place first.line (within (lines_of report) first.place first.line first.there) first.there)),
+      absurd (first.wrong (run_is_right graph scripts limit report run first.place first.line (slice_get_within (lines_of report) first.place first.line first.there) first.there)),
 )
 
 pub answer_is : (graph : Graph) (scripts : List (List Call)) (limit : ℕ) (report : Report) (answer : Result Verdict OutOfMemory) → IfOk answer (IsVerdict graph scripts limit report) → IfOk answer (λ verdict. (verdict ≡ Yes) ↔ IsReportOfRun graph scripts limit report)
@@ -511,8 +479,8 @@ first_is_one graph scripts limit report m n first other less = first.wrong (othe
 
 pub one_verdict : (graph : Graph) (scripts : List (List Call)) (limit : ℕ) (report : Report) (a b : Verdict) → IsVerdict graph scripts limit report a → IsVerdict graph scripts limit report b → a ≡ b
 one_verdict graph scripts limit report Yes Yes g h = refl
-one_verdict graph scripts limit report Yes (Wrong n) g h = absurd (h.wrong (g h.place h.line (within (lines_of report) h.place h.line h.there) h.there))
-one_verdict graph scripts limit report (Wrong m) Yes g h = absurd (g.wrong (h g.place g.line (within (lines_of report) g.place g.line g.there) g.there))
+one_verdict graph scripts limit report Yes (Wrong n) g h = absurd (h.wrong (g h.place h.line (slice_get_within (lines_of report) h.place h.line h.there) h.there))
+one_verdict graph scripts limit report (Wrong m) Yes g h = absurd (g.wrong (h g.place g.line (slice_get_within (lines_of report) g.place g.line g.there) g.there))
 one_verdict graph scripts limit report (Wrong m) (Wrong n) g h =
     let same : g.place ≡ h.place = equal g.place h.place (first_is_one graph scripts limit report m n g h) (first_is_one graph scripts limit report n m h g) in
     ap (λ k. Wrong k) (g.number ∙ ap (λ k. k + 1) same ∙ sym h.number)

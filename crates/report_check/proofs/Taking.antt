@@ -1,20 +1,23 @@
 -- What a pass over the lines of calls keeps.
-use Rattle.std.proofs.Common.{◌≡◌, ℕ, zero, suc, ◌+◌, ◌-◌, ◌<◌, ◌≤◌, Bool, true, false, cond, List, [], ◌∷◌, ◌++◌, length, drop, take, set, refl, sym, ap, ◌∙◌, subst, arith, true≢false, length-append, append-nil}
+use Rattle.std.proofs.Common.{◌≡◌, ℕ, ◌+◌, ◌-◌, ◌<◌, ◌≤◌, Bool, true, false, cond, List, [], ◌∷◌, ◌++◌, length, drop, take, set, refl, sym, ap, ◌∙◌, subst, arith, true≢false, length-append, append-nil}
 use Rattle.std.specs.Prelude.{◌==◌, ◌^◌, nat_lt, slice_index_or, slice_get, count_by, Some}
 use Rattle.std.specs.List.{AllByRecursion}
 use Rattle.std.proofs.lemmas.Bool.Decides.{eqb_tells, nat_tests}
-use Rattle.std.proofs.lemmas.List.{map-append, get_or-set_other, length-set, drop_more, take_more, get_or_default}
+use Rattle.std.proofs.lemmas.List.{map-append, get_or-set_other, length-set, take_more, get_or_default}
 use Rattle.std.proofs.lemmas.Grind.{get_or-set_at}
 use Rattle.std.proofs.lemmas.List.Sums.{sum_by_push, length-filter, count_by-le-length}
 use Rattle.std.proofs.lemmas.List.Elements.{filter-append}
 use Rattle.std.proofs.lemmas.Option.{get_or_from_slice_get}
+use Rattle.script_tree.proofs.Numbers.{equal_to_itself}
+use Rattle.script_tree.proofs.Lists.{rest_within, rest_first, rest_behind, no_rest}
 use Rattle.signal_graph.specs.declared.call.Call.{Call}
 use Rattle.signal_graph.specs.declared.call.Call.TheVariants.{Read}
 use Rattle.signal_graph.specs.declared.log.Logged.{Logged}
 use Rattle.signal_graph.specs.Graph.{Graph}
-use Rattle.signal_graph.specs.Values.{Values, start}
+use Rattle.signal_graph.specs.Values.{start}
 use Rattle.signal_graph.specs.Machine.{looks_of, reply, after}
-use Rattle.signal_graph.specs.Legal.{state_from, state_after}
+use Rattle.signal_graph.specs.Legal.{state_after}
+use Rattle.signal_graph.proofs.LegalLogs.{state_more}
 use Rattle.call_log.specs.Made.{entries_of, versions_in, is_well_named, well_named, script_of}
 use Rattle.serial_machine.specs.State.{State, IsAt}
 use Rattle.report_text.specs.declared.data.CallLine.{CallLine}
@@ -36,48 +39,16 @@ greatest_more : (vs : List ℕ) (v : ℕ) → greatest vs < v → greatest (vs +
 greatest_more [] v h = omega arith
 greatest_more (x ∷ vs) v h = let rest = greatest_more vs v (omega (arith, h)) in omega (arith, rest, h)
 
-first_left : {X : Type 0} (xs : List X) (n : ℕ) (x : X) (rest : List X) → drop n xs ≡ x ∷ rest → n < length xs
-first_left [] zero x rest h = absurd (cc)
-first_left [] (suc n) x rest h = absurd (cc)
-first_left (y ∷ xs) zero x rest h = omega arith
-first_left (y ∷ xs) (suc n) x rest h = let r = first_left xs n x rest h in omega (arith, r)
-
-none_left : {X : Type 0} (xs : List X) (n : ℕ) → drop n xs ≡ [] → length xs ≤ n
-none_left [] n h = omega arith
-none_left (y ∷ xs) zero h = absurd (cc)
-none_left (y ∷ xs) (suc n) h = let r = none_left xs n h in omega (arith, r)
-
-abbrev head_of : {X : Type 0} → List X → X → X
-head_of [] d = d
-head_of (x ∷ xs) d = x
-
-abbrev tail_of : {X : Type 0} → List X → List X
-tail_of [] = []
-tail_of (x ∷ xs) = xs
-
-first_is : {X : Type 0} (xs : List X) (n : ℕ) (x : X) (rest : List X) (d : X) → drop n xs ≡ x ∷ rest → slice_index_or xs n d ≡ x
-first_is xs n x rest d h = ap (λ ys. head_of ys d) (sym (drop_more xs n d (first_left xs n x rest h)) ∙ h)
-
-rest_is : {X : Type 0} (xs : List X) (n : ℕ) (x : X) (rest : List X) (d : X) → drop n xs ≡ x ∷ rest → drop (n + 1) xs ≡ rest
-rest_is xs n x rest d h = ap tail_of (sym (drop_more xs n d (first_left xs n x rest h)) ∙ h)
-
 -- ---- logs
-
-itself : (n : ℕ) → (n == n) ≡ true
-itself n = grind (arith, eqb_tells)
 
 apart : (m n : ℕ) → (m ≡ n → ⊥) → (m == n) ≡ false
 apart m n other = grind (arith, eqb_tells)
 
 pub entries_own : (caller : ℕ) (log : List Logged) (entry : Logged) → entry.caller ≡ caller → entries_of caller (log ++ entry ∷ []) ≡ entries_of caller log ++ entry ∷ []
-entries_own caller log entry e = filter-append (λ (x : Logged). x.caller == caller) log (entry ∷ []) ∙ ap (λ b. entries_of caller log ++ cond b (entry ∷ []) []) (ap (λ c. c == caller) e ∙ itself caller)
+entries_own caller log entry e = filter-append (λ (x : Logged). x.caller == caller) log (entry ∷ []) ∙ ap (λ b. entries_of caller log ++ cond b (entry ∷ []) []) (ap (λ c. c == caller) e ∙ equal_to_itself caller)
 
 pub entries_other : (caller : ℕ) (log : List Logged) (entry : Logged) → (entry.caller ≡ caller → ⊥) → entries_of caller (log ++ entry ∷ []) ≡ entries_of caller log
 entries_other caller log entry other = filter-append (λ (x : Logged). x.caller == caller) log (entry ∷ []) ∙ ap (λ b. entries_of caller log ++ cond b (entry ∷ []) []) (apart entry.caller caller other) ∙ append-nil (entries_of caller log)
-
-pub state_more : (graph : Graph) (kept : Values) (log : List Logged) (entry : Logged) → state_from graph kept (log ++ entry ∷ []) ≡ after graph (state_from graph kept log) entry.call
-state_more graph kept [] entry = refl
-state_more graph kept (first ∷ log) entry = state_more graph (after graph kept first.call) log entry
 
 pub count_more : (version : ℕ) (log : List Logged) (entry : Logged) → count_by (λ (x : Logged). x.version == version) (log ++ entry ∷ []) ≡ count_by (λ (x : Logged). x.version == version) log + cond (entry.version == version) 1 0
 count_more version log entry = sum_by_push (λ (x : Logged). cond (x.version == version) 1 0) log entry
@@ -112,9 +83,9 @@ next_is graph scripts log seats caller at all next =
     let rest = well_named graph (drop (at + 1) (script_of scripts (caller - 1))) in
     let split : drop (length (entries_of caller log)) named ≡ call ∷ rest = sym (ahead_is graph scripts log seats caller all next.from_one next.thread) ∙ next.rest in
     record {
-      left = first_left named (length (entries_of caller log)) call rest split;
-      is = sym (first_is named (length (entries_of caller log)) call rest (Read []) split);
-      behind = sym (rest_is named (length (entries_of caller log)) call rest (Read []) split);
+      left = rest_within named (length (entries_of caller log)) call rest split;
+      is = sym (rest_first named (length (entries_of caller log)) call rest (Read []) split);
+      behind = sym (rest_behind named (length (entries_of caller log)) call rest split);
     }
 
 -- no line of a caller without a call left is right
@@ -122,7 +93,7 @@ pub no_next_is_wrong : (graph : Graph) (scripts : List (List Call)) (made : ℕ)
 no_next_is_wrong graph scripts made machine seats marks log line stands none right =
     let named = well_named graph (script_of scripts (line.caller - 1)) in
     let empty : drop (length (entries_of line.caller log)) named ≡ [] = sym (ahead_is graph scripts log seats line.caller stands.seated right.from_one right.thread) ∙ none right.from_one right.thread in
-    let few = none_left named (length (entries_of line.caller log)) empty in
+    let few = no_rest named (length (entries_of line.caller log)) empty in
     let left = right.left in
     omega (arith, few, left)
 
@@ -227,7 +198,7 @@ seats_more graph scripts log seats line at size all next rises thread within = b
         subst (λ t. IsSeat graph scripts (log ++ entry ∷ []) t (seat_at (set seats (line.caller - 1) seat) t)) (sym same)
         (subst (λ s. IsSeat graph scripts (log ++ entry ∷ []) (line.caller - 1) s) (sym here) (own_seat graph scripts log seats line at all next rises))
     by false e =
-        let differ : thread ≡ line.caller - 1 → ⊥ = λ same. true≢false (sym (itself (line.caller - 1)) ∙ ap (λ t. t == (line.caller - 1)) (sym same) ∙ e) in
+        let differ : thread ≡ line.caller - 1 → ⊥ = λ same. true≢false (sym (equal_to_itself (line.caller - 1)) ∙ ap (λ t. t == (line.caller - 1)) (sym same) ∙ e) in
         let low = next.from_one in
         let other : line.caller ≡ thread + 1 → ⊥ = λ is. differ (omega (arith, is, low)) in
         let here : seat_at (set seats (line.caller - 1) seat) thread ≡ seat_at seats thread = get_or-set_other seats (line.caller - 1) thread seat zeros differ in
@@ -240,7 +211,7 @@ marks_more log marks entry all inside version within = by (version == entry.vers
     by true e =
         let same : version ≡ entry.version = grind (arith, eqb_tells, e) in
         let here : slice_index_or (set marks entry.version true) entry.version true ≡ true = get_or-set_at marks entry.version entry.version true true refl inside in
-        let one : ◌≡◌ {A = ℕ} (cond (entry.version == entry.version) 1 0) 1 = ap (λ b. cond b 1 0) (itself entry.version) in
+        let one : ◌≡◌ {A = ℕ} (cond (entry.version == entry.version) 1 0) 1 = ap (λ b. cond b 1 0) (equal_to_itself entry.version) in
         let more = count_more entry.version log entry in
         let some : nat_lt 0 (count_by (λ (x : Logged). x.version == entry.version) (log ++ entry ∷ [])) ≡ true = lt_true _ (omega (arith, more, one)) in
         subst (λ v. slice_index_or (set marks entry.version true) v true ≡ nat_lt 0 (count_by (λ (x : Logged). x.version == v) (log ++ entry ∷ []))) (sym same) (here ∙ sym some)
@@ -248,7 +219,7 @@ marks_more log marks entry all inside version within = by (version == entry.vers
         lt_true : (n : ℕ) → 0 < n → nat_lt 0 n ≡ true
         lt_true n h = grind (arith, nat_tests, h)
     by false e =
-        let differ : version ≡ entry.version → ⊥ = λ same. true≢false (sym (itself entry.version) ∙ ap (λ t. t == entry.version) (sym same) ∙ e) in
+        let differ : version ≡ entry.version → ⊥ = λ same. true≢false (sym (equal_to_itself entry.version) ∙ ap (λ t. t == entry.version) (sym same) ∙ e) in
         let here : slice_index_or (set marks entry.version true) version true ≡ slice_index_or marks version true = get_or-set_other marks entry.version version true true differ in
         let none : ◌≡◌ {A = ℕ} (cond (entry.version == version) 1 0) 0 = ap (λ b. cond b 1 0) (apart entry.version version (λ same. differ (sym same))) in
         let more = count_more version log entry in

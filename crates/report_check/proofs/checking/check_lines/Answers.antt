@@ -1,10 +1,11 @@
 use Rattle.std.proofs.Common.{◌≡◌, ◌<◌, ◌+◌, arith, sym, ap, ◌∙◌, subst, true≢false, length, take}
 use Rattle.std.specs.Prelude.{slice_get, Some}
+use Rattle.std.proofs.lemmas.Option.{slice_get_within}
 use Rattle.report_text.specs.declared.data.CallLine.{CallLine}
 use Rattle.report_check.specs.Right.{count_made, log_of, IsRightCall, IsFirstWrong}
 use Rattle.report_check.specs.Standing.{Stands}
 use Rattle.report_check.specs.Stopping.{AreRightCalls, StopsAt, IsThrough}
-use Rattle.report_check.proofs.Judging.{within, right_more, stops_there, one_too_many}
+use Rattle.report_check.proofs.Judging.{right_more, stops_there, one_too_many}
 use Rattle.report_check.proofs.checking.check_lines.Goals as goal
 
 pub returns-then-place-lines : goal.returns-then-place-lines
@@ -21,7 +22,7 @@ returns-then-place-lines c =
       below = c.loop-place-test.true;
       within = c.loop-place.invariant.1;
       before = before;
-      wrong = λ line is. absurd (let inside = within lines place line is in let ends = c.if-place-lines.true in omega (arith, inside, ends));
+      wrong = λ line is. absurd (let inside = slice_get_within lines place line is in let ends = c.if-place-lines.true in omega (arith, inside, ends));
     } in
     stops_there graph scripts c.args.versions report place (subst (λ m. StopsAt graph scripts m report.calls place) made_is (subst (λ ls. StopsAt graph scripts made ls place) c.as_slice-lines.ensures stops))
 
