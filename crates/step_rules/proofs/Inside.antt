@@ -95,7 +95,7 @@ module _ (graph : Graph) (s : Core) (book : Booked) (lists : ℕ → Versions) (
   pub look-below : (t m : ℕ) → live_in book t ≡ true → next_look_in book t ≡ Some m → m < count
   look-below t m l h = node-below m (bounded.looks t m (lives t l) (get-in (call s t).looks (length (call s t).looked) m (sym (ap (λ (b : Book). next_look (bare b) t) w.fits.parts) ∙ h)))
 
-  is-list : (n : ℕ) → n < count → lists n ≡ list_of graph s n
+  pub is-list : (n : ℕ) → n < count → lists n ≡ list_of graph s n
   is-list n h = w.each n h
 
   state-entry : (t n : ℕ) → opens (bare book.book) t n ≡ true → has (entries s n) t ≡ true
@@ -119,12 +119,12 @@ module _ (graph : Graph) (s : Core) (book : Booked) (lists : ℕ → Versions) (
       let p = sym (ap (λ (l : Versions). is_in m (nodes_in (picks_before l.entries t))) (is-list n h)) ∙ k in
       less m n (dep-earlier graph w.fits.is_graph s w.fits.lawful t n m (below-node n h) (in-right m (inputs_of (node_at graph n)) (prior_picks s t n) p)) h
 
-  found-state : (n m : ℕ) → is_in m (found_candidates (bare book.book) n) ≡ true → is_candidate s n m ≡ true
+  pub found-state : (n m : ℕ) → is_in m (found_candidates (bare book.book) n) ≡ true → is_candidate s n m ≡ true
   found-state n m k =
       sym (ap (λ (c : Cell). is_in m (nodes_in (picks_of_found c.found))) (bare-cell s n))
       ∙ sym (ap (λ (b : Book). is_in m (found_candidates (bare b) n)) w.fits.parts) ∙ k
 
-  found-some : (n m : ℕ) (o : Option Found) → is_in m (nodes_in (picks_of_found o)) ≡ true → is_some o ≡ true
+  pub found-some : (n m : ℕ) (o : Option Found) → is_in m (nodes_in (picks_of_found o)) ≡ true → is_some o ≡ true
   found-some n m None k = absurd (true≢false (sym k))
   found-some n m (Some f) k = refl
 

@@ -3,6 +3,7 @@ mod Going
 mod Inside
 mod Nodes
 mod OpenNodes
+mod PlainNodes
 mod Seen
 mod Shrinking
 mod Truths

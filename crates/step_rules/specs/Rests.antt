@@ -1,6 +1,8 @@
 -- What a node rests on before a call, by its picks before.
-use Rattle.std.specs.Prelude.{◌≡◌, ℕ, ◌<◌, Bool, true, ◌&&◌, not, List, ◌++◌, Option}
+use Rattle.std.specs.Prelude.{◌≡◌, ℕ, ◌<◌, Bool, true, false, ◌&&◌, not, List, ◌++◌, Option}
 use Rattle.std.specs.List.{list_any}
+use Rattle.signal_graph.specs.declared.node.Node.{Node}
+use Rattle.signal_graph.specs.declared.node.Node.TheVariants.{Source, Signal, Fold, Choose}
 use Rattle.signal_graph.specs.Graph.{Graph, node_at, is_in, is_source, inputs_of}
 use Rattle.signal_graph.specs.Values.{nodes_in}
 use Rattle.flow_model.specs.Machine.State.{opens, changes}
@@ -10,6 +12,13 @@ use Rattle.flow_state.specs.Booked.{Booked}
 -- All numbers of a list are below this one.
 abbrev pub AreBelow : ℕ → List ℕ → Type 0
 AreBelow count ns = (m : ℕ) → is_in m ns ≡ true → m < count
+
+-- The node is a choose: no other has selectors, so that no other has picks.
+abbrev pub is_choose : Node → Bool
+is_choose (Source start) = false
+is_choose (Signal script inputs) = false
+is_choose (Fold start script inputs) = false
+is_choose (Choose selectors body inputs) = true
 
 -- The call has one of the nodes open, or has changed one of them.
 abbrev pub any_open : Booked → ℕ → List ℕ → Bool

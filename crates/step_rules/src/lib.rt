@@ -20,6 +20,7 @@ mod next_step_at;
 mod open_node;
 mod picked;
 mod picking;
+mod plain_node;
 mod reading;
 mod resting;
 mod searches;

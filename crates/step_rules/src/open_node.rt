@@ -16,8 +16,9 @@ ghost use Rattle.step_rules.specs.Rests.{AreBelow};
 use crate::entering::{entered, framing, reading, reading_candidate};
 use crate::lists::Lists;
 use crate::picked::{found_candidates, nodes_in};
+use crate::plain_node::at_plain;
 use crate::searches::{first_held, first_new, first_open, first_ungathered};
-use crate::working::{has_body_value, is_found, is_source};
+use crate::working::{has_body_value, is_choose, is_found, is_source};
 use flow_model::{Cause, Step, Turn};
 use flow_state::Book;
 use retrofit::to_help;
@@ -47,6 +48,28 @@ pub(crate) fn at_open_node<L: Lists>(
             version: other,
         });
     }
+    if is_choose(graph, node) {
+        return at_choose(book, graph, lists, version, node, given);
+    }
+    at_plain(book, graph, lists, version, node, given)
+}
+
+// The points behind the first one, at a choose: what it rests on are its inputs and its picks before the call.
+fn at_choose<L: Lists>(
+    book: &Book,
+    graph: &Graph,
+    lists: &mut L,
+    version: u32,
+    node: u32,
+    given: bool,
+) -> Turn
+    requires whole { IsWhole graph.now book.now (L.listing_of lists.old) (L.nodes lists.old) }
+    requires live { live_in book.now version ≡ true }
+    requires open { opens (bare book.now.book) version node ≡ true }
+    ensures turn { result ≡ first_of (drop 1 (points_in graph.now book.now (L.listing_of lists.old) version given node)) }
+    ensures lists { L.listing_of lists.new ≡ L.listing_of lists.old }
+    ensures nodes { L.nodes lists.new ≡ L.nodes lists.old }
+{
     let picks = lists.picks_before(node, version);
     let picked = nodes_in(&picks);
     if let Some(input) = input_open(book, graph, version, node, picked.as_slice(), given) {
@@ -177,8 +200,8 @@ fn other_than(version: u32, first: Option<u32>) -> Option<u32>
     }
 }
 
-// The first of the nodes that a given node rests on which is open for the call.
-fn input_open(
+/// The first of the nodes that a given node rests on which is open for the call.
+pub(crate) fn input_open(
     book: &Book,
     graph: &Graph,
     version: u32,

@@ -7,6 +7,7 @@ ghost use Rattle.flow_model.specs.Machine.Words.{is_gathered, is_found, is_candi
 ghost use Rattle.flow_model.specs.Machine.Steps.{all_gathered, has_body_value};
 ghost use Rattle.flow_model.specs.Parts.Books.{bare};
 ghost use Rattle.flow_state.specs.Booked.{node_count};
+ghost use Rattle.step_rules.specs.Rests.{is_choose};
 
 use flow_state::Book;
 use script_tree::picks::Picks;
@@ -20,6 +21,17 @@ pub(crate) fn is_source(graph: &Graph, node: u32) -> bool
 {
     match graph.node(node) {
         Node::Source { .. } => true,
+        _ => false,
+    }
+}
+
+/// Whether the node is a choose: no other has selectors.
+pub(crate) fn is_choose(graph: &Graph, node: u32) -> bool
+    requires { node < length graph.now.nodes }
+    ensures { result ≡ is_choose (node_at graph.now node) }
+{
+    match graph.node(node) {
+        Node::Choose { .. } => true,
         _ => false,
     }
 }
