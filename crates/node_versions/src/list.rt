@@ -3,7 +3,7 @@ ghost use Rattle.std.specs.Prelude.{◌≡◌, ℕ, ◌<◌, ◌≤◌, ◌+◌,
 ghost use Rattle.std.specs.List.{list_any, position, position_or_len, remove_range};
 ghost use Rattle.std.specs.Option.{IsSome, is_some, option_copied};
 ghost use Rattle.node_versions.specs.Entries.{Frame, Done, IsUnique, AreDifferent, has, at, is_of, is_mark, is_frame, is_done, value_of, picks_of, state_of, up_to, before, served, last_done, done_len, value_at, value_before, picks_at, picks_before, with_state, is_active, since_at, version_at, StopsFrom, StopsToTheEnd, IsEntryAt, IsFirstOpenAt, first_open, has_out, with_out, without_out, HasEndedPrefix, ended_len, collected, opened, with_entries, with_outs};
-ghost use Rattle.smallvec.specs.SmallVec.{small_vec_len};
+ghost use Rattle.smallvec.specs.SmallVec.{small_vec_len, HasRoomFor};
 ghost use Rattle.node_versions.specs.Answers.{IsAskable, AnswersBy, AnswersTo};
 
 use crate::entry::{Entry, State};
@@ -178,6 +178,7 @@ impl NodeList {
     }
 
     /// Puts an entry in at an index: what stood there and behind it moves back by one. Takes no memory.
+    #[inline(always)]
     pub fn insert_at(&mut self, index: u32, entry: Entry)
         requires room { length self.old.entries < self.old.room }
         requires in_list { index ≤ length self.old.entries }
@@ -187,7 +188,7 @@ impl NodeList {
         let first_frame = self.first_frame_with(index, &entry);
         let done_end = self.done_end_with(index, &entry);
         let newest = self.newest.max(entry.version);
-        let _room_is_reserved = self.entries.insert(index as usize, entry);
+        put_in(&mut self.entries, index as usize, entry);
         self.first_frame = first_frame;
         self.done_end = done_end;
         self.newest = newest;
@@ -475,6 +476,21 @@ impl NodeList {
             { !ended(entry) },
         )
     }
+}
+
+// Puts an entry in at an index where there is room for it. At the end, where most calls enter, none moves.
+#[inline(always)]
+fn put_in(entries: &mut SmallVec<Entry, INLINE_ENTRIES>, index: usize, entry: Entry)
+    requires room { HasRoomFor entries.old 1 }
+    requires in_list { index ≤ small_vec_len entries.old }
+    ensures items { entries.new.items ≡ insert entries.old.items index entry }
+    ensures capacity { entries.new.capacity ≡ entries.old.capacity }
+{
+    if index == entries.len() {
+        entries.push_reserved(entry);
+        return;
+    }
+    let _room_is_reserved = entries.insert(index, entry);
 }
 
 // Whether the version has one of the entries.
