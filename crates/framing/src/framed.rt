@@ -55,6 +55,10 @@ fn want_active(book: &mut Book, list: &NodeList, version: u32)
     requires below { EdgesBelow (node_count book.old) list.now.outs }
     ensures { book.new ≡ on_call book.old version (wanting_all (active_nodes list.now.entries list.now.outs version)) }
 {
+    // Most nodes are no candidates: they have no out-edges.
+    if list.outs_len() == 0 {
+        return;
+    }
     let Some(own) = list.entry_of(version) else {
         return;
     };

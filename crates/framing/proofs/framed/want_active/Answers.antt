@@ -1,10 +1,15 @@
 use Rattle.std.proofs.Common.{◌∙◌, List, ap, sym, arith, true≢false}
-use Rattle.std.proofs.lemmas.List.{drop_all}
+use Rattle.std.proofs.lemmas.List.{drop_all, nil_from_length}
 use Rattle.node_versions.specs.Entries.{OutEdge, is_active, active_nodes, since_at}
 use Rattle.flow_state.specs.Booked.{node_count}
 use Rattle.framing.proofs.Wanting.{wanting_begins, wanting_more, wanting_same, wanting_ends, edge_in, active_taken, active_skip}
 use Rattle.framing.proofs.framed.want_active.Goals as goal
 use Rattle.framing.proofs.framed.want_active.Goals.{then-active_at, else-active_at}
+
+pub returns-then-outs_len-eq0 : goal.returns-then-outs_len-eq0
+returns-then-outs_len-eq0 c = wanting_ends c.args.book.now c.args.book.now c.args.version _ _
+    (wanting_begins c.args.book.now c.args.version (active_nodes c.args.list.now.entries c.args.list.now.outs c.args.version) c.requires.live)
+    (ap (λ (xs : List OutEdge). active_nodes c.args.list.now.entries xs c.args.version) (nil_from_length c.args.list.now.outs (sym c.outs_len.ensures ∙ c.if-outs_len-eq0.true)))
 
 pub returns-in_default : goal.returns-in_default
 returns-in_default c = absurd (true≢false (sym c.requires.entry ∙ sym c.in_default.ensures.exact))
