@@ -12,6 +12,7 @@ use node_versions::{Entry, NodeList, State};
 
 /// A live call that has no entry in a node's list enters it at its place: before the first entry that stops it, else at
 /// the end. It is recorded behind its left neighbour and before its right one, where these are live. Takes no memory.
+#[inline(always)]
 pub fn enter(book: &mut Book, list: &mut NodeList, version: u32, node: u32, state: State)
     requires { SomeCanEnter book.old node list.old version }
     ensures { Enters book.old node list.old version state book.new list.new }
