@@ -1,13 +1,10 @@
 -- The index of a table of names, with one more name.
 use Rattle.std.proofs.Common.{zero, suc, get_or, add-one, IfSome, IfNone, ◌≡◌, ℕ, ◌+◌, if◌then◌else◌, Bool, true, false, List, [], ◌∷◌, ◌++◌, length, Option, Some, None, refl, sym, ap, subst, ◌∙◌, arith, ◌<◌, nat_lt, length-append, unwrap_or, zero-add}
-use Rattle.std.specs.Ordering.{nat_cmp, is_eq}
-use Rattle.std.specs.Cmp.{eq_by_cmp_equiv}
-use Rattle.std.specs.Cmp.Lexicographic.{slice_cmp, nat_list_cmp_total, nat_list_eq_equiv, bytes_decides}
+use Rattle.std.specs.Cmp.Lexicographic.{nat_list_eq_equiv, bytes_decides}
 use Rattle.std.specs.Str.{bytes_eq}
-use Rattle.std.specs.BTreeMap.{BTreeMap, get_by, UpdatesBy}
+use Rattle.std.specs.HashMap.{HashMap, get_by, UpdatesBy}
 use Rattle.std.specs.Map.{lookup, IsKeyTest, AreApart, KeepsOthers}
 use Rattle.std.specs.Global.{Vec}
-use Rattle.std.proofs.lemmas.Map.Text.{is_eq-slice_cmp}
 use Rattle.script_tree.specs.declared.limits.TheConstants.{NODES}
 use Rattle.script_tree.specs.Names.{place_in}
 use Rattle.script_tree.proofs.NamePlaces.{place_within}
@@ -17,22 +14,19 @@ use Rattle.signal_graph.specs.Tables.{found_from, is_declared, IsTable}
 apart : (bs cs ks : List ℕ) → bytes_eq bs cs ≡ false → bytes_eq bs ks ≡ true → bytes_eq cs ks ≡ false
 apart bs cs ks n y = nat_list_eq_equiv.symm cs ks ∙ sym (nat_list_eq_equiv.congr bs ks cs y) ∙ n
 
-apart_in_order : (bs cs ks : List ℕ) → bytes_eq bs cs ≡ false → is_eq (slice_cmp nat_cmp bs ks) ≡ true → is_eq (slice_cmp nat_cmp cs ks) ≡ false
-apart_in_order bs cs ks n y = is_eq-slice_cmp cs ks ∙ apart bs cs ks n (sym (is_eq-slice_cmp bs ks) ∙ y)
-
 other_entries : {K X : Type 0} (eq : K → K → Bool) (test : K → Bool) (old new : List (K × X)) → KeepsOthers eq test old new → (other : K → Bool) → IsKeyTest eq other → AreApart test other → lookup other new ≡ lookup other old
 unfolding KeepsOthers
 other_entries eq test old new h = h
 
 -- the index finds the new key's bytes, and all else as before
-pub found_after : (m n : BTreeMap (Vec ℕ) ℕ) (key : Vec ℕ) (w : Option ℕ)
-    → UpdatesBy (λ x y. slice_cmp nat_cmp x.items y.items) (λ y. slice_cmp nat_cmp key.items y.items) m n w
-    → (name : List ℕ) → get_by (λ k. slice_cmp nat_cmp name k.items) n ≡ (if bytes_eq key.items name then w else get_by (λ k. slice_cmp nat_cmp name k.items) m)
+pub found_after : {S : Type 0} (m n : HashMap (Vec ℕ) ℕ S) (key : Vec ℕ) (w : Option ℕ)
+    → UpdatesBy (λ x y. bytes_eq x.items y.items) (λ y. bytes_eq key.items y.items) m n w
+    → (name : List ℕ) → get_by (λ k. bytes_eq name k.items) n ≡ (if bytes_eq key.items name then w else get_by (λ k. bytes_eq name k.items) m)
 found_after m n key w h name =
-    let other : bytes_eq key.items name ≡ false → get_by (λ k. slice_cmp nat_cmp name k.items) n ≡ get_by (λ k. slice_cmp nat_cmp name k.items) m =
-    λ e. other_entries _ _ _ _ h.3 _ (λ x y. (eq_by_cmp_equiv nat_list_cmp_total).congr name x.items y.items) (λ k. apart_in_order key.items name k.items e) in
-    let here : bytes_eq key.items name ≡ true → get_by (λ k. slice_cmp nat_cmp name k.items) n ≡ w =
-    λ e. subst (λ l. get_by (λ k. slice_cmp nat_cmp l k.items) n ≡ w) ((bytes_decides key.items name).0 e) h.1 in
+    let other : bytes_eq key.items name ≡ false → get_by (λ k. bytes_eq name k.items) n ≡ get_by (λ k. bytes_eq name k.items) m =
+    λ e. other_entries _ _ _ _ h.3 _ (λ x y. nat_list_eq_equiv.congr name x.items y.items) (λ k. apart key.items name k.items e) in
+    let here : bytes_eq key.items name ≡ true → get_by (λ k. bytes_eq name k.items) n ≡ w =
+    λ e. subst (λ l. get_by (λ k. bytes_eq l k.items) n ≡ w) ((bytes_decides key.items name).0 e) h.1 in
     grind (arith, other, here)
 
 -- a table with one more name, which it has not yet
@@ -56,14 +50,14 @@ pub place_of_found : (names : List (List ℕ)) (name : List ℕ) → unwrap_or (
 place_of_found names name = let within = place_within names name in grind (arith, nat_tests, within)
 
 -- what the index of a table finds
-pub index_finds : (names : List (List ℕ)) (numbers : BTreeMap (Vec ℕ) ℕ) → IsTable names numbers → (name : List ℕ)
-    → get_by (λ key. slice_cmp nat_cmp name key.items) numbers ≡ (if is_declared names name then Some (place_in names name) else None)
+pub index_finds : {S : Type 0} (names : List (List ℕ)) (numbers : HashMap (Vec ℕ) ℕ S) → IsTable names numbers → (name : List ℕ)
+    → get_by (λ key. bytes_eq name key.items) numbers ≡ (if is_declared names name then Some (place_in names name) else None)
 index_finds names numbers table name = table.finds name ∙ found_at_place 0 names name ∙ rw zero-add refl
 
 -- a table and its index, both with one more name
-pub IsTable-snoc : (names more : List (List ℕ)) (new : List ℕ) (m n : BTreeMap (Vec ℕ) ℕ) (key : Vec ℕ) (count : ℕ)
+pub IsTable-snoc : {S : Type 0} (names more : List (List ℕ)) (new : List ℕ) (m n : HashMap (Vec ℕ) ℕ S) (key : Vec ℕ) (count : ℕ)
     → IsTable names m → more ≡ names ++ new ∷ [] → key.items ≡ new → count ≡ length names → length names < NODES → is_declared names new ≡ false
-    → UpdatesBy (λ x y. slice_cmp nat_cmp x.items y.items) (λ y. slice_cmp nat_cmp key.items y.items) m n (Some count)
+    → UpdatesBy (λ x y. bytes_eq x.items y.items) (λ y. bytes_eq key.items y.items) m n (Some count)
     → IsTable more n
 IsTable-snoc names more new m n key count table grown same counted room absent updates = record {
   few = rw grown (omega (arith, length-append names (new ∷ [])));

@@ -10,7 +10,7 @@ use script_tree::limits::NODES;
 use script_tree::memory::OutOfMemory;
 use script_tree::name::Name;
 use std::alloc::Global;
-use std::collections::BTreeMap;
+use std::collections::HashMap;
 use std::marker::Model;
 
 /// Different names with their numbers, which count from 0. Contracts see the names in their order.
@@ -18,7 +18,7 @@ use std::marker::Model;
 pub struct NameTable {
     alloc: Global,
     names: Vec<Name>,
-    numbers: BTreeMap<Vec<u8>, u32>,
+    numbers: HashMap<Vec<u8>, u32>,
 }
 
 impl Model for NameTable {
@@ -40,7 +40,7 @@ impl NameTable {
         NameTable {
             alloc,
             names: Vec::new(alloc),
-            numbers: BTreeMap::new(alloc),
+            numbers: HashMap::new(alloc),
         }
     }
 
