@@ -44,8 +44,8 @@ pub is_named : (right : Bool) (n m : ℕ) (r : Option ℕ) → r ≡ (if right t
 is_named true n m r is some = (refl, cc)
 is_named false n m r is some = absurd (cc)
 
--- the numbers so far, with one more
-pub one_number_more : {A : Type 0} (number : A → ℕ) (xs : List A) (i m : ℕ) (d : A) (found more : List ℕ) → i < length xs → found ≡ map number (take i xs) → m ≡ number (get_or xs i d)
+-- the numbers so far, or what else is found of each, with one more
+pub one_number_more : {A B : Type 0} (number : A → B) (xs : List A) (i : ℕ) (m : B) (d : A) (found more : List B) → i < length xs → found ≡ map number (take i xs) → m ≡ number (get_or xs i d)
     → more ≡ found ++ m ∷ [] → more ≡ map number (take (i + 1) xs)
 one_number_more number xs i m d found more below are is grown =
     rw (add-one, take-suc xs i d below, map-append number (take i xs) (get_or xs i d ∷ []), ← are, ← is) grown

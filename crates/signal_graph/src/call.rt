@@ -1,6 +1,6 @@
 // Calls and their replies.
 
-ghost use Rattle.std.specs.Prelude.{◌≡◌, ◌+◌, ◌≤◌, if◌then◌else◌, length, map, Some, None, IfOk, IfErr, OnOk};
+ghost use Rattle.std.specs.Prelude.{◌≡◌, ◌+◌, ◌≤◌, if◌then◌else◌, [], length, map, Some, None, IfOk, IfErr, IfNone, OnOk, vec_capacity};
 ghost use Rattle.signal_graph.specs.Graph.{number_of};
 ghost use Rattle.signal_graph.specs.Machine.{sets_of, looks_of, names_node, names_source, first_wrong, misnamed};
 ghost use Rattle.signal_graph.specs.Named.{numbers_in};
@@ -138,7 +138,31 @@ impl Call {
         }
     }
 
-    /// An equal call. Takes memory.
+    /// The same as `named_in`, where what is found goes into two lists that have room for it: each set's node with its value, and the
+    /// nodes that are looked at. Answers the place that `misnamed` answers; unless there is none, the lists may be of any items. Each
+    /// name is looked up once. Takes no memory.
+    #[tactic(auto, using(crate::proofs::GraphCalls::misnamed_set, crate::proofs::GraphCalls::misnamed_look))]
+    pub fn named_into(
+        &self,
+        graph: &Graph,
+        sets: &mut Vec<(u32, Value)>,
+        looks: &mut Vec<u32>,
+    ) -> Option<u32>
+        requires few_sets { length (sets_of self.now) ≤ SETS }
+        requires few_looks { length (looks_of self.now) ≤ LOOKS }
+        requires room_for_sets { (sets.old.items ≡ []) × (length (sets_of self.now) ≤ vec_capacity sets.old) }
+        requires room_for_looks { (looks.old.items ≡ []) × (length (looks_of self.now) ≤ vec_capacity looks.old) }
+        ensures place { result ≡ misnamed graph.now self.now }
+        ensures sets { IfNone result (sets.new.items ≡ map (λ s. (number_of graph.now s.0, s.1)) (sets_of self.now)) }
+        ensures looks { IfNone result (looks.new.items ≡ map (number_of graph.now) (looks_of self.now)) }
+    {
+        if let Some(place) = put_sources(graph, self.sets(), sets) {
+            return Some(place);
+        }
+        put_nodes(graph, self.looks(), 1 + self.sets().len() as u32, looks)
+    }
+
+    /// An equal call, in exactly the memory that it needs. Takes memory.
     pub fn copy(&self, alloc: Global) -> Result<Call, OutOfMemory>
         ensures { IfOk result (λ call. call ≡ self.now) }
     {
@@ -207,22 +231,57 @@ fn nodes_named(graph: &Graph, looks: &[Name], from: u32) -> Result<ArrayVec<u32,
     Ok(found)
 }
 
+// Puts each set's node with its value into a list that has the room. Answers the place of the first set whose name is none of a
+// source.
+fn put_sources(graph: &Graph, sets: &[(Name, Value)], found: &mut Vec<(u32, Value)>) -> Option<u32>
+    requires few { length sets.now ≤ SETS }
+    requires room { (found.old.items ≡ []) × (length sets.now ≤ vec_capacity found.old) }
+    ensures place { result ≡ first_wrong 1 (map (λ s. names_source graph.now s.0) sets.now) }
+    ensures found { IfNone result (found.new.items ≡ map (λ s. (number_of graph.now s.0, s.1)) sets.now) }
+{
+    for (index, set) in sets.iter().enumerate() {
+        match source_named(graph, &set.0) {
+            Some(node) => found.push_reserved((node, set.1)),
+            None => return Some(1 + index as u32),
+        }
+    }
+    None
+}
+
+// Puts the nodes that are looked at into a list that has the room. Answers the place of the first look whose name is none of a node,
+// where the first look has the place `from`.
+fn put_nodes(graph: &Graph, looks: &[Name], from: u32, found: &mut Vec<u32>) -> Option<u32>
+    requires few { length looks.now ≤ LOOKS }
+    requires from { from ≤ SETS + 1 }
+    requires room { (found.old.items ≡ []) × (length looks.now ≤ vec_capacity found.old) }
+    ensures place { result ≡ first_wrong from (map (names_node graph.now) looks.now) }
+    ensures found { IfNone result (found.new.items ≡ map (number_of graph.now) looks.now) }
+{
+    for (index, name) in looks.iter().enumerate() {
+        match graph.find(name) {
+            Some(node) => found.push_reserved(node),
+            None => return Some(from + index as u32),
+        }
+    }
+    None
+}
+
 fn copied_names(alloc: Global, names: &NameList) -> Result<NameList, OutOfMemory>
     ensures { IfOk result (λ copied. copied ≡ names.now) }
 {
-    let mut copied = Items::new(alloc);
+    let mut copied = Vec::with_capacity(alloc, names.len())?;
     for name in names.as_slice() {
-        copied.push(name.copy())?;
+        copied.push_reserved(name.copy());
     }
-    Ok(copied)
+    Ok(Items::from_vec(copied))
 }
 
 fn copied_sets(alloc: Global, sets: &SetList) -> Result<SetList, OutOfMemory>
     ensures { IfOk result (λ copied. copied ≡ sets.now) }
 {
-    let mut copied = Items::new(alloc);
+    let mut copied = Vec::with_capacity(alloc, sets.len())?;
     for set in sets.as_slice() {
-        copied.push((set.0.copy(), set.1))?;
+        copied.push_reserved((set.0.copy(), set.1));
     }
-    Ok(copied)
+    Ok(Items::from_vec(copied))
 }
