@@ -441,8 +441,8 @@ impl Book {
         self.shelves.body(node)
     }
 
-    /// The job of a node for a call, over a copy of what is gathered, in the room: its scripts where nothing is found yet,
-    /// else its body. `acc` is the node's value before the call. Takes no memory.
+    /// The job of a node for a call, over a copy of what is gathered, in the room: of its scripts where nothing is found yet,
+    /// else of its body. `acc` is the node's value before the call. Takes no memory.
     pub fn job<'g, 'r>(
         &self,
         graph: &'g Graph,
@@ -456,14 +456,11 @@ impl Book {
         requires few { length (work_at self.now node).gathered ≤ 68 }
         ensures { result ≡ answer_in graph.now self.now version node acc }
     {
-        Job {
-            graph,
-            version,
-            node,
-            acc,
-            gathered: self.shelves.held(node, room),
-            found: self.shelves.found_items(node),
-        }
+        self.shelves.hold(node, room);
+        room.version = version;
+        room.node = node;
+        room.acc = acc;
+        Job { graph, room }
     }
 
     /// The answer of a node's job for a call, as `job` and `Job::evaluate` give it, over what is gathered as it stands.

@@ -16,6 +16,7 @@ ghost use Rattle.flow_state.specs.Booked.{AreApart};
 ghost use Rattle.flow_state.specs.Jobs.{read_from, found_as, outcome_in, outcome_of, HasFew, FitsBody};
 
 use crate::found::{Found, FoundList};
+use crate::job_room::JobRoom;
 use crate::outcome::{Answer, Outcome};
 use crate::row::Row;
 use crate::shelf::gathered_near;
@@ -27,46 +28,47 @@ use signal_graph::node::{Node, Selector};
 use std::marker::Model;
 
 /// The evaluation of a node's scripts or of its body for a call, over what was gathered when the job was made. Contracts
-/// see its answer. It borrows the graph, and the room in which what was gathered lies, and may be dropped.
+/// see its answer. It borrows the graph, and the room in which all lies that it is over, and may be dropped.
 #[derive(Drop)]
 pub struct Job<'g, 'r> {
     pub(crate) graph: &'g Graph,
-    pub(crate) version: u32,
-    pub(crate) node: u32,
-    pub(crate) acc: Value,
-    pub(crate) gathered: &'r [(u32, Value)],
-    pub(crate) found: Option<FoundList>,
+    pub(crate) room: &'r JobRoom,
 }
 
 impl<'g, 'r> Model for Job<'g, 'r> {
+    ghost use Rattle.std.specs.Prelude.{◌≤◌, take};
     ghost use Rattle.flow_state.specs.declared.outcome.Answer.{Answer};
     ghost use Rattle.flow_state.specs.Jobs.{answer_of, IsJob};
     ghost use Rattle.flow_state.specs.Booked.{AreApart};
 
     ghost Value = { Answer };
 
-    ghost view = { λ j. answer_of j.graph.now j.version j.node j.gathered.now j.acc j.found };
+    ghost view = { λ j. answer_of j.graph.now j.room.now.version j.room.now.node (take j.room.now.count j.room.now.pairs)
+        j.room.now.acc j.room.now.found };
 
-    ghost invariant = { λ j. (IsJob j.graph.now j.node j.found) × AreApart j.gathered.now };
+    ghost invariant = { λ j. IsJob j.graph.now j.room.now.node j.room.now.found × AreApart (take j.room.now.count j.room.now.pairs)
+        × (j.room.now.count ≤ 68) };
 }
 
 impl Job<'_, '_> {
     /// The node whose job it is.
+    #[inline]
     pub fn node(&self) -> u32
         ensures { result ≡ self.now.node }
     {
-        self.node
+        self.room.node
     }
 
     /// Evaluates. Takes no memory.
     pub fn evaluate(&self) -> Answer
         ensures { result ≡ self.now }
     {
-        let node = self.graph.node(self.node);
-        let outcome = outcome(node, self.gathered, self.acc, &self.found);
+        let room = self.room;
+        let node = self.graph.node(room.node);
+        let outcome = outcome(node, room.gathered(), room.acc, &room.found);
         Answer {
-            version: self.version,
-            node: self.node,
+            version: room.version,
+            node: room.node,
             outcome,
         }
     }

@@ -1,6 +1,6 @@
 // What is being worked out at the nodes.
 
-ghost use Rattle.std.specs.Prelude.{◌≡◌, ◌<◌, ◌≤◌, ◌^◌, length, slice_index, IfOk, None};
+ghost use Rattle.std.specs.Prelude.{◌≡◌, ◌<◌, ◌≤◌, ◌^◌, length, take, slice_index, IfOk, None};
 ghost use Rattle.std.specs.Option.{option_copied};
 ghost use Rattle.flow_model.specs.Machine.Words.{gathered_of};
 ghost use Rattle.std.specs.List.{sum};
@@ -104,14 +104,20 @@ impl Shelves {
         outcome(node, self.part(number), acc, &found)
     }
 
-    /// A copy of all gathered values of a node, no two of one node.
-    pub(crate) fn held<'r>(&self, node: u32, room: &'r mut JobRoom) -> &'r [(u32, Value)]
+    /// All that is gathered for a node, no two values of one node, and what its selectors have selected, in the room.
+    pub(crate) fn hold(&self, node: u32, room: &mut JobRoom)
         requires inside { node < length self.now.works }
         requires few { length (work_on self.now node).gathered ≤ 68 }
-        ensures pairs { result.now ≡ (work_on self.now node).gathered }
+        ensures gathered { take room.new.count room.new.pairs ≡ (work_on self.now node).gathered }
         ensures apart { AreApart (work_on self.now node).gathered }
+        ensures count { room.new.count ≤ 68 }
+        ensures found { room.new.found ≡ found_items (work_on self.now node).found }
     {
-        room.fill(self.part(node))
+        room.fill(self.part(node));
+        match self.found(node) {
+            None => room.found = None,
+            Some(found) => room.found = Some(items_of(found)),
+        }
     }
 
     /// What a node's selectors have selected, where something is found.
