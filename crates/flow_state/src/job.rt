@@ -76,6 +76,7 @@ impl Job<'_, '_> {
 
 /// What a node's scripts find over what is gathered, or where something is found already the value of its body. No two
 /// values are gathered of one node. Takes no memory.
+#[inline(always)]
 pub(crate) fn outcome(
     node: &Node,
     gathered: &[(u32, Value)],
@@ -130,10 +131,11 @@ fn gather<const N: usize>(inputs: &[u32], gathered: &[(u32, Value)]) -> [Value; 
     values
 }
 
-// Most scripts have no more inputs. An array of so many values is made faster than one for as many as there may be.
+// Most scripts have no more inputs. An array of few values is made faster than one for as many as there may be.
 const FEW: usize = 4;
 
 // The value of a script over what is gathered.
+#[inline(never)]
 fn run(script: &Script, inputs: &[u32], gathered: &[(u32, Value)], acc: Value) -> Value
     requires apart { AreApart gathered.now }
     requires fits { CanRun script.now inputs.now }
@@ -141,22 +143,42 @@ fn run(script: &Script, inputs: &[u32], gathered: &[(u32, Value)], acc: Value) -
     ensures { result ≡ run_over script.now inputs.now (read_from gathered.now) acc }
 {
     let count = inputs.len();
-    if count > FEW {
-        return run_long(script, inputs, gathered, acc);
+    if count == 1 {
+        return run_one(script, inputs, gathered, acc);
     }
-    let values = gather::<FEW>(inputs, gathered);
-    script.eval(&values[..count], acc)
+    if count <= FEW {
+        return run_in::<FEW>(script, inputs, gathered, acc);
+    }
+    run_in::<INPUTS>(script, inputs, gathered, acc)
 }
 
-// The same for a script with as many inputs as there may be.
-fn run_long(script: &Script, inputs: &[u32], gathered: &[(u32, Value)], acc: Value) -> Value
+// The same for a script with one input.
+fn run_one(script: &Script, inputs: &[u32], gathered: &[(u32, Value)], acc: Value) -> Value
     requires apart { AreApart gathered.now }
     requires fits { CanRun script.now inputs.now }
-    requires few { length inputs.now ≤ INPUTS }
+    requires one { length inputs.now ≡ 1 }
+    ensures { result ≡ run_over script.now inputs.now (read_from gathered.now) acc }
+{
+    let values = [read_near(gathered, 0, inputs[0])];
+    script.eval(&values, acc)
+}
+
+// The same for a script with so many inputs at most.
+#[inline(never)]
+fn run_in<const N: usize>(
+    script: &Script,
+    inputs: &[u32],
+    gathered: &[(u32, Value)],
+    acc: Value,
+) -> Value
+    requires apart { AreApart gathered.now }
+    requires fits { CanRun script.now inputs.now }
+    requires few { length inputs.now ≤ N }
+    requires bounded { N ≤ INPUTS }
     ensures { result ≡ run_over script.now inputs.now (read_from gathered.now) acc }
 {
     let count = inputs.len();
-    let values = gather::<INPUTS>(inputs, gathered);
+    let values = gather::<N>(inputs, gathered);
     script.eval(&values[..count], acc)
 }
 
@@ -180,6 +202,7 @@ fn select(value: Value, candidates: &[u32]) -> Found
 }
 
 // What all selectors select.
+#[inline(never)]
 fn select_all(selectors: &[Selector], gathered: &[(u32, Value)]) -> FoundList
     requires apart { AreApart gathered.now }
     requires can { AllByRecursion CanSelect selectors.now }
@@ -202,6 +225,7 @@ fn select_all(selectors: &[Selector], gathered: &[(u32, Value)]) -> FoundList
 }
 
 // What the scripts of a node find.
+#[inline(always)]
 fn evaluated(node: &Node, gathered: &[(u32, Value)], acc: Value) -> Outcome
     requires apart { AreApart gathered.now }
     requires can { CanEvaluate node.now }
@@ -236,6 +260,7 @@ fn pick(found: &Found, gathered: &[(u32, Value)]) -> Value
 }
 
 // The value of a body over the picks, or without a body the first pick.
+#[inline(never)]
 fn body_value(body: Option<&Script>, found: &FoundList, gathered: &[(u32, Value)]) -> Value
     requires { FitsBody (option_copied body) (Some found.now) }
     ensures { result ≡ body_over (option_copied body.entry) (read_from gathered.now) (map selection_of found.now) }
