@@ -6,7 +6,7 @@ use Rattle.std.proofs.lemmas.List.Elements.{All-from_recursion, recursion_from_A
 use Rattle.command_words.specs.declared.kinds.Kind.{Kind}
 use Rattle.command_words.specs.declared.kinds.Kind.TheVariants.{Json, Versions}
 use Rattle.command_words.specs.declared.kinds.Kinds.{Kinds}
-use Rattle.command_words.specs.Words.{Given, kind_of, has}
+use Rattle.command_words.specs.Options.{Given, kind_of, has}
 use Rattle.command_words.specs.Kinds.{without}
 
 abbrev pub AreAmong : Kinds → List Given → Type 0

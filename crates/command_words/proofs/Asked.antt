@@ -17,8 +17,12 @@ use Rattle.command_words.specs.declared.command.WordsFault.TheVariants.{Refused,
 use Rattle.command_words.specs.declared.kinds.Kinds.{Kinds}
 use Rattle.command_words.specs.declared.verb.Verb.{Verb}
 use Rattle.command_words.specs.declared.verb.Verb.TheVariants as verb
-use Rattle.command_words.specs.Words.{Given, Json, Versions, IsBlock, AreBlocks, AreOptions, AreNoOptions, IsNumber, IsOperand, AsksFor}
-use Rattle.command_words.specs.Words.{ReadsWords, word_of, takes_number, kinds_of, asked, versions_in, json_in, HasFewVersions}
+use Rattle.command_words.specs.Words.{IsNumber}
+use Rattle.command_words.specs.Options.{Given, Json, Versions, IsBlock, AreBlocks, AreOptions, AreNoOptions}
+use Rattle.command_words.specs.Table.{IsOperand, AsksByTable}
+use Rattle.command_words.specs.Words.{HasFewVersions}
+use Rattle.command_words.specs.Options.{versions_in, json_in}
+use Rattle.command_words.specs.Table.{ReadsByTable, word_of, takes_number, kinds_of, asked}
 use Rattle.command_words.specs.Blocks.{Gives, AsksByOptions, ReadsOptions}
 use Rattle.command_words.proofs.Blocks.{Text, first_word, tail, one_given}
 
@@ -93,7 +97,7 @@ operand_ascii : (takes : Bool) (words : List Text) (number : ℕ) → IsTaken ta
 operand_ascii false words number is = subst (λ ws. list_all is_ascii ws ≡ true) (sym is.0) refl
 operand_ascii true words number is = subst (λ ws. list_all is_ascii ws ≡ true) (sym is.1) (rw (digits_ascii is.0 is.2.digits.1) refl)
 
-pub line_text : (words : List Text) (command : Command) → AsksFor words command → All IsUtf8 words
+pub line_text : (words : List Text) (command : Command) → AsksByTable words command → All IsUtf8 words
 line_text words command a =
     let operand = operand_ascii (takes_number a.verb) a.operand a.number (taken a.verb a.operand a.number a.takes) in
     let behind = list_all-append is_ascii a.operand a.options ∙ rw (operand, blocks_ascii a.given a.options a.are.blocks) refl in
@@ -113,18 +117,13 @@ refused_is_not_memory e = true≢false (ap is_refused e)
 pub memory_only : (kinds : Kinds) (words : List Text) (fault : WordsFault) → fault ≡ Memory → fault ≡ Refused → AreNoOptions kinds words
 memory_only kinds words fault is same = absurd (refused_is_not_memory (sym same ∙ is))
 
--- words that are no text ask for nothing
-pub no_text : (words : List Text) (fault : WordsFault) → (fault ≡ Refused → All IsUtf8 words → ⊥) → ReadsWords words (Err fault)
-no_text words Refused none = λ command asks. none refl (line_text words command asks)
-no_text words Memory none = tt
-
 -- ---- the first word
 
-pub none_asked : (command : Command) → AsksFor [] command → ⊥
-none_asked command a = absurd (omega (arith, ap length a.words_are))
+pub nothing_asked : (command : Command) → AsksByTable [] command → ⊥
+nothing_asked command a = absurd (omega (arith, ap length a.words_are))
 
 pub no_verb : (first : Text) (rest : List Text) → ((verb : Verb) → first ≡ word_of verb → ⊥) → (command : Command)
-    → AsksFor (first ∷ rest) command → ⊥
+    → AsksByTable (first ∷ rest) command → ⊥
 no_verb word rest none command a = none a.verb (ap first_word a.words_are)
 
 -- ---- a command's word
@@ -174,7 +173,7 @@ same_behind true xs ys before after m n f g e =
     (f.3 ∙ ap (digits_value 10) (ap first_word same) ∙ sym g.3, ap tail same)
 
 asks : (verb : Verb) (operand options : List Text) (number : ℕ) (command : Command) → IsTaken (takes_number verb) operand number
-    → AsksByOptions verb number options command → AsksFor (word_of verb ∷ (operand ++ options)) command
+    → AsksByOptions verb number options command → AsksByTable (word_of verb ∷ (operand ++ options)) command
 asks verb operand options number command takes by = record {
   verb = verb;
   operand = operand;
@@ -188,7 +187,7 @@ asks verb operand options number command takes by = record {
 }
 
 asks_none : (verb : Verb) (operand options : List Text) (number : ℕ) (command : Command) → IsTaken (takes_number verb) operand number
-    → AreNoOptions (kinds_of verb) options → AsksFor (word_of verb ∷ (operand ++ options)) command → ⊥
+    → AreNoOptions (kinds_of verb) options → AsksByTable (word_of verb ∷ (operand ++ options)) command → ⊥
 asks_none verb operand options number command takes none a =
     let same = one_verb a.verb verb (sym (ap first_word a.words_are)) in
     let operands = subst (λ v. IsTaken (takes_number v) a.operand a.number) same (taken a.verb a.operand a.number a.takes) in
@@ -198,43 +197,43 @@ asks_none verb operand options number command takes none a =
     none.none a.given (subst (AreOptions (kinds_of verb) a.given) (sym behind) are)
 
 reads_words : (verb : Verb) (operand options : List Text) (number : ℕ) (r : Result Command WordsFault)
-    → IsTaken (takes_number verb) operand number → ReadsOptions verb number options r → ReadsWords (word_of verb ∷ (operand ++ options)) r
+    → IsTaken (takes_number verb) operand number → ReadsOptions verb number options r → ReadsByTable (word_of verb ∷ (operand ++ options)) r
 reads_words verb operand options number (Ok command) takes read = asks verb operand options number command takes read
 reads_words verb operand options number (Err Refused) takes read = λ command. asks_none verb operand options number command takes read
 reads_words verb operand options number (Err Memory) takes read = tt
 
 -- a command without a number
 pub plain_read : (verb : Verb) (word : Text) (options : List Text) (r : Result Command WordsFault) → word ≡ word_of verb
-    → takes_number verb ≡ false → ReadsOptions verb 0 options r → ReadsWords (word ∷ options) r
-plain_read verb word options r is takes read = subst (λ (w : Text). ReadsWords (w ∷ options) r) (sym is)
+    → takes_number verb ≡ false → ReadsOptions verb 0 options r → ReadsByTable (word ∷ options) r
+plain_read verb word options r is takes read = subst (λ (w : Text). ReadsByTable (w ∷ options) r) (sym is)
     (reads_words verb [] options 0 r (subst (λ t. IsTaken t [] 0) (sym takes) (refl, refl)) read)
 
 pub named_read : (verb : Verb) (word : Text) (behind : List Text) (r : Result Command WordsFault) → word ≡ word_of verb
-    → ReadsWords (word_of verb ∷ behind) r → ReadsWords (word ∷ behind) r
-named_read verb word behind r is read = subst (λ (w : Text). ReadsWords (w ∷ behind) r) (sym is) read
+    → ReadsByTable (word_of verb ∷ behind) r → ReadsByTable (word ∷ behind) r
+named_read verb word behind r is read = subst (λ (w : Text). ReadsByTable (w ∷ behind) r) (sym is) read
 
 pub ruleset command_laws = (no_verb, plain_read, named_read)
 
 -- a command with a number
 pub numbered_read : (verb : Verb) (text : Text) (options : List Text) (number : ℕ) (r : Result Command WordsFault)
     → takes_number verb ≡ true → IsNumber text → number ≡ digits_value 10 text → ReadsOptions verb number options r
-    → ReadsWords (word_of verb ∷ text ∷ options) r
+    → ReadsByTable (word_of verb ∷ text ∷ options) r
 numbered_read verb text options number r takes is same read =
     reads_words verb (text ∷ []) options number r (subst (λ t. IsTaken t (text ∷ []) number) (sym takes) (text, refl, is, same)) read
 
 -- what stands behind the word of a command that takes a number begins with one
-has_number : (verb : Verb) (behind : List Text) (command : Command) → takes_number verb ≡ true → AsksFor (word_of verb ∷ behind) command
+has_number : (verb : Verb) (behind : List Text) (command : Command) → takes_number verb ≡ true → AsksByTable (word_of verb ∷ behind) command
     → (text : Text) × (rest : List Text) × IsNumber text × (behind ≡ text ∷ rest)
 has_number verb behind command takes a =
     let same = one_verb a.verb verb (sym (ap first_word a.words_are)) in
     let operand = subst (λ t. IsTaken t a.operand a.number) (ap takes_number same ∙ takes) (taken a.verb a.operand a.number a.takes) in
     (operand.0, a.options, operand.2, ap tail a.words_are ∙ ap (λ ws. ws ++ a.options) operand.1)
 
-pub none_behind : (verb : Verb) (command : Command) → takes_number verb ≡ true → AsksFor (word_of verb ∷ []) command → ⊥
+pub none_behind : (verb : Verb) (command : Command) → takes_number verb ≡ true → AsksByTable (word_of verb ∷ []) command → ⊥
 none_behind verb command takes a = let h = has_number verb [] command takes a in absurd (omega (arith, ap length h.3))
 
 pub not_number : (verb : Verb) (text : Text) (options : List Text) (command : Command) → takes_number verb ≡ true → (IsNumber text → ⊥)
-    → AsksFor (word_of verb ∷ text ∷ options) command → ⊥
+    → AsksByTable (word_of verb ∷ text ∷ options) command → ⊥
 not_number verb text options command takes none a =
     let h = has_number verb (text ∷ options) command takes a in none (subst IsNumber (sym (ap first_word h.3)) h.2)
 
@@ -242,7 +241,7 @@ pub ruleset numbered_laws = (numbered_read, none_behind, not_number)
 
 -- ---- words ask for one command alone
 
-pub one_command : (words : List Text) (a b : Command) → AsksFor words a → AsksFor words b → a ≡ b
+pub one_command : (words : List Text) (a b : Command) → AsksByTable words a → AsksByTable words b → a ≡ b
 one_command words a b x y =
     let words_same = sym x.words_are ∙ y.words_are in
     let same = one_verb x.verb y.verb (ap first_word words_same) in
@@ -269,6 +268,6 @@ verb_few verb.Print number versions json few = tt
 verb_few verb.Check number versions json few = few
 verb_few verb.Make number versions json few = tt
 
-pub few_versions : (words : List Text) (command : Command) → AsksFor words command → HasFewVersions command
+pub few_versions : (words : List Text) (command : Command) → AsksByTable words command → HasFewVersions command
 few_versions words command a = subst HasFewVersions (sym a.command_is)
     (verb_few a.verb a.number (versions_in a.given) (json_in a.given) (given_few a.given a.options a.are.blocks))

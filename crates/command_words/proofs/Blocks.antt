@@ -2,7 +2,7 @@
 use Rattle.std.proofs.Common.{◌≡◌, ℕ, List, [], ◌∷◌, ◌++◌, refl, sym, ap, subst, ◌∙◌, inl, inr, codes, length, arith, length-append}
 use Rattle.std.specs.Prelude.{drop, if◌then◌else◌}
 use Rattle.std.specs.Str.{bytes_eq}
-use Rattle.command_words.specs.Words.{Given, Json, Versions, IsBlock, AreBlocks}
+use Rattle.command_words.specs.Options.{Given, Json, Versions, IsBlock, AreBlocks}
 
 abbrev pub Text : Type 0
 Text = List ℕ

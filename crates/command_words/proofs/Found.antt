@@ -10,7 +10,7 @@ use Rattle.script_tree.proofs.Texts.{same_text}
 use Rattle.command_words.specs.declared.kinds.Kind.{Kind}
 use Rattle.command_words.specs.declared.kinds.Kind.TheVariants as kind
 use Rattle.command_words.specs.declared.kinds.Kinds.{Kinds}
-use Rattle.command_words.specs.Words.{Given, Json, Versions, kind_of, has, IsBlock, AreBlocks, AreOptions, AreNoOptions}
+use Rattle.command_words.specs.Options.{Given, Json, Versions, kind_of, has, IsBlock, AreBlocks, AreOptions, AreNoOptions}
 use Rattle.command_words.specs.Kinds.{without}
 use Rattle.command_words.specs.Blocks.{Begins, BeginsWithNone, AreSome}
 use Rattle.command_words.specs.Tests.{is_limit, is_limit_within}

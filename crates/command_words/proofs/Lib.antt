@@ -6,4 +6,5 @@ mod DigitCases
 pub mod Walks
 pub mod Found
 pub mod Asked
+pub mod Lines
 pub mod Parsed

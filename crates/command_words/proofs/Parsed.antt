@@ -10,7 +10,8 @@ use Rattle.clap.specs.declared.parser.ArgMatches.{ArgMatches}
 use Rattle.clap.proofs.WalkLemmas.{first_value-rows, one_text-rows}
 use Rattle.clap.proofs.OnLiterals.{clap_on_literals}
 use Rattle.command_words.specs.declared.kinds.Kinds.{Kinds}
-use Rattle.command_words.specs.Words.{Given, Json, Versions, IsLimit, AreBlocks, versions_in, json_in}
+use Rattle.command_words.specs.Words.{IsLimit}
+use Rattle.command_words.specs.Options.{Given, Json, Versions, AreBlocks, versions_in, json_in}
 use Rattle.command_words.specs.Blocks.{AreSome}
 use Rattle.command_words.specs.Parser.{app}
 use Rattle.command_words.proofs.Among.{among_kept}

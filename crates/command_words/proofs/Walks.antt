@@ -17,7 +17,7 @@ use Rattle.clap.proofs.TakesLemmas.{leaf_takes}
 use Rattle.command_words.specs.declared.kinds.Kind.{Kind}
 use Rattle.command_words.specs.declared.kinds.Kind.TheVariants as kind
 use Rattle.command_words.specs.declared.kinds.Kinds.{Kinds}
-use Rattle.command_words.specs.Words.{Given, Json, Versions, kind_of, has, IsBlock, AreBlocks, json_in}
+use Rattle.command_words.specs.Options.{Given, Json, Versions, kind_of, has, IsBlock, AreBlocks, json_in}
 use Rattle.command_words.specs.Kinds.{without}
 use Rattle.command_words.specs.Parser.{app, json_rule, versions_rule}
 use Rattle.command_words.proofs.DigitCases.{by_digit}

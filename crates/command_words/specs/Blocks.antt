@@ -6,7 +6,8 @@ use Rattle.command_words.specs.declared.command.WordsFault.TheVariants.{Refused,
 use Rattle.command_words.specs.declared.kinds.Kind.{Kind}
 use Rattle.command_words.specs.declared.kinds.Kinds.{Kinds}
 use Rattle.command_words.specs.declared.verb.Verb.{Verb}
-use Rattle.command_words.specs.Words.{Given, kind_of, IsBlock, AreOptions, AreNoOptions, versions_in, json_in, kinds_of, asked}
+use Rattle.command_words.specs.Options.{Given, kind_of, IsBlock, AreOptions, AreNoOptions, versions_in, json_in}
+use Rattle.command_words.specs.Table.{kinds_of, asked}
 
 -- the first words, so many of them, are the block of an option of this kind
 pub record Begins (words : List (List ℕ)) (kind : Kind) (count : ℕ) : Type 0 where

@@ -1,4 +1,6 @@
 pub mod Words
+pub mod Options
+pub mod Table
 pub mod Kinds
 pub mod Blocks
 pub mod Tests

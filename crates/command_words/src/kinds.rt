@@ -1,7 +1,7 @@
 // Kinds of options.
 
 ghost use Rattle.std.specs.Prelude.{◌≡◌};
-ghost use Rattle.command_words.specs.Words.{has};
+ghost use Rattle.command_words.specs.Options.{has};
 ghost use Rattle.command_words.specs.Kinds.{without};
 
 /// A kind of option.
@@ -22,7 +22,7 @@ pub struct Kinds {
 
 impl Kinds {
     ghost use Rattle.std.specs.Prelude.{◌≡◌};
-    ghost use Rattle.command_words.specs.Words.{has};
+    ghost use Rattle.command_words.specs.Options.{has};
     ghost use Rattle.command_words.specs.Kinds.{without};
 
     /// Whether a kind is one of these.

@@ -6,7 +6,8 @@ ghost use Rattle.std.specs.List.{list_all};
 ghost use Rattle.std.specs.Char.{is_ascii_digit};
 ghost use Rattle.std.specs.Str.Parse.{digits_value};
 ghost use Rattle.script_tree.specs.declared.limits.TheConstants.{VERSIONS};
-ghost use Rattle.command_words.specs.Words.{IsLimit, AreNoOptions};
+ghost use Rattle.command_words.specs.Words.{IsLimit};
+ghost use Rattle.command_words.specs.Options.{AreNoOptions};
 ghost use Rattle.command_words.specs.Blocks.{Begins, BeginsWithNone, AreSome};
 ghost use Rattle.command_words.specs.Tests.{is_limit, is_limit_within};
 

@@ -17,7 +17,7 @@ pub enum Verb {
 impl Verb {
     ghost use Rattle.std.specs.Prelude.{◌≡◌, IfSome, IfNone};
     ghost use Rattle.command_words.specs.declared.verb.Verb.{Verb};
-    ghost use Rattle.command_words.specs.Words.{word_of, takes_number, kinds_of, asked};
+    ghost use Rattle.command_words.specs.Table.{word_of, takes_number, kinds_of, asked};
 
     /// The command whose word this is.
     pub fn of(word: &str) -> Option<Verb>

@@ -9,7 +9,9 @@ ghost use Rattle.clap.specs.Values.{kind_of};
 ghost use Rattle.clap.specs.declared.error.ErrorKind.TheVariants.{OutOfMemory};
 ghost use Rattle.script_tree.specs.declared.limits.TheConstants.{VERSIONS as MOST};
 ghost use Rattle.command_words.specs.Parser.{app};
-ghost use Rattle.command_words.specs.Words.{AreNoOptions, IsLimit, ReadsWords, word_of, takes_number};
+ghost use Rattle.command_words.specs.Words.{IsLimit, ReadsWords};
+ghost use Rattle.command_words.specs.Options.{AreNoOptions};
+ghost use Rattle.command_words.specs.Table.{ReadsByTable, word_of, takes_number};
 ghost use Rattle.command_words.specs.Blocks.{AreSome, Gives, ReadsOptions};
 
 use crate::command::{Command, WordsFault};
@@ -146,7 +148,7 @@ fn command_with(
 #[tactic(auto, using(crate::proofs::Asked::numbered_laws))]
 fn command_numbered(alloc: Global, verb: Verb, behind: &[&str]) -> Result<Command, WordsFault>
     requires { takes_number verb ≡ true }
-    ensures { ReadsWords (word_of verb ∷ map (λ s. s.now) behind.now) result }
+    ensures { ReadsByTable (word_of verb ∷ map (λ s. s.now) behind.now) result }
 {
     match behind {
         [] => Err(WordsFault::Refused),
@@ -160,7 +162,7 @@ fn command_numbered(alloc: Global, verb: Verb, behind: &[&str]) -> Result<Comman
 // The command whose word is the first one, with what stands behind it.
 #[tactic(auto, using(crate::proofs::Asked::command_laws))]
 fn command_of(alloc: Global, first: &str, behind: &[&str]) -> Result<Command, WordsFault>
-    ensures { ReadsWords (first.now ∷ map (λ s. s.now) behind.now) result }
+    ensures { ReadsByTable (first.now ∷ map (λ s. s.now) behind.now) result }
 {
     let Some(verb) = Verb::of(first) else {
         return Err(WordsFault::Refused)
@@ -171,7 +173,7 @@ fn command_of(alloc: Global, first: &str, behind: &[&str]) -> Result<Command, Wo
     command_with(alloc, verb, 0, behind)
 }
 
-#[tactic(auto, using(crate::proofs::Asked::none_asked))]
+#[tactic(auto, using(crate::proofs::Lines::none_asked))]
 fn read_texts(alloc: Global, texts: &[&str]) -> Result<Command, WordsFault>
     ensures { ReadsWords (map (λ s. s.now) texts.now) result }
 {
@@ -187,7 +189,7 @@ fn read_texts(alloc: Global, texts: &[&str]) -> Result<Command, WordsFault>
 /// `serial`, each with the options `--json` and `--versions N` (or `--versions=N`), `check` with the latter alone, or `print`, which
 /// has none; or it is `make` and a number alone, which has 1 to 20 decimal digits and at most 64 bits. Each option stands at most
 /// once, in any order. N has 1 to 7 decimal digits and is at most 4,000,000, which is the limit of versions without the option.
-#[tactic(auto, using(crate::proofs::Asked::no_text))]
+#[tactic(auto, using(crate::proofs::Lines::no_text))]
 pub fn read_words(alloc: Global, words: &[Text]) -> Result<Command, WordsFault>
     ensures { ReadsWords words.now result }
 {

@@ -1,5 +1,5 @@
-use Rattle.command_words.proofs.Asked.{few_versions}
+use Rattle.command_words.proofs.Lines.{asked_few}
 use Rattle.command_words.proofs.laws.versions_are_few.Goals as goal
 
 pub returns : goal.returns
-returns c = few_versions
+returns c = asked_few

@@ -1,5 +1,5 @@
-use Rattle.command_words.proofs.Asked.{one_command}
+use Rattle.command_words.proofs.Lines.{asked_once}
 use Rattle.command_words.proofs.laws.words_ask_for_one_command.Goals as goal
 
 pub returns : goal.returns
-returns c = one_command
+returns c = asked_once

@@ -2,7 +2,7 @@ use Rattle.std.proofs.Common.{subst, sym, ◌∙◌, arith}
 use Rattle.std.proofs.lemmas.Bool.Decides.{nat_tests}
 use Rattle.std.specs.Prelude.{◌<◌, length, drop}
 use Rattle.command_words.specs.Blocks.{AreSome}
-use Rattle.command_words.specs.Words.{AreNoOptions}
+use Rattle.command_words.specs.Options.{AreNoOptions}
 use Rattle.command_words.proofs.Found.{texts, some_texts, texts_behind, no_block, not_had, one_more, none_more}
 use Rattle.command_words.proofs.options.+are_options.Goals as goal
 

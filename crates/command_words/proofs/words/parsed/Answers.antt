@@ -1,6 +1,6 @@
 use Rattle.std.proofs.Common.{List, map, ap, subst, ◌∙◌}
 use Rattle.clap.specs.Words.{Text, HasMatchesOf, takes}
-use Rattle.command_words.specs.Words.{json_in}
+use Rattle.command_words.specs.Options.{json_in}
 use Rattle.command_words.proofs.Parsed.{options_taken, limit_found, flag_found, text_is_limit, limit_read, flag_read}
 use Rattle.command_words.proofs.words.parsed.Goals as goal
 
