@@ -16,7 +16,6 @@ use Rattle.flow_model.proofs.OrderStays.OpenNodesHaveFrames.{entry-there}
 use Rattle.flow_state.specs.Booked.{Booked, live_in, node_count, work_at}
 use Rattle.flow_model.specs.Parts.Books.{work_in, Book}
 use Rattle.flow_state.specs.Fitting.{IsBookOf}
-pub use Rattle.flow_model.proofs.Books.StepsChangeBooks.{changed-works as works-change, kept-works as works-same}
 
 -- ---- the book
 

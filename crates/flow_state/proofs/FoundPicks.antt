@@ -1,15 +1,12 @@
 -- The picks of what was found, and the first of them.
-use Rattle.std.proofs.Common.{◌≡◌, ℕ, ◌<◌, ◌≤◌, ◌+◌, List, [], ◌∷◌, ◌++◌, Option, Some, None, length, map, take, get_or, suc, refl, sym, ap, ◌∙◌, arith}
+use Rattle.std.proofs.Common.{◌≡◌, ℕ, ◌<◌, ◌≤◌, ◌+◌, List, [], ◌∷◌, ◌++◌, Option, Some, length, map, take, get_or, suc, refl, sym, ap, ◌∙◌, arith}
 use Rattle.std.proofs.lemmas.List.{take_more, length-take-le}
-use Rattle.std.proofs.lemmas.Option.{slice_get_within, slice_get-get_or}
+use Rattle.std.proofs.lemmas.Option.{slice_get_within, slice_get-get_or, same_Some}
 use Rattle.std.specs.List.{slice_get}
 use Rattle.script_tree.specs.declared.limits.TheConstants.{SELECTORS}
 use Rattle.signal_graph.specs.Values.{taken}
 use Rattle.flow_state.specs.declared.found.Found.{Found}
 use Rattle.flow_state.specs.Found.{selection_of}
-
-some_is : {A : Type 0} (x y d : A) → Some x ≡ Some y → x ≡ y
-some_is x y d e = ap (λ (o : Option _). elim o [ None ↦ d | Some z ↦ z ]) e
 
 -- what the items of a list are as picks
 abbrev pub picks_for : List Found → List (Option ℕ)
@@ -32,7 +29,7 @@ picks-few xs ps i is h few =
 pub picks-more : (xs : List Found) (ps : List (Option ℕ)) (i : ℕ) (x : Found) (p : Option ℕ) → ps ≡ picks_for (take i xs) → slice_get xs i ≡ Some x → p ≡ taken (selection_of x) → ps ++ p ∷ [] ≡ picks_for (take (i + 1) xs)
 picks-more xs ps i x p is at_i taken_is =
     let h = slice_get_within xs i x at_i in
-    let same = some_is (get_or xs i x) x x (sym (slice_get-get_or xs i x h) ∙ at_i) in
+    let same = same_Some (get_or xs i x) x (sym (slice_get-get_or xs i x h) ∙ at_i) in
     sym (ap picks_for (take_more xs i x h) ∙ picks-last (take i xs) (get_or xs i x)
     ∙ ap (λ (y : Found). picks_for (take i xs) ++ taken (selection_of y) ∷ []) same
     ∙ ap (λ (qs : List (Option ℕ)). qs ++ taken (selection_of x) ∷ []) (sym is)

@@ -3,6 +3,7 @@ use Rattle.std.proofs.Common.{◌≡◌, ◌≢◌, ℕ, zero, suc, ◌+◌, ◌
 use Rattle.std.specs.List.{AllByRecursion}
 use Rattle.std.proofs.lemmas.Bool.{eq-eqb, ne_eqb, cases_eq}
 use Rattle.std.proofs.lemmas.Bool.Decides.{eqb_tells}
+use Rattle.std.proofs.lemmas.Option.{same_Some}
 use Rattle.signal_graph.specs.Graph.{is_in}
 use Rattle.order_graph.specs.Order.{Order}
 use Rattle.node_set.specs.Members.{Members, with_nodes}
@@ -60,12 +61,9 @@ none_free callers calls tells = record {
   free = λ h. absurd (omega (arith, h));
 }
 
-some_same : (k x : ℕ) → Some k ≡ Some x → x ≡ k
-some_same k x e = cc
-
 pub first_tells : (callers : ℕ) (calls : List LiveCall) (nodes : List ℕ) → IsSet nodes → ((q : ℕ) → is_in q nodes ≡ true → q < callers) → ((k : ℕ) → k < callers → is_in k nodes ≡ not (uses_slot k calls)) → (k : ℕ) → Some k ≡ least nodes → IsLeast callers calls k
 first_tells callers calls [] up inside tells k e = cc
-first_tells callers calls (x ∷ xs) up inside tells k e = subst (IsLeast callers calls) (some_same k x e) (least_free callers calls x xs up (inside x (ap (λ b. b || is_in x xs) (eq-eqb x x refl))) tells)
+first_tells callers calls (x ∷ xs) up inside tells k e = subst (IsLeast callers calls) (sym (same_Some k x e)) (least_free callers calls x xs up (inside x (ap (λ b. b || is_in x xs) (eq-eqb x x refl))) tells)
 
 pub none_tells : (callers : ℕ) (calls : List LiveCall) (nodes : List ℕ) → ((k : ℕ) → k < callers → is_in k nodes ≡ not (uses_slot k calls)) → None ≡ least nodes → IsLeast callers calls callers
 none_tells callers calls [] tells e = none_free callers calls tells

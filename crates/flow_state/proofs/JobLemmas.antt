@@ -1,6 +1,7 @@
 -- What jobs read and select.
-use Rattle.std.proofs.Common.{◌≡◌, ℕ, zero, suc, ◌<◌, ◌≤◌, List, [], ◌∷◌, length, map, get_or, take, drop, Some, None, refl, ap, ◌∙◌, arith}
+use Rattle.std.proofs.Common.{◌≡◌, ℕ, ◌<◌, ◌≤◌, List, [], ◌∷◌, length, map, get_or, take, drop, Some, None, refl, ap, ◌∙◌}
 use Rattle.std.specs.Prelude.{slice_get}
+use Rattle.std.proofs.lemmas.List.{take_all}
 use Rattle.script_tree.specs.declared.value.Value.{Value}
 use Rattle.flow_model.specs.Machine.Words.{gathered_of, value_or, pick_over, first_pick_over}
 use Rattle.flow_state.specs.declared.found.Found.{Found}
@@ -30,12 +31,6 @@ pub found_back : (xs : List Found) → map found_as (map selection_of xs) ≡ xs
 found_back [] = refl
 found_back (x ∷ xs) = ap (λ f. f ∷ map found_as (map selection_of xs)) (as-found x) ∙ ap (λ ys. x ∷ ys) (found_back xs)
 
-take_whole : {X : Type 0} (xs : List X) (i : ℕ) → length xs ≤ i → take i xs ≡ xs
-take_whole [] zero h = refl
-take_whole [] (suc i) h = refl
-take_whole (x ∷ xs) zero h = absurd (omega (arith, h))
-take_whole (x ∷ xs) (suc i) h = ap (λ ys. x ∷ ys) (take_whole xs i (omega (arith, h)))
-
 -- a walk that is over has mapped all
 pub all_mapped : {A B : Type 0} (f : A → B) (xs : List A) (i : ℕ) (ys : List B) → length xs ≤ i → ys ≡ map f (take i xs) → ys ≡ map f xs
-all_mapped f xs i ys h so = so ∙ ap (map f) (take_whole xs i h)
+all_mapped f xs i ys h so = so ∙ ap (map f) (take_all i xs h)

@@ -1,6 +1,5 @@
 -- What is left of a list from an index on.
-use Rattle.std.proofs.Common.{◌≡◌, ℕ, zero, suc, ◌≤◌, List, [], ◌∷◌, Some, None, length, drop, ap}
-use Rattle.std.proofs.lemmas.List.{drop_all}
+use Rattle.std.proofs.Common.{◌≡◌, ℕ, zero, suc, List, [], ◌∷◌, Some, None, drop, ap}
 use Rattle.std.specs.Prelude.{slice_get}
 
 -- the item at the index, and the rest
@@ -14,7 +13,3 @@ drop-at (y ∷ ys) zero x h = ap (λ z. z ∷ ys) (same y x h)
     same : {X : Type 0} (y x : X) → Some y ≡ Some x → y ≡ x
     same y x h = cc
 drop-at (y ∷ ys) (suc i) x h = drop-at ys i x h
-
--- nothing, from the length on
-pub drop-past : {X : Type 0} (xs : List X) (i : ℕ) → length xs ≤ i → drop i xs ≡ []
-drop-past xs i h = drop_all i xs h

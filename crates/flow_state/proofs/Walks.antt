@@ -7,7 +7,6 @@ use Rattle.flow_model.specs.Machine.Words.{gathered_of, set_value}
 use Rattle.flow_state.specs.declared.seating.Tenant.{Tenant}
 use Rattle.flow_state.specs.Booked.{AreApart}
 use Rattle.flow_state.specs.Seats.{slot_in, has_version}
-pub use Rattle.std.proofs.lemmas.List.{drop_more as rest_is}
 
 slot-here : (x : Tenant) (xs : List Tenant) (t : ℕ) (b : Bool) → (x.version == t) ≡ b → slot_in (x ∷ xs) t ≡ elim b [ true ↦ x.slot | false ↦ slot_in xs t ]
 slot-here x xs t b e = ap (λ (b : Bool). elim b [ true ↦ x.slot | false ↦ slot_in xs t ]) e
