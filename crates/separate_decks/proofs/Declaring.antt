@@ -1,10 +1,9 @@
 -- The workload's nodes are those of a graph, and each fold goes over two sources of one thread.
-use Rattle.std.proofs.Common.{◌≡◌, ℕ, zero, suc, ◌+◌, ◌-◌, ◌*◌, ◌<◌, ◌≤◌, Bool, true, false, List, [], ◌∷◌, ◌++◌, length, refl, sym, ap, ◌∙◌, subst, arith, length-append, true≢false, None}
-use Rattle.std.specs.Prelude.{IsTrue, pos, map, ◌==◌, ◌||◌, if◌then◌else◌, slice_index_or}
+use Rattle.std.proofs.Common.{◌≡◌, ℕ, zero, suc, ◌+◌, ◌-◌, ◌*◌, ◌<◌, ◌≤◌, Bool, true, false, List, [], ◌∷◌, ◌++◌, length, refl, sym, ap, ◌∙◌, subst, arith, length-append, None}
+use Rattle.std.specs.Prelude.{IsTrue, pos, map, ◌==◌, if◌then◌else◌, slice_index_or}
 use Rattle.std.specs.List.{AllByRecursion}
 use Rattle.std.proofs.Math.Nat.{mod-lt}
 use Rattle.std.proofs.lemmas.List.{length-map}
-use Rattle.std.proofs.lemmas.Bool.Decides.{eqb_tells}
 use Rattle.script_tree.specs.declared.value.Fault.TheVariants.{Kind}
 use Rattle.script_tree.specs.declared.value.Value.TheVariants.{Int, Fault as Faulty}
 use Rattle.script_tree.specs.declared.expr.Binary.TheVariants.{Add, Subtract}
@@ -18,6 +17,7 @@ use Rattle.signal_graph.specs.declared.builder.DeclKind.{DeclKind}
 use Rattle.signal_graph.specs.declared.builder.DeclKind.TheVariants as kinds
 use Rattle.signal_graph.specs.Declarations.{IsDeclaration, choose_of, node_of}
 use Rattle.signal_graph.specs.Graph.{Graph, node_at, kind_of, is_source, is_in, inputs_of, IsNode, AreNodes, IsGraph}
+use Rattle.signal_graph.proofs.OnePassLaws.{in_all}
 use Rattle.separate_decks.specs.Separate.{FoldsOver}
 use Rattle.separate_decks.specs.Draws.{skip, draw}
 use Rattle.separate_decks.specs.Workload.{all_names, name_of, two, second, over, fold, signal_tree, signal, choice_tree, choose, sources, folds, signals, rows, all_kinds}
@@ -300,14 +300,6 @@ source_before n (Choose selectors body inputs) h low = absurd (omega arith)
 pub source_at : (number n : ℕ) → n < 64 → is_source (node_at (made_graph number) n) ≡ true
 source_at number n low = source_before n (node_at (made_graph number) n) (stands_at number n (omega arith)) low
 
-member : (P : ℕ → Type 0) (m : ℕ) (ms : List ℕ) → AllByRecursion P ms → is_in m ms ≡ true → P m
-member P m [] h e = absurd (true≢false (sym e))
-member P m (k ∷ ms) h e = cases (k == m) refl e (λ there. member P m ms h.1 there)
-  where
-    cases : (b : Bool) → (k == m) ≡ b → (b || is_in m ms) ≡ true → (is_in m ms ≡ true → P m) → P m
-    cases true same found later = let i : k ≡ m = grind (arith, eqb_tells, same) in subst P i h.0
-    cases false other found later = later found
-
 -- a fold stands behind the sources, and its inputs are those of one thread
 abbrev pub Owns : ℕ → ℕ → Type 0
 Owns i m = (8 * i ≤ m) × (m < 8 * i + 8)
@@ -315,7 +307,7 @@ Owns i m = (8 * i ≤ m) × (m < 8 * i + 8)
 fold_stands : (n m : ℕ) (node : Node) → Stands n node → kind_of node ≡ kind.Fold → is_in m (inputs_of node) ≡ true → (64 ≤ n) × (n < 72) × Owns (n - 64) m
 fold_stands n m (Source start) h e there = absurd (cc)
 fold_stands n m (Signal script inputs) h e there = absurd (cc)
-fold_stands n m (Fold start script inputs) h e there = (h.0, h.1, member (λ m. Owns (n - 64) m) m inputs h.2 there)
+fold_stands n m (Fold start script inputs) h e there = (h.0, h.1, in_all (λ m. Owns (n - 64) m) m inputs there h.2)
 fold_stands n m (Choose selectors body inputs) h e there = absurd (cc)
 
 pub fold_at : (number n m : ℕ) → FoldsOver (made_graph number) n m → (64 ≤ n) × (n < 72) × Owns (n - 64) m

@@ -6,6 +6,7 @@ use Rattle.std.proofs.lemmas.List.{length-map}
 use Rattle.script_tree.specs.declared.value.Fault.TheVariants.{Kind}
 use Rattle.script_tree.specs.declared.value.Value.{Value}
 use Rattle.script_tree.specs.declared.value.Value.TheVariants.{Fault as Faulty}
+use Rattle.script_tree.proofs.Lists.{all_filter}
 use Rattle.signal_graph.specs.declared.node.Node.{Node}
 use Rattle.signal_graph.specs.declared.node.Node.TheVariants.{Source, Signal, Fold, Choose}
 use Rattle.signal_graph.specs.declared.call.Call.{Call}
@@ -22,7 +23,7 @@ use Rattle.call_log.specs.Merge.{IsOfCaller, Merge}
 use Rattle.separate_decks.specs.Separate.{is_set_in, Separate}
 use Rattle.separate_decks.specs.Calls.{values_after, followed_by, Keeps, AreSources, SetsNone, AreNamed, OthersSetNone}
 use Rattle.separate_decks.proofs.OneCall.{AgreeAt, same_call, other_call}
-use Rattle.separate_decks.proofs.Making.{callers_are, all_made, none_of_zero, of_each_caller, named_right, filter_keeps}
+use Rattle.separate_decks.proofs.Making.{callers_are, all_made, none_of_zero, of_each_caller, named_right}
 use Rattle.separate_decks.proofs.Owning.{follows_sources, Owner, owner_at, none_set}
 
 -- what is known of the machine: a call makes one pass over the nodes, the state keeps its length, and each value is its
@@ -116,7 +117,7 @@ complete graph scripts log callers made =
     cases ms owner k low true none = everywhere (λ call. true ≡ false → SetsNone graph ms call) (well_named graph (script_of scripts k)) (λ call e. absurd (true≢false e))
     cases ms owner k low false none =
         weaker (SetsNone graph ms) (λ call. false ≡ false → SetsNone graph ms call) (well_named graph (script_of scripts k)) (λ call h e. h)
-        (filter_keeps (SetsNone graph ms) (is_well_named graph) (script_of scripts k) (none_set graph ms (script_of scripts k) (none refl)))
+        (all_filter (SetsNone graph ms) (is_well_named graph) (script_of scripts k) (none_set graph ms (script_of scripts k) (none refl)))
 
 pub merge_complete : (graph : Graph) (scripts : List (List Call)) (limit : ℕ) (log : List Logged) (refused : List Refused) → Merge graph scripts limit log refused → count_well_named graph scripts ≤ limit → Complete graph scripts log
 merge_complete graph scripts limit log refused merge few =

@@ -1,6 +1,6 @@
 -- A merge with all well-named calls has each caller's, in their order.
 use Rattle.std.proofs.Common.{◌≡◌, ℕ, zero, suc, ◌+◌, ◌-◌, ◌<◌, ◌≤◌, Bool, true, false, cond, List, [], ◌∷◌, length, Option, Some, None, refl, sym, ap, ◌∙◌, subst, arith, true≢false}
-use Rattle.std.specs.Prelude.{◌==◌, is_none, filter, All}
+use Rattle.std.specs.Prelude.{◌==◌, is_none, All}
 use Rattle.std.specs.List.{AllByRecursion}
 use Rattle.std.proofs.lemmas.Bool.Decides.{eqb_tells}
 use Rattle.std.proofs.lemmas.List.{take_all}
@@ -157,11 +157,3 @@ named_right graph (call ∷ calls) = cases (is_well_named graph call) refl (name
     cases : (b : Bool) → is_well_named graph call ≡ b → AllByRecursion (λ call. misnamed graph call ≡ None) (well_named graph calls) → AllByRecursion (λ call. misnamed graph call ≡ None) (cond b (call ∷ well_named graph calls) (well_named graph calls))
     cases true e rest = (is_none_of (misnamed graph call) e, rest)
     cases false e rest = rest
-
-pub filter_keeps : (Q : Call → Type 0) (test : Call → Bool) (calls : List Call) → AllByRecursion Q calls → AllByRecursion Q (filter test calls)
-filter_keeps Q test [] h = tt
-filter_keeps Q test (call ∷ calls) h = cases (test call) (filter_keeps Q test calls h.1)
-  where
-    cases : (b : Bool) → AllByRecursion Q (filter test calls) → AllByRecursion Q (cond b (call ∷ filter test calls) (filter test calls))
-    cases true rest = (h.0, rest)
-    cases false rest = rest

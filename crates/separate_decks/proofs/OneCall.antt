@@ -9,6 +9,7 @@ use Rattle.script_tree.specs.declared.value.Fault.TheVariants.{NoChoice, Kind}
 use Rattle.script_tree.specs.declared.value.Value.{Value}
 use Rattle.script_tree.specs.declared.value.Value.TheVariants.{Fault as Faulty}
 use Rattle.script_tree.specs.Eval.{eval_script}
+use Rattle.script_tree.proofs.Lists.{all_weaker}
 use Rattle.signal_graph.specs.declared.node.Node.{Node}
 use Rattle.signal_graph.specs.declared.node.Node.TheVariants.{Source, Signal, Fold, Choose}
 use Rattle.signal_graph.specs.declared.call.Call.{Call}
@@ -17,10 +18,10 @@ use Rattle.signal_graph.specs.Graph.{Graph, node_at, number_of, is_source, IsNod
 use Rattle.signal_graph.specs.Values.{Values, at, run}
 use Rattle.signal_graph.specs.Machine.{differs, same, with_sets}
 use Rattle.signal_graph.specs.OnePass.{new_value, new_from, after_call}
-use Rattle.signal_graph.proofs.SameValues.{same-self}
 use Rattle.signal_graph.proofs.OnePassLaws.{new_stay, length-new_from, source_value, same_map}
 use Rattle.signal_graph.proofs.GraphNodes.{is_node_at}
 use Rattle.signal_graph.proofs.Literal.{sets_agree}
+use Rattle.signal_graph.proofs.NewValues.{none_differ}
 use Rattle.separate_decks.specs.Calls.{followed_by, Keeps, AreSources, SetsNone}
 
 -- two tables of all values have the same values at a node and at those that it follows
@@ -30,17 +31,9 @@ pub record AgreeAt (graph : Graph) (n : ℕ) (follows : List ℕ) (a b : Values)
   pub here : at a n ≡ at b n
   pub there : AllByRecursion (λ m. at a m ≡ at b m) follows
 
-pub all_map : {X : Type 0} (P Q : X → Type 0) (xs : List X) → ((x : X) → P x → Q x) → AllByRecursion P xs → AllByRecursion Q xs
-all_map P Q [] f h = tt
-all_map P Q (x ∷ xs) f h = (f x h.0, all_map P Q xs f h.1)
-
 pub all_both : {X : Type 0} (P Q R : X → Type 0) (xs : List X) → ((x : X) → P x → Q x → R x) → AllByRecursion P xs → AllByRecursion Q xs → AllByRecursion R xs
 all_both P Q R [] f h k = tt
 all_both P Q R (x ∷ xs) f h k = (f x h.0 k.0, all_both P Q R xs f h.1 k.1)
-
-none_differs : (a : Values) (ms : List ℕ) → list_any (differs a a) ms ≡ false
-none_differs a [] = refl
-none_differs a (m ∷ ms) = ap (λ b. not b || list_any (differs a a) ms) (same-self (at a m)) ∙ none_differs a ms
 
 -- what a pass has found where it comes to a node
 record Reached (before set whole : Values) (i : ℕ) (node : Node) : Type 0 where
@@ -96,7 +89,7 @@ read_set (Source start) n names a earlier set whole u old keeps is_node agree h 
 read_set (Signal script inputs) n names a earlier set whole u old keeps is_node agree h = absurd keeps
 read_set (Fold start script inputs) n names a earlier set whole u old keeps is_node agree h =
     let same = all_both _ _ (λ m. at earlier m ≡ at set m) inputs (λ m low e. agree m low ∙ e) is_node.3 h in
-    ap (λ t. if t then run script inputs earlier old else old) (same_any a a earlier set inputs (all_map _ (λ m. at a m ≡ at a m) inputs (λ m e. refl) same) same)
+    ap (λ t. if t then run script inputs earlier old else old) (same_any a a earlier set inputs (all_weaker _ (λ m. at a m ≡ at a m) (λ m e. refl) inputs same) same)
     ∙ ap (λ vs. if list_any (differs a set) inputs then eval_script script.tree vs old else old) (same_map earlier set inputs same)
 read_set (Choose selectors body inputs) n names a earlier set whole u old keeps is_node agree h = absurd keeps
 
@@ -106,7 +99,7 @@ value_after graph is_graph before set n within keeps sources =
     let r = reach_at graph before set n within in
     r.value
     ∙ read_set (node_at graph n) n graph.names before r.earlier set whole (at set n) (at before n) keeps (is_node_at graph is_graph n within) r.agree
-    (all_map _ (λ m. at whole m ≡ at set m) (followed_by (node_at graph n) n) (λ m s. source_after graph before set m s) sources)
+    (all_weaker _ (λ m. at whole m ≡ at set m) (λ m s. source_after graph before set m s) (followed_by (node_at graph n) n) sources)
 
 -- a node that is not set keeps its value
 sets_keep : (graph : Graph) (kept : Values) (sets : List (List ℕ × Value)) (m : ℕ) → list_any (λ (s : List ℕ × Value). number_of graph s.0 == m) sets ≡ false → at (with_sets graph kept sets) m ≡ at kept m
@@ -142,7 +135,7 @@ unchanged : (node : Node) (n : ℕ) (a x : Values) → Keeps node → AllByRecur
 unchanged (Source start) n a x keeps h = h.0
 unchanged (Signal script inputs) n a x keeps h = absurd keeps
 unchanged (Fold start script inputs) n a x keeps h =
-    ap (λ t. if t then run script inputs x (at a n) else at a n) (same_any a a x a inputs (all_map _ (λ m. at a m ≡ at a m) inputs (λ m e. refl) h) h ∙ none_differs a inputs)
+    ap (λ t. if t then run script inputs x (at a n) else at a n) (same_any a a x a inputs (all_weaker _ (λ m. at a m ≡ at a m) (λ m e. refl) inputs h) h ∙ none_differ a inputs)
 unchanged (Choose selectors body inputs) n a x keeps h = absurd keeps
 
 pub other_call : (graph : Graph) → IsGraph graph → (n : ℕ) → n < length graph.nodes → Keeps (node_at graph n) → AreSources graph (followed_by (node_at graph n) n) → (a b : Values) (call : Call) → SetsNone graph (followed_by (node_at graph n) n) call → AgreeAt graph n (followed_by (node_at graph n) n) a b → AgreeAt graph n (followed_by (node_at graph n) n) (after_call graph a call) b
@@ -150,7 +143,7 @@ other_call graph is_graph n within keeps sources a b (Read looks) none h = h
 other_call graph is_graph n within keeps sources a b (Fire sets looks) none h =
     let x = with_sets graph a sets in
     let follows = followed_by (node_at graph n) n in
-    let kept = all_map _ (λ m. at x m ≡ at a m) follows (λ m e. sets_keep graph a sets m e) none in
+    let kept = all_weaker _ (λ m. at x m ≡ at a m) (λ m e. sets_keep graph a sets m e) follows none in
     let left = all_both _ _ (λ m. at (new_from a x [] graph.nodes) m ≡ at a m) follows (λ m s e. source_after graph a x m s ∙ e) sources kept in
     record {
       long = length-new_from a x graph.nodes [] ∙ (omega arith);

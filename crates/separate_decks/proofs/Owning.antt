@@ -5,6 +5,7 @@ use Rattle.std.specs.List.{AllByRecursion, list_any}
 use Rattle.std.proofs.lemmas.Bool.Decides.{eqb_tells}
 use Rattle.std.proofs.Math.Bool.{or-true}
 use Rattle.std.proofs.lemmas.Bool.{or_parts, or_cases}
+use Rattle.script_tree.proofs.Lists.{all_weaker}
 use Rattle.signal_graph.specs.declared.node.Node.{Node}
 use Rattle.signal_graph.specs.declared.node.Node.TheVariants.{Source, Signal, Fold, Choose}
 use Rattle.signal_graph.specs.declared.call.Call.{Call}
@@ -13,7 +14,7 @@ use Rattle.signal_graph.proofs.Members.{all-members}
 use Rattle.call_log.specs.Made.{script_of}
 use Rattle.separate_decks.specs.Separate.{sets_node, is_set_in, ThreadSets, Separate}
 use Rattle.separate_decks.specs.Calls.{followed_by, Keeps, AreSources, SetsNone}
-use Rattle.separate_decks.proofs.OneCall.{all_map, all_both}
+use Rattle.separate_decks.proofs.OneCall.{all_both}
 
 -- a member that passes a test
 any_in : (test : ℕ → Bool) (ms : List ℕ) → list_any test ms ≡ true → (m : ℕ) × (is_in m ms ≡ true) × (test m ≡ true)
@@ -119,6 +120,6 @@ owner_at graph scripts separate n within keeps = owner_of graph scripts (followe
 pub none_set : (graph : Graph) (ms : List ℕ) (calls : List Call) → AllByRecursion (λ m. is_set_in graph m calls ≡ false) ms → AllByRecursion (SetsNone graph ms) calls
 none_set graph ms [] h = tt
 none_set graph ms (call ∷ calls) h = (
-  all_map (λ m. is_set_in graph m (call ∷ calls) ≡ false) (λ m. sets_node graph m call ≡ false) ms (λ m e. (or_parts (sets_node graph m call) (is_set_in graph m calls) e).0) h,
-  none_set graph ms calls (all_map (λ m. is_set_in graph m (call ∷ calls) ≡ false) (λ m. is_set_in graph m calls ≡ false) ms (λ m e. (or_parts (sets_node graph m call) (is_set_in graph m calls) e).1) h),
+  all_weaker (λ m. is_set_in graph m (call ∷ calls) ≡ false) (λ m. sets_node graph m call ≡ false) (λ m e. (or_parts (sets_node graph m call) (is_set_in graph m calls) e).0) ms h,
+  none_set graph ms calls (all_weaker (λ m. is_set_in graph m (call ∷ calls) ≡ false) (λ m. is_set_in graph m calls ≡ false) (λ m e. (or_parts (sets_node graph m call) (is_set_in graph m calls) e).1) ms h),
 )
