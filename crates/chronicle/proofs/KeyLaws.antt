@@ -3,13 +3,10 @@ use Rattle.std.proofs.Common.{◌≡◌, ◌≢◌, ℕ, zero, suc, ◌<◌, Boo
 use Rattle.std.specs.Prelude.{◌==◌, ◌||◌}
 use Rattle.std.specs.List.{list_any}
 use Rattle.std.proofs.lemmas.Bool.Decides.{nat_tests}
-use Rattle.std.proofs.lemmas.Bool.{or_parts}
+use Rattle.std.proofs.lemmas.Bool.{or_parts, false≢true}
 use Rattle.std.proofs.Math.Bool.{or-true}
 use Rattle.script_tree.proofs.Numbers.{equal_to_itself}
 use Rattle.chronicle.specs.Keys.{is_out, all_but, out_with, out_without, AreDifferent}
-
-pub false≢true : false ≡ true → ⊥
-false≢true e = true≢false (sym e)
 
 pub differs : (x k : ℕ) → x ≢ k → (x == k) ≡ false
 differs x k apart = grind (arith, nat_tests)
