@@ -12,9 +12,8 @@ use Rattle.flow_model.specs.Parts.Books.{book_of}
 use Rattle.flow_state.specs.Fitting.{list_of}
 use Rattle.entering.specs.Entering.{CanEnter, SomeCanEnter, Enters}
 use Rattle.entering.specs.Marking.{CanMark, SomeCanMark, Marks}
-pub use Rattle.script_tree.proofs.Truths.{or_later as room-left}
 
-has-list : (graph : Graph) (s : Core) (n t : ℕ) (list : Versions) → list ≡ list_of graph s n → has list.entries t ≡ has (entries s n) t
+pub has-list : (graph : Graph) (s : Core) (n t : ℕ) (list : Versions) → list ≡ list_of graph s n → has list.entries t ≡ has (entries s n) t
 has-list graph s n t list is = ap (λ (l : Versions). has l.entries t) is
 
 can-enter : (graph : Graph) (s : Core) (book : Booked) (n : ℕ) (list : Versions) (t : ℕ) → CanMark graph s book n list t → has list.entries t ≡ false → CanEnter graph s book n list t

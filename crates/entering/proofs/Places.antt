@@ -1,6 +1,6 @@
 -- Places in lists, by index and by parts.
 use Rattle.std.proofs.Common.{◌≡◌, ◌≢◌, ℕ, zero, suc, ◌+◌, ◌-◌, ◌≤◌, Bool, true, false, not, cond, List, [], ◌∷◌, Option, Some, None, length, take, drop, refl, sym, ap, ◌∙◌, arith}
-use Rattle.std.proofs.lemmas.Option.{same_Some}
+use Rattle.std.proofs.lemmas.Option.{same_Some, none-some}
 use Rattle.std.specs.Prelude.{slice_get}
 use Rattle.std.specs.List.{position_or_len}
 use Rattle.node_versions.specs.declared.entry.Entry.{Entry}
@@ -8,11 +8,8 @@ use Rattle.node_versions.specs.Entries.{front, rest}
 use Rattle.node_versions.proofs.Places.{one_more}
 use Rattle.flow_model.specs.Machine.Changes.{first_version, last_version}
 
-none_some : {X : Type 0} (x : X) → None ≡ Some x → ⊥
-none_some x e = cc
-
 last-take : (es : List Entry) (i : ℕ) (e : Entry) (seen : Option ℕ) → slice_get es i ≡ Some e → last_version seen (take (suc i) es) ≡ Some e.version
-last-take [] i e seen h = absurd (none_some e h)
+last-take [] i e seen h = absurd (none-some e h)
 last-take (x ∷ xs) zero e seen h = ap (λ (y : Entry). Some y.version) (same_Some x e h)
 last-take (x ∷ xs) (suc i) e seen h = last-take xs i e (Some x.version) h
 
@@ -20,7 +17,7 @@ pub last_at : (es : List Entry) (i : ℕ) (e : Entry) → i ≢ 0 → slice_get 
 last_at es i e some h = let n : suc (i - 1) ≡ i = omega (arith, some) in sym (ap (λ k. last_version None (take k es)) (sym n) ∙ last-take es (i - 1) e None h)
 
 pub first_at : (es : List Entry) (i : ℕ) (e : Entry) → slice_get es i ≡ Some e → Some e.version ≡ first_version (drop i es)
-first_at [] i e h = absurd (none_some e h)
+first_at [] i e h = absurd (none-some e h)
 first_at (x ∷ xs) zero e h = sym (ap (λ (y : Entry). Some y.version) (same_Some x e h))
 first_at (x ∷ xs) (suc i) e h = first_at xs i e h
 
