@@ -1,6 +1,6 @@
 -- A beginning finds a slot, and what it makes.
-use Rattle.std.proofs.Common.{◌≡◌, ℕ, ◌+◌, ◌<◌, ◌≤◌, true, List, length, Option, Some, None, is_none, refl, sym, ap, ◌∙◌, subst, arith}
-use Rattle.std.proofs.lemmas.Bool.{false≢true, not-true, leb-true}
+use Rattle.std.proofs.Common.{◌≡◌, ℕ, ◌+◌, ◌<◌, ◌≤◌, true, List, length, sym, ap, ◌∙◌, subst, arith}
+use Rattle.std.proofs.lemmas.Bool.{not-true, leb-true}
 use Rattle.std.proofs.lemmas.List.{length-map}
 use Rattle.signal_graph.specs.declared.call.Call.{Call}
 use Rattle.script_tree.specs.declared.limits.TheConstants.{LOOKS}
@@ -10,7 +10,7 @@ use Rattle.signal_graph.specs.Graph.{Graph, number_of}
 use Rattle.signal_graph.specs.Machine.{looks_of, misnamed}
 use Rattle.flow_model.specs.Machine.State.{Core}
 use Rattle.flow_model.specs.Machine.Steps.{can_begin, free_slot, has_call, sets_in, looks_in}
-use Rattle.flow_model.proofs.OneStep.BegunCalls.{few-calls, slot-free}
+use Rattle.flow_model.proofs.OneStep.BegunCalls.{few-calls, slot-free, none-is}
 use Rattle.flow_state.specs.Booked.{Booked, AreInside, begin_call, node_count}
 use Rattle.flow_state.specs.Rooms.{Roomy, IsRoomFor}
 use Rattle.flow_state.proofs.Naming.{named_inside}
@@ -35,10 +35,6 @@ sets_inside graph s book caller call room fits h made =
     let named = none-is (misnamed graph call) (and_right _ _ (and_left _ _ h)) in
     let works = sym (ap (λ (f : Book). length f.works) fits.parts ∙ length-map s.cells work_in ∙ fits.lawful.lists) in
     subst (λ (n : ℕ). AreInside n room.sets) works (subst (AreInside (length graph.nodes)) (sym made.sets) (named_inside graph call named))
-  where
-    none-is : (o : Option ℕ) → is_none o ≡ true → o ≡ None
-    none-is None h = refl
-    none-is (Some place) h = absurd (false≢true h)
 
 pub looks_few : (graph : Graph) (s : Core) (caller : ℕ) (call : Call) (room : Roomy) → can_begin graph s caller call ≡ true
     → IsRoomFor graph call room → length room.looks ≤ LOOKS

@@ -28,6 +28,7 @@ use Rattle.flow_model.specs.Follows.Others.{with_frame}
 use Rattle.flow_state.proofs.OneCell.{cell-changed}
 use Rattle.flow_state.specs.Fitting.{IsBookOf, IsListStep, MakesList, list_of, choosers}
 use Rattle.entering.specs.Entering.{CanEnter, Enters}
+use Rattle.entering.proofs.Marked.{has-list}
 use Rattle.framing.specs.Framed.{wanting_all, CanFrame, SomeCanFrame, TakesFrame, AreBelow, EdgesBelow}
 use Rattle.framing.proofs.Wanting.{on-twice, all-append, opened-all, all-version}
 
@@ -55,14 +56,11 @@ frame_can graph s book n list t fits is h =
 pub some_frame : (graph : Graph) (book : Booked) (n : ℕ) (list : Versions) (t : ℕ) → IsListStep graph book n list (step.Frame t n) → SomeCanFrame book n list t
 some_frame graph book n list t h = record { graph = graph; state = h.state; can = frame_can graph h.state book n list t h.fits h.is_list h.allowed }
 
-list_has : (graph : Graph) (s : Core) (n : ℕ) (list : Versions) (t : ℕ) → list ≡ list_of graph s n → has list.entries t ≡ has (entries s n) t
-list_has graph s n list t is = ap (λ (l : Versions). has l.entries t) is
-
 pub can_raise : (graph : Graph) (s : Core) (book : Booked) (n : ℕ) (list : Versions) (t : ℕ) → CanFrame graph s book n list t → has list.entries t ≡ true → at is_mark list.entries t ≡ true
-can_raise graph s book n list t can h = ap (λ (l : Versions). at is_mark l.entries t) can.is_list ∙ can.mark (sym (list_has graph s n list t can.is_list) ∙ h)
+can_raise graph s book n list t can h = ap (λ (l : Versions). at is_mark l.entries t) can.is_list ∙ can.mark (sym (has-list graph s n t list can.is_list) ∙ h)
 
 pub frame_enters : (graph : Graph) (s : Core) (book : Booked) (n : ℕ) (list : Versions) (t : ℕ) → CanFrame graph s book n list t → has list.entries t ≡ false → CanEnter graph s book n list t
-frame_enters graph s book n list t can h = let none = sym (list_has graph s n list t can.is_list) ∙ h in record { fits = can.fits; is_list = can.is_list; node = can.node; is_live = can.is_live; no_entry = none; room = can.room none }
+frame_enters graph s book n list t can h = let none = sym (has-list graph s n t list can.is_list) ∙ h in record { fits = can.fits; is_list = can.is_list; node = can.node; is_live = can.is_live; no_entry = none; room = can.room none }
 
 -- ---- the Frame
 
@@ -74,7 +72,7 @@ entered s t n h = ap (λ (b : Bool). elim b [ true ↦ raise s t n | false ↦ e
 
 pub takes_by_raise : (book : Booked) (n : ℕ) (list new_list : Versions) (t : ℕ) → has list.entries t ≡ true → new_list ≡ with_entries list (with_state t state.Frame list.entries) → TakesFrame book n list t book new_list
 takes_by_raise book n list new_list t h is graph s can =
-    let m = can.mark (sym (list_has graph s n list t can.is_list) ∙ h) in
+    let m = can.mark (sym (has-list graph s n t list can.is_list) ∙ h) in
     let s_is = raised s t n m in (
       ap (λ (f : Book). record book { book = f }) can.fits.parts
           ∙ ap (λ (ws : List Work). record book { book = record (book_of s) { works = ws } }) (sym (kept-works n (set_state t state.Frame) (λ c. refl) s.cells))

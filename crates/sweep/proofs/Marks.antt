@@ -1,27 +1,23 @@
 -- What a mark asks and makes.
-use Rattle.std.proofs.Common.{◌≡◌, ℕ, zero, suc, ◌<◌, true, List, [], ◌∷◌, length, slice_index_or, subst, arith}
+use Rattle.std.proofs.Common.{◌≡◌, ℕ, ◌<◌, true, length, subst}
 use Rattle.script_tree.proofs.Truths.{and_left, and_right}
 use Rattle.signal_graph.specs.Graph.{Graph}
 use Rattle.node_versions.specs.declared.entry.State.TheVariants as state
 use Rattle.node_versions.specs.Entries.{Versions}
 use Rattle.flow_model.specs.declared.step.Step.TheVariants.{Mark}
-use Rattle.flow_model.specs.Machine.State.{Core, Cell, no_cell}
+use Rattle.flow_model.specs.Machine.State.{Core}
 use Rattle.flow_model.specs.Machine.Steps.{allowed}
 use Rattle.flow_model.proofs.OneStep.WhoMayStep.{mark-executes, mark-no_entry, executes-live}
 use Rattle.flow_state.specs.Booked.{Booked}
 use Rattle.flow_state.specs.Fitting.{IsBookOf, IsListStep, MakesList, list_of}
+use Rattle.flow_state.proofs.OneCell.{cell-inside}
 use Rattle.entering.specs.Entering.{CanEnter, SomeCanEnter, Enters}
-
-some_inside : (n : ℕ) (cs : List Cell) → 0 < length (slice_index_or cs n no_cell).entries → n < length cs
-some_inside n [] h = absurd (omega (arith, h))
-some_inside zero (c ∷ cs) h = omega arith
-some_inside (suc n) (c ∷ cs) h = let r = some_inside n cs h in omega (arith, r)
 
 mark_can : (graph : Graph) (s : Core) (book : Booked) (n : ℕ) (list : Versions) (t : ℕ) → 0 < length list.entries → IsBookOf graph s book → list ≡ list_of graph s n → allowed graph s (Mark t n) ≡ true → CanEnter graph s book n list t
 mark_can graph s book n list t some fits is h = record {
   fits = fits;
   is_list = is;
-  node = some_inside n s.cells (subst (λ (l : Versions). 0 < length l.entries) is some);
+  node = cell-inside s.cells n (subst (λ (l : Versions). 0 < length l.entries) is some);
   is_live = executes-live s t (mark-executes graph s t n h);
   no_entry = mark-no_entry graph s t n h;
   room = and_right _ _ (and_left _ _ h);
