@@ -2,21 +2,15 @@
 use Rattle.std.proofs.Common.{◌≡◌, ℕ, zero, suc, ◌+◌, ◌<◌, Bool, true, false, ◌||◌, ◌&&◌, ◌==◌, List, [], ◌∷◌, length, drop, get_or, Option, Some, None, refl, sym, ap, ◌∙◌, subst, true≢false}
 use Rattle.std.specs.Prelude.{slice_get}
 use Rattle.std.specs.List.{list_any, list_all}
-use Rattle.std.proofs.lemmas.List.{drop_more}
 use Rattle.std.proofs.lemmas.List.Folds.{list_any-append}
-use Rattle.std.proofs.lemmas.Option.{slice_get_within, get_or_from_slice_get}
 use Rattle.std.proofs.lemmas.Bool.{or_left, or_right, eq-eqb}
+use Rattle.script_tree.proofs.Lists.{drop_got}
 use Rattle.signal_graph.specs.Graph.{Graph, is_in, node_at, inputs_of}
 use Rattle.signal_graph.specs.Values.{nodes_in}
 use Rattle.signal_graph.proofs.Members.{index-in, any-picks}
 use Rattle.step_rules.specs.Rests.{AreBelow, rests_on}
 
 -- ---- items
-
--- what is left from an index on begins with the item there
-pub item-at : {A : Type 0} (xs : List A) (i : ℕ) (x : A) → slice_get xs i ≡ Some x → drop i xs ≡ x ∷ drop (i + 1) xs
-item-at {A} xs i x h = drop_more xs i x (slice_get_within xs i x h)
-    ∙ ap (λ (y : A). y ∷ drop (i + 1) xs) (get_or_from_slice_get xs i x x h)
 
 -- ---- picks
 
@@ -29,7 +23,7 @@ all-first test (Some n) rest = either (test n)
     either false = refl
 
 all-picks : (test : ℕ → Bool) (picks : List (Option ℕ)) (i : ℕ) (pick : Option ℕ) → slice_get picks i ≡ Some pick → list_all test (nodes_in (drop i picks)) ≡ (list_all test (nodes_in (pick ∷ [])) && list_all test (nodes_in (drop (i + 1) picks)))
-all-picks test picks i pick h = ap (λ (ps : List (Option ℕ)). list_all test (nodes_in ps)) (item-at picks i pick h) ∙ all-first test pick (drop (i + 1) picks)
+all-picks test picks i pick h = ap (λ (ps : List (Option ℕ)). list_all test (nodes_in ps)) (drop_got picks i pick h) ∙ all-first test pick (drop (i + 1) picks)
 
 pub any_picks_found : (test : ℕ → Bool) (picks : List (Option ℕ)) (i : ℕ) (pick : Option ℕ) (whole : Bool) → slice_get picks i ≡ Some pick → list_any test (nodes_in (drop i picks)) ≡ whole → list_any test (nodes_in (pick ∷ [])) ≡ true → true ≡ whole
 any_picks_found test picks i pick whole h so k = sym (ap (λ (b : Bool). b || list_any test (nodes_in (drop (i + 1) picks))) k) ∙ sym (any-picks test picks i pick h) ∙ so

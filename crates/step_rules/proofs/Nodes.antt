@@ -1,17 +1,11 @@
 -- Searches of lists of nodes, and the nodes among picks.
-use Rattle.std.proofs.Common.{◌≡◌, ℕ, zero, suc, ◌+◌, ◌<◌, ◌≤◌, Bool, true, false, List, [], ◌∷◌, ◌++◌, length, take, drop, get_or, find, refl, sym, ap, ◌∙◌, arith, Option, Some, None}
+use Rattle.std.proofs.Common.{◌≡◌, ℕ, ◌+◌, ◌<◌, ◌≤◌, Bool, true, false, List, [], ◌∷◌, ◌++◌, length, take, drop, get_or, find, refl, sym, ap, ◌∙◌, arith, Option, Some, None}
 use Rattle.std.specs.Prelude.{slice_get}
-use Rattle.std.proofs.lemmas.List.{drop_more, take_more}
+use Rattle.std.proofs.lemmas.List.{drop_more, take_more, drop_all, length-take}
 use Rattle.std.proofs.lemmas.Option.{slice_get_within, get_or_from_slice_get}
 use Rattle.signal_graph.specs.Values.{nodes_in}
 use Rattle.signal_graph.proofs.Members.{nodes_in-length, nodes_in-append}
 use Rattle.node_versions.specs.Entries.{Versions}
-
-drop-all : (xs : List ℕ) (i : ℕ) → length xs ≤ i → drop i xs ≡ []
-drop-all [] zero h = refl
-drop-all [] (suc i) h = refl
-drop-all (x ∷ xs) zero h = absurd (omega (arith, h))
-drop-all (x ∷ xs) (suc i) h = drop-all xs i (omega (arith, h))
 
 -- what is found first from an index on
 pub find-here : (test : ℕ → Bool) (xs : List ℕ) (i d : ℕ) (whole : Option ℕ) → i < length xs → find test (drop i xs) ≡ whole → true ≡ test (get_or xs i d) → Some (get_or xs i d) ≡ whole
@@ -21,7 +15,7 @@ pub find-more : (test : ℕ → Bool) (xs : List ℕ) (i d : ℕ) (whole : Optio
 find-more test xs i d whole h so is = let r = ap (find test) (drop_more xs i d h) in grind (arith, r, so, is)
 
 pub find-none : (test : ℕ → Bool) (xs : List ℕ) (i : ℕ) (whole : Option ℕ) → length xs ≤ i → find test (drop i xs) ≡ whole → None ≡ whole
-find-none test xs i whole h so = sym (ap (find test) (drop-all xs i h)) ∙ so
+find-none test xs i whole h so = sym (ap (find test) (drop_all i xs h)) ∙ so
 
 -- a loop over lists that stay as they are
 pub record Stays {A : Type 0} (listing : A → ℕ → Versions) (count : A → ℕ) (old now : A) : Type 0 where
@@ -42,13 +36,8 @@ take-more : {X : Type 0} (xs : List X) (i : ℕ) (x : X) → slice_get xs i ≡ 
 take-more {X} xs i x h = take_more xs i x (slice_get_within xs i x h)
     ∙ ap (λ (y : X). take i xs ++ y ∷ []) (get_or_from_slice_get xs i x x h)
 
-take-length : {X : Type 0} (xs : List X) (i : ℕ) → length (take i xs) ≤ i
-take-length xs zero = omega arith
-take-length [] (suc i) = omega arith
-take-length (x ∷ xs) (suc i) = let r = take-length xs i in omega (arith, r)
-
 pub nodes-few : (ps : List (Option ℕ)) (i : ℕ) → length (nodes_in (take i ps)) ≤ i
-nodes-few ps i = let r = nodes_in-length (take i ps) in let s = take-length ps i in omega (arith, r, s)
+nodes-few ps i = let r = nodes_in-length (take i ps) in let s = length-take i ps in omega (arith, r, s)
 
 pub room-left : (items ns : List ℕ) (i len room : ℕ) → items ≡ ns → length ns ≤ i → i < len → len ≤ room → length items < room
 room-left items ns i len room is few h most = let l = ap (λ (xs : List ℕ). length xs) is in omega (arith, l, few, h, most)

@@ -3,6 +3,7 @@ use Rattle.std.proofs.Common.{◌≡◌, ℕ, ◌+◌, ◌<◌, ◌≤◌, Bool,
 use Rattle.std.specs.List.{position_or_len, position, slice_get}
 use Rattle.std.proofs.lemmas.Bool.Decides.{eqb_tells, nat_tests}
 use Rattle.std.proofs.lemmas.Bool.{eqb-true}
+use Rattle.script_tree.proofs.Lists.{drop_got}
 use Rattle.node_versions.specs.declared.entry.Entry.{Entry}
 use Rattle.node_versions.specs.declared.entry.State.{State}
 use Rattle.node_versions.specs.Entries.{is_mark, is_frame, has, at, behind, before, IsUnique, is_of, first_open, OutEdge, has_out, has_node, is_edge}
@@ -11,7 +12,6 @@ use Rattle.node_versions.proofs.Indexes.{opens, entry_at_index}
 use Rattle.flow_model.specs.Machine.Next.{blocked, blocked_by, kept_if}
 use Rattle.flow_model.proofs.Together.WorkIsAllowed.{first_open-has}
 use Rattle.step_rules.specs.Sights.{sight_of}
-use Rattle.step_rules.proofs.Going.{item-at}
 
 -- where the first Frame stands below an index, and where it doesn't
 pub open_below : (es : List Entry) (n : ℕ) → first_open (take n es) ≡ elim (nat_lt (position_or_len opens es) n) as (λ _. Option ℕ) [ true ↦ first_open es | false ↦ None ]
@@ -146,11 +146,11 @@ below-none es n is = sym (open_below es n ∙ go (nat_lt (position_or_len opens 
 -- what is found from an index on
 pub out-here : (outs : List OutEdge) (i n t : ℕ) (edge : OutEdge) → slice_get outs i ≡ Some edge
     → has_out (drop i outs) n t ≡ (is_edge n t edge || has_out (drop (i + 1) outs) n t)
-out-here outs i n t edge h = ap (λ (xs : List OutEdge). has_out xs n t) (item-at outs i edge h)
+out-here outs i n t edge h = ap (λ (xs : List OutEdge). has_out xs n t) (drop_got outs i edge h)
 
 pub node-here : (outs : List OutEdge) (i n : ℕ) (edge : OutEdge) → slice_get outs i ≡ Some edge
     → has_node (drop i outs) n ≡ ((edge.0 == n) || has_node (drop (i + 1) outs) n)
-node-here outs i n edge h = ap (λ (xs : List OutEdge). has_node xs n) (item-at outs i edge h)
+node-here outs i n edge h = ap (λ (xs : List OutEdge). has_node xs n) (drop_got outs i edge h)
 
 -- ---- what a list says of a call
 

@@ -1,6 +1,6 @@
 -- Which point applies first.
 use Rattle.std.proofs.Common.{◌≡◌, ℕ, Bool, true, false, not, List, [], ◌∷◌, ◌++◌, map, drop, find, refl, sym, ap, ap₂, ◌∙◌, Option, Some, None}
-use Rattle.std.proofs.lemmas.Bool.{not_from_false}
+use Rattle.std.proofs.lemmas.Bool.{not_from_false, not_from_true}
 use Rattle.std.specs.List.{list_any}
 use Rattle.signal_graph.specs.Graph.{Graph, node_at, is_source, inputs_of}
 use Rattle.node_versions.specs.Entries.{Versions, first_open}
@@ -31,9 +31,6 @@ when-hit b x rest e = sym (ap (λ (c : Bool). first_of (when c x ∷ rest)) e)
 
 when-miss : (b : Bool) (x : Turn) (rest : List (Option Turn)) → b ≡ false → first_of rest ≡ first_of (when b x ∷ rest)
 when-miss b x rest e = sym (ap (λ (c : Bool). first_of (when c x ∷ rest)) e)
-
-flop : (b : Bool) → b ≡ true → not b ≡ false
-flop b e = ap not e
 
 -- ---- who is helped
 
@@ -104,7 +101,7 @@ module _ (graph : Graph) (book : Booked) (lists : ℕ → Versions) (t n : ℕ) 
   touch-hit e = when-hit _ (turn.Step (Skip t n)) _ (not_from_false _ e)
 
   pub touch-miss : (x : Turn) → list_any (changes (bare book.book) t) (inputs_of (node_at graph n) ++ picked_in lists t n) ≡ true → x ≡ first_of (drop 5 (points_in graph book lists t false n)) → x ≡ first_of (drop 4 (points_in graph book lists t false n))
-  touch-miss x e r = r ∙ when-miss _ (turn.Step (Skip t n)) _ (flop _ e)
+  touch-miss x e r = r ∙ when-miss _ (turn.Step (Skip t n)) _ (not_from_true _ e)
 
   pub gather-hit : (m : ℕ) → find (λ m. not (is_gathered (bare book.book) n m)) (inputs_of (node_at graph n)) ≡ Some m → reading_in book lists t m (Gather t n m) ≡ first_of (drop 5 (points_in graph book lists t false n))
   gather-hit m e = some-hit _ (λ m. reading_in book lists t m (Gather t n m)) m _ e
@@ -116,7 +113,7 @@ module _ (graph : Graph) (book : Booked) (lists : ℕ → Versions) (t n : ℕ) 
   evaluate-hit e = when-hit _ (turn.Step (Evaluate t n)) _ (not_from_false _ e)
 
   pub evaluate-miss : (x : Turn) → is_found (bare book.book) n ≡ true → x ≡ first_of (drop 7 (points_in graph book lists t false n)) → x ≡ first_of (drop 6 (points_in graph book lists t false n))
-  evaluate-miss x e r = r ∙ when-miss _ (turn.Step (Evaluate t n)) _ (flop _ e)
+  evaluate-miss x e r = r ∙ when-miss _ (turn.Step (Evaluate t n)) _ (not_from_true _ e)
 
   pub new-hit : (c : ℕ) → find (is_new_in lists t n (picked_in lists t n)) (found_candidates (bare book.book) n) ≡ Some c → entered_in book lists t c (Discover t n c) ≡ first_of (drop 7 (points_in graph book lists t false n))
   new-hit c e = some-hit _ (λ c. entered_in book lists t c (Discover t n c)) c _ e
@@ -134,7 +131,7 @@ module _ (graph : Graph) (book : Booked) (lists : ℕ → Versions) (t n : ℕ) 
   body-hit e = when-hit _ (turn.Step (Body t n)) _ (not_from_false _ e)
 
   pub body-miss : (x : Turn) → has_body_value graph (bare book.book) n ≡ true → x ≡ first_of (drop 10 (points_in graph book lists t false n)) → x ≡ first_of (drop 9 (points_in graph book lists t false n))
-  body-miss x e r = r ∙ when-miss _ (turn.Step (Body t n)) _ (flop _ e)
+  body-miss x e r = r ∙ when-miss _ (turn.Step (Body t n)) _ (not_from_true _ e)
 
   pub held-hit : (o : ℕ) → find (is_held_in lists n (found_candidates (bare book.book) n)) (picked_in lists t n) ≡ Some o → entered_in book lists t o (Drop t n o) ≡ first_of (drop 10 (points_in graph book lists t false n))
   held-hit o e = some-hit _ (λ o. entered_in book lists t o (Drop t n o)) o _ e
@@ -154,4 +151,4 @@ module _ (graph : Graph) (book : Booked) (lists : ℕ → Versions) (t : ℕ) wh
   open-next n x e o r = r ∙ some-hit (least (call_in book t).open_nodes) (λ n. first_of (points_in graph book lists t false n)) n _ o ∙ two-miss _ _ _ e
 
   pub open-next_at : (n : ℕ) (x : Turn) → None ≡ first_point (first_points graph book lists t) → opens (bare book.book) t n ≡ true → x ≡ first_of (points_in graph book lists t true n) → x ≡ turn_at_in graph book lists t n
-  open-next_at n x e o r = r ∙ when-miss _ (turn.NotYet (NotOpen n)) _ (flop _ o) ∙ two-miss _ _ _ e
+  open-next_at n x e o r = r ∙ when-miss _ (turn.NotYet (NotOpen n)) _ (not_from_true _ o) ∙ two-miss _ _ _ e
