@@ -201,9 +201,14 @@ impl<'g, J: Naming> Locked<'g, J> {
         self.parking.waits(caller)
     }
 
-    /// Those that the last move lets go on, where there are any.
+    /// Whether the last move lets any go on.
     #[inline(always)]
-    pub(crate) fn take_freed(&mut self) -> Option<CallerSet>
+    pub(crate) fn is_any_freed(&self) -> bool {
+        self.parking.is_any_freed()
+    }
+
+    /// Those that the last move lets go on.
+    pub(crate) fn take_freed(&mut self) -> CallerSet
         ensures { self.new ≡ self.old }
     {
         self.parking.take_freed()
@@ -297,7 +302,7 @@ impl<'g, J: Naming> Locked<'g, J> {
         };
         self.core.apply(step);
         self.writer.append(made);
-        self.parking.moved(caller, Moment::of(step));
+        self.parking.stepped(caller, step);
     }
 
     /// Begins a call of an idle caller, of which a copy and room for the looks are made already, if there was memory.
@@ -445,7 +450,7 @@ impl<'g, J: Naming> Locked<'g, J> {
         };
         let version = self.core.begin(caller, call, room);
         self.writer.append(beginning);
-        self.parking.moved(caller, Moment::Move);
+        self.parking.moved(caller);
         version
     }
 
@@ -583,6 +588,7 @@ impl<'g, J: Naming> Locked<'g, J> {
     }
 
     // The job of an evaluation that is due, unless it is out already.
+    #[inline(always)]
     fn hand_out<'r>(&mut self, met: Met, node: u32, room: &'r mut JobRoom) -> Advance<'g, 'r, J>
         requires met { IsMet J.graph J.callers J.limit met self.old.moves }
         requires free { is_out met.caller self.old.out ≡ false }
@@ -672,7 +678,7 @@ impl<'g, J: Naming> Locked<'g, J> {
         };
         self.core.put(answer);
         self.writer.append(answered);
-        self.parking.moved(caller, Moment::Move);
+        self.parking.moved(caller);
     }
 
     /// The least node at or above one that is open for a live call.

@@ -2,6 +2,7 @@
 
 use crate::callers::CallerSet;
 use crate::moment::Moment;
+use flow_model::Step;
 use script_tree::memory::OutOfMemory;
 use std::alloc::Global;
 
@@ -101,25 +102,43 @@ impl Parking {
         self.waiting = self.waiting.saturating_sub(1);
     }
 
-    /// A caller's call has made a move, with which it comes to this: whoever waited for that goes on, and whoever waited for any move.
-    pub(crate) fn moved(&mut self, caller: u32, come: Moment) {
-        if self.waiting == 0 {
-            return;
+    /// A caller's call has made a step: whoever waited for what it comes to with that goes on, and whoever waited for any move.
+    #[inline(always)]
+    pub(crate) fn stepped(&mut self, caller: u32, step: Step) {
+        if self.waiting != 0 {
+            self.come_to(caller, Moment::of(step));
         }
+    }
+
+    /// A caller's call has made a move that nobody waits for in particular: whoever waited for any move goes on.
+    #[inline(always)]
+    pub(crate) fn moved(&mut self, caller: u32) {
+        if self.waiting != 0 {
+            self.come_to(caller, Moment::Move);
+        }
+    }
+
+    // A caller's call has made a move, with which it comes to this.
+    #[cold]
+    #[inline(never)]
+    fn come_to(&mut self, caller: u32, come: Moment) {
         self.forget(caller);
         self.free(NOBODY, come);
         self.free(caller, come);
     }
 
-    /// Those that may go on, where there are any. They are to be woken once the lock is free.
-    pub(crate) fn take_freed(&mut self) -> Option<CallerSet> {
-        if !self.is_any_freed {
-            return None;
-        }
+    /// Whether there are any that may go on and were not woken yet.
+    #[inline(always)]
+    pub(crate) fn is_any_freed(&self) -> bool {
+        self.is_any_freed
+    }
+
+    /// Those that may go on. They are to be woken once the lock is free.
+    pub(crate) fn take_freed(&mut self) -> CallerSet {
         let freed = self.freed;
         self.freed = CallerSet::new();
         self.is_any_freed = false;
-        Some(freed)
+        freed
     }
 
     // Of those that wait for a caller, lets those go on that waited for this.

@@ -12,7 +12,7 @@ ghost use Rattle.sweeper.specs.Ends.{Closes, HasAllPasses, fresh};
 ghost use Rattle.caller_fronts.specs.Fronts.{IsLater};
 ghost use Rattle.caller_fronts.specs.Jobs.{job_of};
 
-use crate::callers::{Beds, CallerSet};
+use crate::callers::Beds;
 use crate::list::PassList;
 use crate::locked::{Locked, Prepared};
 use crate::moves::Move;
@@ -27,7 +27,7 @@ use script_tree::memory::OutOfMemory;
 use signal_graph::call::{Call, ValueList};
 use signal_graph::graph::Graph;
 use std::alloc::Global;
-use std::sync::{Mutex, Wait};
+use std::sync::{Mutex, MutexGuard, Wait};
 
 /// A graph's machine of interleaved calls, under one lock. Each of its calls that takes a pass or a live call locks once, and makes
 /// at most one move; scripts are evaluated with no lock held. All moves are one history. What a call promises holds if it returns.
@@ -92,9 +92,7 @@ impl<'g, J: Naming> Sweeper<'g, J> {
         let prepared = Prepared::new(alloc, call);
         let mut locked = self.locked.lock(rt);
         let begun = locked.begin(alloc, pass, call, prepared);
-        let freed = locked.take_freed();
-        drop(locked);
-        self.wake(freed);
+        self.let_go(locked);
         begun
     }
 
@@ -113,9 +111,7 @@ impl<'g, J: Naming> Sweeper<'g, J> {
     {
         let mut locked = self.locked.lock(rt);
         let advance = locked.advance(live, room);
-        let freed = locked.take_freed();
-        drop(locked);
-        self.wake(freed);
+        self.let_go(locked);
         advance
     }
 
@@ -133,9 +129,7 @@ impl<'g, J: Naming> Sweeper<'g, J> {
     {
         let mut locked = self.locked.lock(rt);
         let advance = locked.advance_at(live, node, room);
-        let freed = locked.take_freed();
-        drop(locked);
-        self.wake(freed);
+        self.let_go(locked);
         advance
     }
 
@@ -159,9 +153,7 @@ impl<'g, J: Naming> Sweeper<'g, J> {
     {
         let mut locked = self.locked.lock(rt);
         let live = locked.put(live, answer);
-        let freed = locked.take_freed();
-        drop(locked);
-        self.wake(freed);
+        self.let_go(locked);
         live
     }
 
@@ -172,14 +164,13 @@ impl<'g, J: Naming> Sweeper<'g, J> {
     {
         let mut locked = self.locked.lock(rt);
         let ended = locked.end(live);
-        let freed = locked.take_freed();
-        drop(locked);
-        self.wake(freed);
+        self.let_go(locked);
         ended
     }
 
     /// Whether the scripts of a node take long to evaluate, so that a thread had better hold up nobody meanwhile. It is a hint, on which
     /// no answer rests; of a node that the graph does not have it is false. Takes no lock, and no memory.
+    #[inline]
     pub fn is_heavy(&self, node: u32) -> bool {
         node < self.heavy.size() && self.heavy.contains(node)
     }
@@ -209,11 +200,24 @@ impl<'g, J: Naming> Sweeper<'g, J> {
         locked.see(live)
     }
 
-    // Wakes those that may go on. No lock is held, so none of them has to wait for it at once.
-    fn wake(&self, freed: Option<CallerSet>) {
-        if let Some(callers) = freed {
-            self.beds.wake(&callers);
+    // Lets the lock go, after a move that may have been in the way of others.
+    #[inline(always)]
+    fn let_go(&self, locked: MutexGuard<'_, Locked<'g, J>>) {
+        if locked.is_any_freed() {
+            self.wake(locked);
+        } else {
+            drop(locked);
         }
+    }
+
+    // Lets the lock go and wakes those that may go on. No lock is held by then, so none of them has to wait for it at once.
+    #[cold]
+    #[inline(never)]
+    fn wake(&self, locked: MutexGuard<'_, Locked<'g, J>>) {
+        let mut locked = locked;
+        let freed = locked.take_freed();
+        drop(locked);
+        self.beds.wake(&freed);
     }
 
     /// Ends it: the log and the last values after the longest front of the passes, which are those of all its callers. Takes no memory.
