@@ -2,38 +2,38 @@
 use Rattle.std.proofs.Common.{◌≡◌, ℕ, ◌+◌, ◌<◌, ◌≤◌, List, length, take, get_or, Option, Some, None, refl, sym, ap, ◌∙◌, arith}
 use Rattle.script_tree.specs.declared.expr.Expr.{Expr}
 use Rattle.script_tree.specs.Tree.{Tree}
-use Rattle.script_grammar.specs.declared.frame.Frame as code
+use Rattle.script_grammar.specs.declared.pending.Pending as code
 use Rattle.script_grammar.specs.declared.next.Next.{Next}
 use Rattle.script_grammar.specs.declared.next.Next.TheVariants.{Fails}
 use Rattle.script_grammar.specs.declared.token.Token.{Token}
 use Rattle.script_grammar.specs.Grammar.{BeginsWithin, IsTooDeepAt, Spells}
 use Rattle.script_grammar.specs.Reading.{State, step, run, finish}
 use Rattle.script_grammar.specs.Nesting.{nesting}
-use Rattle.script_grammar.specs.Frames.{state_of, next_of}
+use Rattle.script_grammar.specs.Stacks.{state_of, next_of}
 use Rattle.script_grammar.specs.Refusals.{IsFirstFaultAt}
 use Rattle.script_grammar.proofs.Places.{start, fault_at, ends_early, is_spelled}
 use Rattle.script_grammar.proofs.Depths.{ReadsTo, deep_at, reads_more, shallow_to, shallow_all}
 
 -- a step of the reader at a place
-pub record Advances (limit : ℕ) (ts : List Token) (i : ℕ) (d : Token) (st : State) (next : Next) (frames : List code.Frame) (depth : ℕ) : Type 0 where
+pub record Advances (limit : ℕ) (ts : List Token) (i : ℕ) (d : Token) (st : State) (next : Next) (begun : List code.Pending) (depth : ℕ) : Type 0 where
   pub so_far : ReadsTo limit ts i st
   pub within : i < length ts
-  pub leads : next_of next frames ≡ step st (get_or ts i d)
+  pub leads : next_of next begun ≡ step st (get_or ts i d)
   pub deep : depth ≡ nesting st (get_or ts i d)
 
-pub fails : (limit : ℕ) (ts : List Token) (i : ℕ) (d : Token) (st : State) (next : Next) (frames : List code.Frame) (depth : ℕ) → Advances limit ts i d st next frames depth → next ≡ Fails → IsFirstFaultAt limit ts i
-fails limit ts i d st next frames depth a e = record {
-  fault = fault_at ts i d _ st a.so_far.reads a.within refl (sym a.leads ∙ ap (λ n. next_of n frames) e);
+pub fails : (limit : ℕ) (ts : List Token) (i : ℕ) (d : Token) (st : State) (next : Next) (begun : List code.Pending) (depth : ℕ) → Advances limit ts i d st next begun depth → next ≡ Fails → IsFirstFaultAt limit ts i
+fails limit ts i d st next begun depth a e = record {
+  fault = fault_at ts i d _ st a.so_far.reads a.within refl (sym a.leads ∙ ap (λ n. next_of n begun) e);
   shallow = shallow_to limit ts i st a.so_far (omega (arith, a.within));
 }
 
-pub too_deep : (limit : ℕ) (ts : List Token) (i : ℕ) (d : Token) (st : State) (next : Next) (frames : List code.Frame) (depth : ℕ) (top : Option Expr) → Advances limit ts i d st next frames depth → limit < depth → next_of next frames ≡ Some (state_of frames top) → IsTooDeepAt limit ts i
-too_deep limit ts i d st next frames depth top a deep e =
-    deep_at limit ts i d _ st (state_of frames top) a.so_far a.within refl (sym a.leads ∙ e) (omega (arith, a.deep))
+pub too_deep : (limit : ℕ) (ts : List Token) (i : ℕ) (d : Token) (st : State) (next : Next) (begun : List code.Pending) (depth : ℕ) (top : Option Expr) → Advances limit ts i d st next begun depth → limit < depth → next_of next begun ≡ Some (state_of begun top) → IsTooDeepAt limit ts i
+too_deep limit ts i d st next begun depth top a deep e =
+    deep_at limit ts i d _ st (state_of begun top) a.so_far a.within refl (sym a.leads ∙ e) (omega (arith, a.deep))
 
-pub goes_on : (limit : ℕ) (ts : List Token) (i : ℕ) (d : Token) (st : State) (next : Next) (frames : List code.Frame) (depth : ℕ) (top : Option Expr) → Advances limit ts i d st next frames depth → depth ≤ limit → next_of next frames ≡ Some (state_of frames top) → ReadsTo limit ts (i + 1) (state_of frames top)
-goes_on limit ts i d st next frames depth top a shallow e =
-    reads_more limit ts i d _ st (state_of frames top) a.so_far a.within refl (sym a.leads ∙ e) (omega (arith, a.deep))
+pub goes_on : (limit : ℕ) (ts : List Token) (i : ℕ) (d : Token) (st : State) (next : Next) (begun : List code.Pending) (depth : ℕ) (top : Option Expr) → Advances limit ts i d st next begun depth → depth ≤ limit → next_of next begun ≡ Some (state_of begun top) → ReadsTo limit ts (i + 1) (state_of begun top)
+goes_on limit ts i d st next begun depth top a shallow e =
+    reads_more limit ts i d _ st (state_of begun top) a.so_far a.within refl (sym a.leads ∙ e) (omega (arith, a.deep))
 
 pub at_end : (limit : ℕ) (ts : List Token) (i : ℕ) (st : State) → ReadsTo limit ts i st → i ≡ length ts → ReadsTo limit ts (length ts) st
 at_end limit ts i st r e = record {

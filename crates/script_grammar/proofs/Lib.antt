@@ -5,7 +5,7 @@ pub mod Places
 pub mod Printing
 pub mod Nesting
 pub mod Depths
-pub mod FrameLaws
+pub mod StackLaws
 pub mod Advances
 pub mod Leaves
 pub mod Answered

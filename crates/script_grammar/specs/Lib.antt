@@ -2,6 +2,6 @@ pub mod Grammar
 pub mod Reading
 pub mod Canonical
 pub mod Nesting
-pub mod Frames
+pub mod Stacks
 pub mod Refusals
 pub mod Words

@@ -4,11 +4,11 @@ use Rattle.script_grammar.specs.declared.token.Token.{Token}
 use Rattle.script_grammar.specs.declared.token.Token.TheVariants.{Closes, ThenWord, ElseWord}
 use Rattle.script_grammar.specs.Reading.{InRight, Stack, State, Wants, Has, close, step}
 
--- how many frames nest what stands inside them: all but operators between two sides
+-- how much of what is begun nests what stands inside it: all but operators between two sides
 abbrev pub count : Stack → ℕ
 count [] = 0
 count (InRight x op ∷ s) = count s
-count (frame ∷ s) = count s + 1
+count (pending ∷ s) = count s + 1
 
 -- the same of a state
 abbrev pub count_of : State → ℕ

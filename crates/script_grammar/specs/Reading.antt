@@ -10,17 +10,17 @@ use Rattle.script_grammar.specs.declared.token.Token.TheVariants.{Plain as W, Si
 use Rattle.script_grammar.specs.Grammar.{word_tree, binds, left}
 
 -- what is begun and wants an operand
-pub data Frame : Type 0 where
-  InOpen : Frame
-  InPrefix : (op : Unary) → Frame
-  InRight : (x : Tree) (op : Binary) → Frame
-  InTest : Frame
-  InThen : (c : Tree) → Frame
-  InElse : (c x : Tree) → Frame
+pub data Pending : Type 0 where
+  InOpen : Pending
+  InPrefix : (op : Unary) → Pending
+  InRight : (x : Tree) (op : Binary) → Pending
+  InTest : Pending
+  InThen : (c : Tree) → Pending
+  InElse : (c x : Tree) → Pending
 
 -- what is begun, the innermost first
 abbrev pub Stack : Type 0
-Stack = List Frame
+Stack = List Pending
 
 -- an operand is wanted, or one is there
 pub data State : Type 0 where

@@ -1,10 +1,10 @@
 //! The grammar of scripts: its tokens, its laws, the reader of tokens and the writer of canonical tokens.
 #![tactic(auto)]
 
-mod frame;
 pub mod laws;
 mod level;
 mod next;
+mod pending;
 pub mod reader;
 mod stack;
 mod step;

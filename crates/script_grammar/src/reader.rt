@@ -6,7 +6,7 @@ ghost use Rattle.script_tree.specs.Scripts.{all_leaves};
 ghost use Rattle.script_tree.specs.Tree.{Tree, tree_of};
 ghost use Rattle.script_grammar.specs.Grammar.{BeginsWithin, Spells, word_tree};
 ghost use Rattle.script_grammar.specs.Reading.{finish};
-ghost use Rattle.script_grammar.specs.Frames.{state_of};
+ghost use Rattle.script_grammar.specs.Stacks.{state_of};
 ghost use Rattle.script_grammar.specs.Refusals.{IsRefusal};
 ghost use Rattle.script_grammar.specs.Words.{all_words};
 
@@ -43,7 +43,7 @@ impl From<AllocError> for Refusal {
 
 // The tree, if nothing is begun any more.
 fn finished(alloc: Global, stack: &mut Stack, top: Option<Expr>) -> Result<Option<Expr>, AllocError>
-    ensures { IfOk result (λ found. option_map tree_of found ≡ finish (Some (state_of stack.old.frames.items top))) }
+    ensures { IfOk result (λ found. option_map tree_of found ≡ finish (Some (state_of stack.old.begun.items top))) }
 {
     let Some(x) = top else {
         return Ok(None);

@@ -6,11 +6,11 @@ ghost use Rattle.script_grammar.specs.Grammar.{left, word_tree};
 ghost use Rattle.script_grammar.specs.Reading.{Has, Wants, close, on_close, on_else, on_then, operate, reduce, step};
 ghost use Rattle.script_grammar.specs.Nesting.{count, count_of, nesting};
 ghost use Rattle.script_grammar.specs.declared.next.Next.TheVariants.{Fails};
-ghost use Rattle.script_grammar.specs.Frames.{frame_of, next_of, stack_of, state_of};
+ghost use Rattle.script_grammar.specs.Stacks.{pending_of, next_of, stack_of, state_of};
 
-use crate::frame::Frame;
 use crate::level::{binds, left};
 use crate::next::{Next, Step};
+use crate::pending::Pending;
 use crate::stack::Stack;
 use crate::token::{Token, Word};
 use script_tree::expr::{Binary, Expr, Unary};
@@ -29,25 +29,25 @@ fn leaf(word: Word) -> Expr
     }
 }
 
-fn begin(stack: &mut Stack, frame: Frame) -> Result<Next, AllocError>
-    ensures { IfOk result (λ next. next_of next stack.new.frames.items ≡ Some (Wants (frame_of frame ∷ stack_of stack.old.frames.items))) }
+fn begin(stack: &mut Stack, pending: Pending) -> Result<Next, AllocError>
+    ensures { IfOk result (λ next. next_of next stack.new.begun.items ≡ Some (Wants (pending_of pending ∷ stack_of stack.old.begun.items))) }
 {
-    stack.push(frame)?;
+    stack.push(pending)?;
     Ok(Next::WantsMore)
 }
 
 // A token where an operand is wanted.
 fn begun(alloc: Global, stack: &mut Stack, token: Token) -> Result<Next, AllocError>
-    ensures { IfOk result (λ next. next_of next stack.new.frames.items ≡ step (Wants (stack_of stack.old.frames.items)) token) }
+    ensures { IfOk result (λ next. next_of next stack.new.begun.items ≡ step (Wants (stack_of stack.old.begun.items)) token) }
 {
     match token {
         Token::Plain(word) => Ok(Next::HasOne(stack.settle(alloc, leaf(word))?)),
-        Token::Minus => begin(stack, Frame::Prefix(Unary::Negate)),
-        Token::Bang => begin(stack, Frame::Prefix(Unary::Not)),
-        Token::Opens => begin(stack, Frame::Open),
+        Token::Minus => begin(stack, Pending::Prefix(Unary::Negate)),
+        Token::Bang => begin(stack, Pending::Prefix(Unary::Not)),
+        Token::Opens => begin(stack, Pending::Open),
         Token::IfWord => {
             if stack.need() == 0 {
-                begin(stack, Frame::Test)
+                begin(stack, Pending::Test)
             } else {
                 Ok(Next::Fails)
             }
@@ -59,7 +59,7 @@ fn begun(alloc: Global, stack: &mut Stack, token: Token) -> Result<Next, AllocEr
 // A token that can't follow.
 fn stray(stack: &Stack) -> Step
     ensures leads { result.next ≡ Fails }
-    ensures depth { result.nesting ≡ count (stack_of stack.now.frames.items) }
+    ensures depth { result.nesting ≡ count (stack_of stack.now.begun.items) }
 {
     Step {
         nesting: stack.nesting(),
@@ -68,8 +68,8 @@ fn stray(stack: &Stack) -> Step
 }
 
 fn operate(alloc: Global, op: Binary, stack: &mut Stack, x: Expr) -> Result<Step, AllocError>
-    ensures leads { IfOk result (λ s. next_of s.next stack.new.frames.items ≡ operate op (reduce (left op) (stack_of stack.old.frames.items) (tree_of x))) }
-    ensures depth { IfOk result (λ s. s.nesting ≡ count (stack_of stack.old.frames.items)) }
+    ensures leads { IfOk result (λ s. next_of s.next stack.new.begun.items ≡ operate op (reduce (left op) (stack_of stack.old.begun.items) (tree_of x))) }
+    ensures depth { IfOk result (λ s. s.nesting ≡ count (stack_of stack.old.begun.items)) }
 {
     let nesting = stack.nesting();
     let x = stack.reduce(alloc, left(op), x)?;
@@ -79,41 +79,41 @@ fn operate(alloc: Global, op: Binary, stack: &mut Stack, x: Expr) -> Result<Step
             next: Next::Fails,
         });
     }
-    let next = begin(stack, Frame::Right(x, op))?;
+    let next = begin(stack, Pending::Right(x, op))?;
     Ok(Step { nesting, next })
 }
 
 fn on_close(alloc: Global, stack: &mut Stack, x: Expr) -> Result<Next, AllocError>
-    ensures { IfOk result (λ next. next_of next stack.new.frames.items ≡ on_close (Has (stack_of stack.old.frames.items) (tree_of x))) }
+    ensures { IfOk result (λ next. next_of next stack.new.begun.items ≡ on_close (Has (stack_of stack.old.begun.items) (tree_of x))) }
 {
     match stack.pop() {
-        Some(Frame::Open) => Ok(Next::HasOne(stack.settle(alloc, x)?)),
+        Some(Pending::Open) => Ok(Next::HasOne(stack.settle(alloc, x)?)),
         _ => Ok(Next::Fails),
     }
 }
 
 fn on_then(stack: &mut Stack, x: Expr) -> Result<Next, AllocError>
-    ensures { IfOk result (λ next. next_of next stack.new.frames.items ≡ on_then (Has (stack_of stack.old.frames.items) (tree_of x))) }
+    ensures { IfOk result (λ next. next_of next stack.new.begun.items ≡ on_then (Has (stack_of stack.old.begun.items) (tree_of x))) }
 {
     match stack.pop() {
-        Some(Frame::Test) => begin(stack, Frame::Then(x)),
+        Some(Pending::Test) => begin(stack, Pending::Then(x)),
         _ => Ok(Next::Fails),
     }
 }
 
 fn on_else(stack: &mut Stack, x: Expr) -> Result<Next, AllocError>
-    ensures { IfOk result (λ next. next_of next stack.new.frames.items ≡ on_else (Has (stack_of stack.old.frames.items) (tree_of x))) }
+    ensures { IfOk result (λ next. next_of next stack.new.begun.items ≡ on_else (Has (stack_of stack.old.begun.items) (tree_of x))) }
 {
     match stack.pop() {
-        Some(Frame::Then(test)) => begin(stack, Frame::Else(test, x)),
+        Some(Pending::Then(test)) => begin(stack, Pending::Else(test, x)),
         _ => Ok(Next::Fails),
     }
 }
 
 // A token behind an operand. What ends before a closing token no longer nests it.
 fn followed(alloc: Global, stack: &mut Stack, x: Expr, token: Token) -> Result<Step, AllocError>
-    ensures leads { IfOk result (λ s. next_of s.next stack.new.frames.items ≡ step (Has (stack_of stack.old.frames.items) (tree_of x)) token) }
-    ensures depth { IfOk result (λ s. s.nesting ≡ nesting (Has (stack_of stack.old.frames.items) (tree_of x)) token) }
+    ensures leads { IfOk result (λ s. next_of s.next stack.new.begun.items ≡ step (Has (stack_of stack.old.begun.items) (tree_of x)) token) }
+    ensures depth { IfOk result (λ s. s.nesting ≡ nesting (Has (stack_of stack.old.begun.items) (tree_of x)) token) }
 {
     match token {
         Token::Sign(Binary::Subtract) => Ok(stray(stack)),
@@ -149,8 +149,8 @@ pub fn advance(
     top: Option<Expr>,
     token: Token,
 ) -> Result<Step, AllocError>
-    ensures leads { IfOk result (λ s. next_of s.next stack.new.frames.items ≡ step (state_of stack.old.frames.items top) token) }
-    ensures depth { IfOk result (λ s. s.nesting ≡ nesting (state_of stack.old.frames.items top) token) }
+    ensures leads { IfOk result (λ s. next_of s.next stack.new.begun.items ≡ step (state_of stack.old.begun.items top) token) }
+    ensures depth { IfOk result (λ s. s.nesting ≡ nesting (state_of stack.old.begun.items top) token) }
 {
     match top {
         None => {

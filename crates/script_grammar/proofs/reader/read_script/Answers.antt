@@ -1,7 +1,7 @@
 use Rattle.std.proofs.Common.{◌≡◌, length, Some, ap, sym, ◌∙◌, arith}
 use Rattle.std.specs.Option.{option_map}
 use Rattle.script_tree.specs.Tree.{tree_of}
-use Rattle.script_grammar.specs.Frames.{state_of, next_of}
+use Rattle.script_grammar.specs.Stacks.{state_of, next_of}
 use Rattle.script_grammar.proofs.reader.read_script.Goals as goal
 use Rattle.script_grammar.proofs.reader.read_script.Goals.{in-WantsMore, in-HasOne}
 use Rattle.script_grammar.proofs.Leaves.{leaves_are_words}
@@ -9,28 +9,28 @@ use Rattle.script_grammar.proofs.Advances.{fails, too_deep, goes_on, ended, ende
 
 pub returns-in-Fails-clause-fault : goal.returns-in-Fails-clause-fault
 returns-in-Fails-clause-fault c =
-    fails _ c.args.tokens.now c.loop-index.index _ _ _ c.advance.new.stack.frames.items _
+    fails _ c.args.tokens.now c.loop-index.index _ _ _ c.advance.new.stack.begun.items _
     (record { so_far = c.loop-index.invariant; within = c.loop-index-test.true; leads = c.in_ok-nesting.ensures.leads; deep = c.in_ok-nesting.ensures.depth })
     c.in-Fails.is
 
 pub returns-then-nesting-gt-LEVELS-clause-fault : goal.returns-then-nesting-gt-LEVELS-clause-fault
 returns-then-nesting-gt-LEVELS-clause-fault c =
-    too_deep _ c.args.tokens.now c.loop-index.index _ _ _ c.advance.new.stack.frames.items _ c.match-next.top
+    too_deep _ c.args.tokens.now c.loop-index.index _ _ _ c.advance.new.stack.begun.items _ c.match-next.top
     (record { so_far = c.loop-index.invariant; within = c.loop-index-test.true; leads = c.in_ok-nesting.ensures.leads; deep = c.in_ok-nesting.ensures.depth })
     c.if-nesting-gt-LEVELS.true
     (elim c.match-next.branch [
-      | in-WantsMore w ↦ ap (λ n. next_of n c.advance.new.stack.frames.items) w.in-WantsMore.is ∙ ap (λ t. Some (state_of c.advance.new.stack.frames.items t)) (sym w.top-is)
-      | in-HasOne w ↦ ap (λ n. next_of n c.advance.new.stack.frames.items) w.in-HasOne.is ∙ ap (λ t. Some (state_of c.advance.new.stack.frames.items t)) (sym w.top-is)
+      | in-WantsMore w ↦ ap (λ n. next_of n c.advance.new.stack.begun.items) w.in-WantsMore.is ∙ ap (λ t. Some (state_of c.advance.new.stack.begun.items t)) (sym w.top-is)
+      | in-HasOne w ↦ ap (λ n. next_of n c.advance.new.stack.begun.items) w.in-HasOne.is ∙ ap (λ t. Some (state_of c.advance.new.stack.begun.items t)) (sym w.top-is)
     ])
 
 pub loop-index-preserved : goal.loop-index-preserved
 loop-index-preserved c =
-    goes_on _ c.args.tokens.now c.loop-index.index _ _ _ c.advance.new.stack.frames.items _ c.match-next.top
+    goes_on _ c.args.tokens.now c.loop-index.index _ _ _ c.advance.new.stack.begun.items _ c.match-next.top
     (record { so_far = c.loop-index.invariant; within = c.loop-index-test.true; leads = c.in_ok-nesting.ensures.leads; deep = c.in_ok-nesting.ensures.depth })
     c.if-nesting-gt-LEVELS.false
     (elim c.match-next.branch [
-      | in-WantsMore w ↦ ap (λ n. next_of n c.advance.new.stack.frames.items) w.in-WantsMore.is ∙ ap (λ t. Some (state_of c.advance.new.stack.frames.items t)) (sym w.top-is)
-      | in-HasOne w ↦ ap (λ n. next_of n c.advance.new.stack.frames.items) w.in-HasOne.is ∙ ap (λ t. Some (state_of c.advance.new.stack.frames.items t)) (sym w.top-is)
+      | in-WantsMore w ↦ ap (λ n. next_of n c.advance.new.stack.begun.items) w.in-WantsMore.is ∙ ap (λ t. Some (state_of c.advance.new.stack.begun.items t)) (sym w.top-is)
+      | in-HasOne w ↦ ap (λ n. next_of n c.advance.new.stack.begun.items) w.in-HasOne.is ∙ ap (λ t. Some (state_of c.advance.new.stack.begun.items t)) (sym w.top-is)
     ])
 
 pub returns-in-Some-clause-found : goal.returns-in-Some-clause-found

@@ -3,13 +3,13 @@
 ghost use Rattle.std.specs.Prelude.{◌≡◌, ◌+◌, ◌∷◌};
 ghost use Rattle.script_grammar.specs.Reading.{Stack};
 ghost use Rattle.script_grammar.specs.Nesting.{count};
-ghost use Rattle.script_grammar.specs.Frames.{frame_of};
+ghost use Rattle.script_grammar.specs.Stacks.{pending_of};
 
 use script_tree::expr::{Binary, Expr, Unary};
 
 /// One thing that is begun, with the operands that it has already.
 #[derive(Debug, Drop)]
-pub enum Frame {
+pub enum Pending {
     /// A parenthesis.
     Open,
     /// An operator before its operand.
@@ -24,13 +24,13 @@ pub enum Frame {
     Else(Expr, Expr),
 }
 
-impl Frame {
+impl Pending {
     /// What it adds to the nesting of the tokens inside it.
     pub fn weight(&self) -> usize
-        ensures { (s : Stack) → count (frame_of self.now ∷ s) ≡ count s + result }
+        ensures { (s : Stack) → count (pending_of self.now ∷ s) ≡ count s + result }
     {
         match self {
-            Frame::Right(_, _) => 0,
+            Pending::Right(_, _) => 0,
             _ => 1,
         }
     }
