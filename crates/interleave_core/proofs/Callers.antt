@@ -1,6 +1,7 @@
 -- A caller without a live call.
 use Rattle.std.proofs.Common.{◌≡◌, ◌<◌, ◌≤◌, ◌∙◌, ◌==◌, ℕ, Bool, true, false, not, ◌&&◌, nat_le, nat_lt, List, [], ◌∷◌, length, Option, Some, None, is_some, is_none, refl, sym, ap, arith}
 use Rattle.std.proofs.lemmas.Bool.{le-leb, lt-ltb}
+use Rattle.std.proofs.lemmas.Option.{none-some}
 use Rattle.script_tree.specs.declared.limits.TheConstants.{SETS, LOOKS}
 use Rattle.signal_graph.specs.declared.call.Call.{Call}
 use Rattle.signal_graph.specs.declared.log.Why.{Why}
@@ -39,11 +40,8 @@ all_seven : (a b c d e f g : Bool) → a ≡ true → b ≡ true → c ≡ true 
     → (a && b && c && d && e && f && g) ≡ true
 all_seven a b c d e f g p q r s t u v = grind (arith, p, q, r, s, t, u, v)
 
-some≢none : (w : Why) → Some w ≡ None → ⊥
-some≢none w e = cc
-
 well-named : (begun limit : ℕ) (wrong : Option ℕ) → refused_for begun limit wrong ≡ None → is_none wrong ≡ true
-well-named begun limit (Some place) h = absurd (some≢none (UnknownName place) h)
+well-named begun limit (Some place) h = absurd (none-some (UnknownName place) (sym h))
 well-named begun limit None h = refl
 
 abbrev why_not : ℕ → Bool → Option Why
@@ -51,10 +49,10 @@ why_not limit b = elim b [ true ↦ None | false ↦ Some (VersionsUsedUp limit)
 
 some_left : (limit : ℕ) (b : Bool) → why_not limit b ≡ None → b ≡ true
 some_left limit true h = refl
-some_left limit false h = absurd (some≢none (VersionsUsedUp limit) h)
+some_left limit false h = absurd (none-some (VersionsUsedUp limit) (sym h))
 
 version-left : (begun limit : ℕ) (wrong : Option ℕ) → refused_for begun limit wrong ≡ None → nat_lt begun limit ≡ true
-version-left begun limit (Some place) h = absurd (some≢none (UnknownName place) h)
+version-left begun limit (Some place) h = absurd (none-some (UnknownName place) (sym h))
 version-left begun limit None h = some_left limit (nat_lt begun limit) h
 
 pub all-can : (graph : Graph) (s : Core) (call : Call) → length (sets_of call) ≤ SETS → length (looks_of call) ≤ LOOKS

@@ -2,10 +2,10 @@
 use Rattle.std.proofs.Common.{◌≡◌, ℕ, zero, suc, ◌+◌, ◌<◌, Bool, true, false, not, ◌&&◌, ◌||◌, ◌==◌, List, [], ◌∷◌, ◌++◌, length, map, filter, take, replicate, get_or, refl, sym, ap, ◌∙◌, subst, arith}
 use Rattle.std.specs.List.{range_with_len, AllByRecursion}
 use Rattle.std.proofs.Math.Seq.{take-suc}
-use Rattle.std.proofs.lemmas.List.{ext_get_or, map-id}
+use Rattle.std.proofs.lemmas.List.{ext_get_or, map-id, length-append}
 use Rattle.std.proofs.lemmas.List.Folds.{list_any-append}
 use Rattle.std.proofs.lemmas.List.FromFn.{length-map-range_with_len, get_or-map-range_with_len, map-range_with_len_more}
-use Rattle.std.proofs.lemmas.List.Elements.{filter-append}
+use Rattle.std.proofs.lemmas.List.Elements.{filter-append, All-from_recursion}
 use Rattle.std.proofs.lemmas.Bool.Decides.{eqb_tells}
 use Rattle.signal_graph.specs.declared.node.Node.{Node}
 use Rattle.signal_graph.specs.declared.node.Node.TheVariants.{Source, Signal, Fold, Choose}
@@ -25,10 +25,6 @@ numbers_are graph = numbers_range 0 graph.nodes
 pub range_more : (n : ℕ) → range_with_len 0 (n + 1) ≡ range_with_len 0 n ++ n ∷ []
 range_more n = sym (map-id (range_with_len 0 (n + 1))) ∙ map-range_with_len_more (λ (k : ℕ). k) 0 n n (omega arith)
     ∙ ap (λ (ms : List ℕ). ms ++ n ∷ []) (map-id (range_with_len 0 n))
-
-pub length-append : {X : Type 0} (xs ys : List X) → length (xs ++ ys) ≡ length xs + length ys
-length-append [] ys = omega arith
-length-append (x ∷ xs) ys = let r = length-append xs ys in omega (arith, r)
 
 -- how many of the numbers below n pass a test
 abbrev pub passing : (ℕ → Bool) → ℕ → List ℕ
@@ -140,10 +136,8 @@ selector_further m s ss i h is =
     or_false false true = refl
     or_false false false = refl
 
-pub all_at : (P : ℕ → Type 0) (ns : List ℕ) (i n : ℕ) → AllByRecursion P ns → i < length ns → n ≡ get_or ns i n → P n
-all_at P [] i n all h is = absurd (omega (arith, h))
-all_at P (x ∷ xs) zero n all h is = subst P (sym is) all.0
-all_at P (x ∷ xs) (suc i) n all h is = all_at P xs i n all.1 (omega (arith, h)) is
+pub all_at : {A : Type 0} (P : A → Type 0) (xs : List A) (i : ℕ) (x : A) → AllByRecursion P xs → i < length xs → x ≡ get_or xs i x → P x
+all_at P xs i x all h is = subst P (sym is) (All-from_recursion P xs all i x h)
 
 -- ---- what a node lists
 
@@ -154,19 +148,13 @@ selectors_fit names n (Signal script inputs) h = tt
 selectors_fit names n (Fold v script inputs) h = tt
 selectors_fit names n (Choose selectors body inputs) h = h.2
 
-selector_at : (P : Selector → Type 0) (ss : List Selector) (i : ℕ) (s : Selector) → AllByRecursion P ss → i < length ss
-    → s ≡ get_or ss i s → P s
-selector_at P [] i s all h is = absurd (omega (arith, h))
-selector_at P (x ∷ xs) zero s all h is = subst P (sym is) all.0
-selector_at P (x ∷ xs) (suc i) s all h is = selector_at P xs i s all.1 (omega (arith, h)) is
-
 below_all : (n size : ℕ) (cs : List ℕ) → n < size → AllByRecursion (λ c. c < n) cs → AllByRecursion (λ c. c < size) cs
 below_all n size [] h all = tt
 below_all n size (c ∷ cs) h all = let b = all.0 in (omega (arith, h, b), below_all n size cs h all.1)
 
 pub candidates_below : (names : List (List ℕ)) (n size : ℕ) (node : Node) (i : ℕ) (s : Selector) → IsNode names n node → n < size
     → i < length (selectors_of node) → s ≡ get_or (selectors_of node) i s → AllByRecursion (λ c. c < size) s.candidates
-candidates_below names n size node i s kept h inside is = below_all n size s.candidates h (selector_at (IsSelector names n) (selectors_of node) i s (selectors_fit names n node kept) inside is).candidates_earlier
+candidates_below names n size node i s kept h inside is = below_all n size s.candidates h (all_at (IsSelector names n) (selectors_of node) i s (selectors_fit names n node kept) inside is).candidates_earlier
 
 -- ---- reading counts
 

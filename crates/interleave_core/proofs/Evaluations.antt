@@ -14,10 +14,10 @@ use Rattle.signal_graph.specs.declared.node.Node.{Node}
 use Rattle.signal_graph.specs.declared.node.Node.TheVariants.{Source, Signal, Fold, Choose}
 use Rattle.signal_graph.specs.declared.node.NodeKind.TheVariants as kinds
 use Rattle.signal_graph.specs.declared.node.Selector.{Selector}
-use Rattle.signal_graph.specs.Graph.{Graph, IsGraph, IsNode, IsSelector, node_at, inputs_of, body_of, kind_of}
+use Rattle.signal_graph.specs.Graph.{Graph, IsGraph, IsNode, IsSelector, node_at, body_of, kind_of}
 use Rattle.signal_graph.specs.Evaluation.{CanEvaluate}
 use Rattle.signal_graph.proofs.GraphNodes.{all_can_evaluate, node_is}
-use Rattle.signal_graph.proofs.ScriptNames.{few_names}
+use Rattle.signal_graph.proofs.ScriptNames.{few_names, few_inputs}
 use Rattle.node_versions.specs.Entries.{Versions, has, before, last_done, value_before}
 use Rattle.flow_model.specs.declared.step.Step.TheVariants as step
 use Rattle.flow_model.specs.Machine.Keys.{list_of_step}
@@ -82,12 +82,6 @@ has-few names n (Signal script inputs) h = few_names names script inputs h.2 h.4
 has-few names n (Fold start script inputs) h = few_names names script inputs h.2 h.4
 has-few names n (Choose selectors body inputs) h = few-each names n selectors h.2
 
-few-inputs : (node : Node) (names : List (List ℕ)) (n : ℕ) → IsNode names n node → length (inputs_of node) ≤ INPUTS
-few-inputs (Source start) names n h = omega arith
-few-inputs (Signal script inputs) names n h = few_names names script inputs h.2 h.4
-few-inputs (Fold start script inputs) names n h = few_names names script inputs h.2 h.4
-few-inputs (Choose selectors body inputs) names n h = h.5
-
 fits-nothing : (body : Option Scripted) → FitsBody body None
 fits-nothing None = tt
 fits-nothing (Some body) = tt
@@ -132,7 +126,7 @@ pub due-few : (graph : Graph) → IsGraph graph → (s : Core) → IsLawful grap
 due-few graph g s h t n a =
     let b = (has-bounds graph g s h).gathered n in
     let f =
-    few-inputs (node_at graph n) graph.names (0 + n)
+    few_inputs graph.names (0 + n) (node_at graph n)
     (node_is graph.names 0 graph.nodes n (Source (Faulty Kind)) g.nodes (due-there graph s h t n a)) in
     omega (arith, b, f)
 

@@ -22,7 +22,6 @@ use Rattle.flow_state.specs.Booked.{Booked}
 use Rattle.interleave_core.specs.Whole.{Whole, state_of}
 use Rattle.interleave_core.proofs.Fits.{all_nodes}
 use Rattle.interleave_core.proofs.StepsMade.{CanMake, can_here}
-pub use Rattle.flow_model.proofs.Lengths.WorthFalls.{head-there as front-there}
 
 -- what a call gathers
 pub input-there : (graph : Graph) → IsGraph graph → (s : Core) → IsLawful graph s → (t n m : ℕ)

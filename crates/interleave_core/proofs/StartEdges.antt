@@ -3,7 +3,7 @@ use Rattle.std.proofs.Common.{◌≡◌, ℕ, zero, suc, ◌+◌, ◌-◌, ◌<�
 use Rattle.std.specs.Prelude.{slice_get}
 use Rattle.std.specs.List.{range_with_len}
 use Rattle.std.proofs.Math.Seq.{take-suc}
-use Rattle.std.proofs.lemmas.List.{ext_get_or, get_or-set_same, get_or-set_other, get_or_default, map-append}
+use Rattle.std.proofs.lemmas.List.{ext_get_or, get_or-set_same, get_or-set_other, get_or_default, map-append, length-append}
 use Rattle.std.proofs.lemmas.List.Folds.{list_any-append}
 use Rattle.std.proofs.lemmas.List.FromFn.{length-map-range_with_len, get_or-map-range_with_len}
 use Rattle.std.proofs.lemmas.Option.{get_or_from_slice_get, slice_get-get_or, none-some}
@@ -18,7 +18,7 @@ use Rattle.flow_model.proofs.Opening.OpeningLists.{picks_at_start, start_picks-l
 use Rattle.flow_state.specs.Fitting.{choosers}
 use Rattle.step_rules.specs.Sights.{no_versions, list_at}
 use Rattle.interleave_core.specs.Opening.{start_list, bare_list, gained, GainsEdges, CanGain, CanGainAll, CanGainNew, is_at, is_new_pick}
-use Rattle.interleave_core.proofs.Counted.{numbers_are, passing, passing_more, length-append, lists}
+use Rattle.interleave_core.proofs.Counted.{numbers_are, passing, passing_more, lists}
 
 -- ---- one list gains an edge
 
