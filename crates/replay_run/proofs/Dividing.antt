@@ -3,16 +3,12 @@ use Rattle.std.proofs.Common.{◌≡◌, ℕ, suc, ◌+◌, ◌<◌, ◌≤◌, 
 use Rattle.std.specs.List.{onto_first, concat, before_first, after_first, position_or_len}
 use Rattle.std.proofs.Math.Seq.{take-add}
 use Rattle.std.proofs.lemmas.Grind.{common_steps}
+use Rattle.std.proofs.lemmas.List.{drop_all, drop-drop}
+use Rattle.script_tree.proofs.Lists.{take_next, drop_next}
 use Rattle.replay_run.specs.Input.{whole_lines, is_divider, deck_text, schedule_text}
 
 abbrev is_feed : ℕ → Bool
 is_feed b = b == 10
-
-take_next : (n b : ℕ) (text : List ℕ) → take (1 + n + 1) (b ∷ text) ≡ b ∷ take (n + 1) text
-take_next n b text = let e : 1 + n + 1 ≡ suc (n + 1) = omega arith in ap (λ k. take k (b ∷ text)) e
-
-drop_next : (n b : ℕ) (text : List ℕ) → drop (1 + n + 1) (b ∷ text) ≡ drop (n + 1) text
-drop_next n b text = let e : 1 + n + 1 ≡ suc (n + 1) = omega arith in ap (λ k. drop k (b ∷ text)) e
 
 -- ---- the first line
 
@@ -26,8 +22,8 @@ lines_from b (c ∷ text) false e h =
     let r = lines_from c text (is_feed c) refl (omega (arith, k)) in
     rw e (
     ap (onto_first b) r
-    ∙ ap (λ line. line ∷ whole_lines (drop (n + 1) (c ∷ text))) (sym (take_next n b (c ∷ text)))
-    ∙ ap (λ rest. take (1 + n + 1) (b ∷ c ∷ text) ∷ whole_lines rest) (sym (drop_next n b (c ∷ text))))
+    ∙ ap (λ line. line ∷ whole_lines (drop (n + 1) (c ∷ text))) (sym (take_next (1 + n + 1) (n + 1) b (c ∷ text) (omega arith)))
+    ∙ ap (λ rest. take (1 + n + 1) (b ∷ c ∷ text) ∷ whole_lines rest) (sym (drop_next (1 + n + 1) (n + 1) b (c ∷ text) (omega arith))))
 
 -- a line ends behind the first line feed
 pub first_line : (text : List ℕ) → position_or_len is_feed text < length text
@@ -94,17 +90,11 @@ before-yes line ls e = rw e refl
 after-yes : (line : List ℕ) (ls : List (List ℕ)) → is_divider line ≡ true → after_first is_divider (line ∷ ls) ≡ ls
 after-yes line ls e = rw e refl
 
-take_line : (n : ℕ) (line : List ℕ) (ls : List (List ℕ)) → take (1 + n) (line ∷ ls) ≡ line ∷ take n ls
-take_line n line ls = let e : 1 + n ≡ suc n = omega arith in ap (λ k. take k (line ∷ ls)) e
-
-drop_line : (n : ℕ) (line : List ℕ) (ls : List (List ℕ)) → drop (1 + n + 1) (line ∷ ls) ≡ drop (n + 1) ls
-drop_line n line ls = let e : 1 + n + 1 ≡ suc (n + 1) = omega arith in ap (λ k. drop k (line ∷ ls)) e
-
 before-no : (line : List ℕ) (ls : List (List ℕ)) → is_divider line ≡ false → before_first is_divider (line ∷ ls) ≡ line ∷ before_first is_divider ls
-before-no line ls e = rw e (take_line (position_or_len is_divider ls) line ls)
+before-no line ls e = rw e (take_next (1 + position_or_len is_divider ls) (position_or_len is_divider ls) line ls (omega arith))
 
 after-no : (line : List ℕ) (ls : List (List ℕ)) → is_divider line ≡ false → after_first is_divider (line ∷ ls) ≡ after_first is_divider ls
-after-no line ls e = rw e (drop_line (position_or_len is_divider ls) line ls)
+after-no line ls e = rw e (drop_next (1 + position_or_len is_divider ls + 1) (position_or_len is_divider ls + 1) line ls (omega arith))
 
 -- where the first line divides
 pub divided : (text line rest : List ℕ) → whole_lines text ≡ line ∷ whole_lines rest → is_divider line ≡ true → (deck_text text ≡ []) × (schedule_text text ≡ rest)
@@ -122,12 +112,6 @@ not_divided text line rest cut e = (
 )
 
 -- ---- an input, as far as it is gone over
-
-take_both : (start len : ℕ) (input : List ℕ) → take start input ++ take len (drop start input) ≡ take (start + len) input
-take_both start len input = sym (take-add start len input)
-
-drop_both : (start len : ℕ) (input : List ℕ) → drop len (drop start input) ≡ drop (start + len) input
-drop_both start len input = grind (arith, common_steps)
 
 -- the deck has what is gone over, and the schedule is in what is left
 pub record IsGoneOver (input : List ℕ) (start : ℕ) : Type 0 where
@@ -147,8 +131,8 @@ line_gone_over input start len h fits cut e =
     record {
       within = within input start len h.within fits;
       deck = h.deck ∙ ap (λ d. take start input ++ d) r.0 ∙ sym (append_assoc (take start input) (take len rest) (deck_text (drop len rest)))
-          ∙ ap (λ t. t ++ deck_text (drop len rest)) (take_both start len input) ∙ ap (λ t. take (start + len) input ++ deck_text t) (drop_both start len input);
-      schedule = h.schedule ∙ r.1 ∙ ap schedule_text (drop_both start len input);
+          ∙ ap (λ t. t ++ deck_text (drop len rest)) (sym (take-add start len input)) ∙ ap (λ t. take (start + len) input ++ deck_text t) (drop-drop len start input);
+      schedule = h.schedule ∙ r.1 ∙ ap schedule_text (drop-drop len start input);
     }
   where
     within : (input : List ℕ) (start len : ℕ) → start ≤ length input → len ≤ length (drop start input) → start + len ≤ length input
@@ -172,13 +156,10 @@ divider_found input rest start len e h cut same =
 
 pub all_gone_over : (input : List ℕ) (start : ℕ) → IsGoneOver input start → length input ≤ start → (deck_text input ≡ input) × (schedule_text input ≡ [])
 all_gone_over input start h all =
-    let none : drop start input ≡ [] = nothing input start all in (
+    let none : drop start input ≡ [] = drop_all start input all in (
       h.deck ∙ ap (λ t. take start input ++ deck_text t) none ∙ whole input start all,
       h.schedule ∙ ap schedule_text none,
     )
   where
-    nothing : (input : List ℕ) (start : ℕ) → length input ≤ start → drop start input ≡ []
-    nothing input start a = grind (arith, common_steps, a)
-
     whole : (input : List ℕ) (start : ℕ) → length input ≤ start → take start input ++ [] ≡ input
     whole input start a = grind (arith, common_steps, a)

@@ -2,63 +2,41 @@
 use Rattle.std.proofs.Common.{◌≡◌, ℕ, zero, suc, ◌+◌, ◌<◌, ◌≤◌, Bool, true, false, ◌==◌, ◌⊎◌, inl, inr, refl, sym, ap, ap₂, arith, List, [], ◌∷◌, ◌++◌, ◌&&◌, map, length, drop, set, append-nil, true≢false, append_assoc, ◌∙◌, subst, None}
 use Rattle.std.specs.Prelude.{slice_index_or, All}
 use Rattle.std.specs.List.{AllByRecursion, list_all}
-use Rattle.std.proofs.lemmas.List.{drop_more, get_or_default}
-use Rattle.std.proofs.lemmas.Grind.{common_steps}
+use Rattle.std.proofs.lemmas.List.{drop_more, get_or_default, drop_all, length-map, length-set, get_or-set_same, get_or-set_other, nil_from_length}
 use Rattle.std.proofs.lemmas.Bool.{eqb-true, eq-eqb, both_ways, cases_Bool}
+use Rattle.std.proofs.lemmas.List.Elements.{All-tail, recursion_from_All}
 use Rattle.signal_graph.specs.declared.log.Refused.{Refused}
 use Rattle.script_tree.specs.declared.limits.TheConstants.{THREADS}
 use Rattle.signal_graph.specs.declared.call.Call.{Call}
 use Rattle.signal_graph.specs.Graph.{Graph}
 use Rattle.flow_model.specs.Machine.Lists.{change_at, is_empty}
 use Rattle.flow_model.specs.Machine.State.{Core, opening}
-use Rattle.flow_model.specs.Machine.Schedules.{Thread, Play, no_thread, thread, take_turn, is_over, at_start, all_refused}
+use Rattle.flow_model.specs.Machine.Schedules.{Thread, Play, thread, take_turn, is_over, at_start, all_refused}
 use Rattle.flow_model.specs.Follows.Callers.{IsWithin, AreWithin}
 use Rattle.call_log.specs.Made.{script_of}
-use Rattle.serial_machine.proofs.Moving.{all_rest}
 use Rattle.interleave_core.specs.Opening.{opened_core}
 use Rattle.interleave_core.specs.Whole.{Whole}
 use Rattle.replay_run.specs.Replaying.{Caller, no_caller, caller_at, new_caller, IsCaller, AreCallers, IsTurn, LeavesOthers, Stage, stage_of, play_of, threads_of}
 
 -- ---- one caller among all
 
-set-same : (i : ℕ) (y : Caller) (xs : List Caller) → i < length xs → caller_at (set xs i y) i ≡ y
-set-same i y [] l = absurd (omega (arith, l))
-set-same zero y (x ∷ xs) l = refl
-set-same (suc i) y (x ∷ xs) l = set-same i y xs (omega (arith, l))
-
-set-other : (i j : ℕ) (y : Caller) (xs : List Caller) → (j ≡ i → ⊥) → caller_at (set xs i y) j ≡ caller_at xs j
-set-other i j y [] ne = refl
-set-other zero zero y (x ∷ xs) ne = absurd (ne refl)
-set-other zero (suc j) y (x ∷ xs) ne = refl
-set-other (suc i) zero y (x ∷ xs) ne = refl
-set-other (suc i) (suc j) y (x ∷ xs) ne = set-other i j y xs (λ e. ne (ap suc e))
-
-pub set-length : (i : ℕ) (y : Caller) (xs : List Caller) → length (set xs i y) ≡ length xs
-set-length i y [] = refl
-set-length zero y (x ∷ xs) = refl
-set-length (suc i) y (x ∷ xs) = ap suc (set-length i y xs)
-
 set-threads : (i : ℕ) (y : Caller) (xs : List Caller) → threads_of (set xs i y) ≡ change_at i (λ _. y.thread) (threads_of xs)
 set-threads i y [] = refl
 set-threads zero y (x ∷ xs) = refl
 set-threads (suc i) y (x ∷ xs) = ap (λ (ts : List Thread). x.thread ∷ ts) (set-threads i y xs)
 
-thread-at : (i : ℕ) (xs : List Caller) → slice_index_or (threads_of xs) i no_thread ≡ (caller_at xs i).thread
-thread-at i [] = refl
-thread-at zero (x ∷ xs) = refl
-thread-at (suc i) (x ∷ xs) = thread-at i xs
-
-pub threads-length : (xs : List Caller) → length (threads_of xs) ≡ length xs
-threads-length [] = refl
-threads-length (x ∷ xs) = ap suc (threads-length xs)
+thread-of : (xs : List Caller) (i : ℕ) (x : Caller) → slice_index_or (threads_of xs) i x.thread ≡ (slice_index_or xs i x).thread
+thread-of [] i x = refl
+thread-of (y ∷ ys) zero x = refl
+thread-of (y ∷ ys) (suc i) x = thread-of ys i x
 
 -- ---- after a turn
 
 pub callers-after : (i : ℕ) (s q : Core) (xs : List Caller) (y : Caller) → AreCallers s xs → i < length xs → IsCaller (i + 1) q y → LeavesOthers (i + 1) s q → AreCallers q (set xs i y)
 callers-after i s q xs y h l mine others = record {
-  many = set-length i y xs ∙ h.many ∙ sym others.callers;
-  few = (let f = h.few in let e = set-length i y xs in omega (arith, f, e));
-  each = λ j m. go j (omega (arith, m, set-length i y xs)) (cases_Bool (j == i));
+  many = length-set xs i y ∙ h.many ∙ sym others.callers;
+  few = (let f = h.few in let e = length-set xs i y in omega (arith, f, e));
+  each = λ j m. go j (omega (arith, m, length-set xs i y)) (cases_Bool (j == i));
 }
   where
     next : (n : ℕ) → n + 1 ≡ suc n
@@ -69,20 +47,16 @@ callers-after i s q xs y h l mine others = record {
 
     go : (j : ℕ) → j < length xs → ((j == i) ≡ true) ⊎ ((j == i) ≡ false) → IsCaller (suc j) q (caller_at (set xs i y) j)
     go j m (inl e) = subst (λ (n : ℕ). IsCaller (suc n) q (caller_at (set xs i y) n)) (sym (eqb-true j i e))
-        (subst (λ (x : Caller). IsCaller (suc i) q x) (sym (set-same i y xs l)) (subst (λ (n : ℕ). IsCaller n q y) (next i) mine))
+        (subst (λ (x : Caller). IsCaller (suc i) q x) (sym (get_or-set_same xs i y no_caller l)) (subst (λ (n : ℕ). IsCaller n q y) (next i) mine))
     go j m (inr e) =
         let ne : j ≡ i → ⊥ = λ p. both_ways _ e (eq-eqb j i p) in
         let old = h.each j m in
-        subst (λ (x : Caller). IsCaller (suc j) q x) (sym (set-other i j y xs ne))
+        subst (λ (x : Caller). IsCaller (suc j) q x) (sym (get_or-set_other xs i j y no_caller ne))
         (record { live = old.live ∙ sym (others.live (suc j) (apart j ne)); within = old.within })
 
 done-threads : (xs : List Caller) → list_all (λ (x : Caller). is_empty x.thread.left) xs ≡ list_all (λ (t : Thread). is_empty t.left) (threads_of xs)
 done-threads [] = refl
 done-threads (x ∷ xs) = ap (λ (b : Bool). is_empty x.thread.left && b) (done-threads xs)
-
-no-length : {A : Type 0} (xs : List A) → length xs ≡ 0 → is_empty xs ≡ true
-no-length [] h = refl
-no-length (x ∷ xs) h = absurd (omega (arith, h))
 
 abbrev whole : Graph → Core → List Caller → Stage
 whole graph s xs = record { graph = graph; core = s; threads = threads_of xs }
@@ -92,7 +66,7 @@ stage-after : (graph : Graph) (i : ℕ) (s q : Core) (xs : List Caller) (x y : C
 stage-after graph i s q xs x y e turn =
     let play : Play = play_of (whole graph s xs) in
     let next : i + 1 ≡ suc i = omega arith in
-    let mine : thread play i ≡ x.thread = thread-at i xs ∙ ap (λ (c : Caller). c.thread) (sym e) in
+    let mine : thread play i ≡ x.thread = thread-of xs i no_caller ∙ ap (λ (c : Caller). c.thread) (sym e) in
     ap₂ (λ (c : Core) (ts : List Thread). joined c ts) (turn.core play i next refl mine) (turn.threads play i next refl mine ∙ sym (set-threads i y xs))
   where
     joined : Core → List Thread → Stage
@@ -106,24 +80,20 @@ stage-turned graph new i s q xs x y old view l e g turn =
     ∙ ap (λ (z : Stage). stage_of z.graph (take_turn z.graph (play_of z) i)) view
   where
     inside : i < length xs
-    inside = let a = threads-length xs in let b = ap (λ (z : Stage). length z.threads) view in omega (arith, a, b, l)
+    inside = let a = length-map xs (λ (x : Caller). x.thread) in let b = ap (λ (z : Stage). length z.threads) view in omega (arith, a, b, l)
 
 pub over-is : (graph : Graph) (s : Core) (xs : List Caller) (now : Stage) (done : Bool) → whole graph s xs ≡ now → length s.calls ≡ 0 → done ≡ list_all (λ (x : Caller). is_empty x.thread.left) xs
     → done ≡ is_over (play_of now)
 over-is graph s xs now done view none e =
-    e ∙ done-threads xs ∙ ap (λ (b : Bool). b && list_all (λ (t : Thread). is_empty t.left) (threads_of xs)) (sym (no-length s.calls none)) ∙ ap (λ (z : Stage). is_over (play_of z)) view
+    e ∙ done-threads xs ∙ ap (λ (b : Bool). b && list_all (λ (t : Thread). is_empty t.left) (threads_of xs)) (sym (ap is_empty (nil_from_length s.calls none))) ∙ ap (λ (z : Stage). is_over (play_of z)) view
 
 -- ---- before any call
-
-all_by : {A : Type 0} (P : A → Type 0) (xs : List A) → All P xs → AllByRecursion P xs
-all_by P [] h = tt
-all_by P (x ∷ xs) h = (h 0 x (omega arith), all_by P xs (all_rest P x xs h))
 
 -- no call sets or looks at more than it may
 pub are-within : (scripts : List (List Call)) → All (All IsWithin) scripts → AreWithin scripts
 are-within [] h i = tt
-are-within (calls ∷ scripts) h zero = all_by IsWithin calls (h 0 calls (omega arith))
-are-within (calls ∷ scripts) h (suc i) = are-within scripts (all_rest (All IsWithin) calls scripts h) i
+are-within (calls ∷ scripts) h zero = recursion_from_All IsWithin calls (h 0 calls (omega arith))
+are-within (calls ∷ scripts) h (suc i) = are-within scripts (All-tail (All IsWithin) calls scripts h) i
 
 new-live : (scripts : List (List Call)) (i : ℕ) → (caller_at (map new_caller scripts) i).live ≡ None
 new-live [] i = refl
@@ -135,15 +105,11 @@ new-left [] i = refl
 new-left (calls ∷ scripts) zero = refl
 new-left (calls ∷ scripts) (suc i) = new-left scripts i
 
-callers-length : (scripts : List (List Call)) → length (map new_caller scripts) ≡ length scripts
-callers-length [] = refl
-callers-length (calls ∷ scripts) = ap suc (callers-length scripts)
-
 pub new-callers : (graph : Graph) (scripts : List (List Call)) (limit : ℕ) → length scripts ≤ THREADS → All (All IsWithin) scripts
     → AreCallers (opening graph (length scripts) limit) (map new_caller scripts)
 new-callers graph scripts limit few h = record {
-  many = callers-length scripts;
-  few = (let e = callers-length scripts in omega (arith, e, few));
+  many = length-map scripts new_caller;
+  few = (let e = length-map scripts new_caller in omega (arith, e, few));
   each = λ i l. record { live = new-live scripts i; within = subst (AllByRecursion IsWithin) (sym (new-left scripts i)) (are-within scripts h i) };
 }
 
@@ -167,18 +133,13 @@ pub empty-none : {A : Type 0} (xs : List A) (b : Bool) → (is_empty xs && b) �
 empty-none [] b h = refl
 empty-none (x ∷ xs) b h = absurd (true≢false (sym h))
 
-thread-of : (xs : List Caller) (i : ℕ) (x : Caller) → slice_index_or (threads_of xs) i x.thread ≡ (slice_index_or xs i x).thread
-thread-of [] i x = refl
-thread-of (y ∷ ys) zero x = refl
-thread-of (y ∷ ys) (suc i) x = thread-of ys i x
-
 -- the refused calls of one thread more
 pub more-refused : (xs : List Caller) (i : ℕ) (x : Caller) (refused : List Refused) → i < length xs → x ≡ slice_index_or xs i x
     → refused ++ all_refused (drop i (threads_of xs)) ≡ all_refused (threads_of xs) → (refused ++ x.thread.refused) ++ all_refused (drop (i + 1) (threads_of xs)) ≡ all_refused (threads_of xs)
 more-refused xs i x refused l e h =
     let here : slice_index_or (threads_of xs) i x.thread ≡ x.thread = thread-of xs i x ∙ ap (λ (y : Caller). y.thread) (sym e) in
     let rest = drop (i + 1) (threads_of xs) in
-    let inside : i < length (threads_of xs) = (let k = threads-length xs in omega (arith, k, l)) in
+    let inside : i < length (threads_of xs) = (let k = length-map xs (λ (x : Caller). x.thread) in omega (arith, k, l)) in
     append_assoc refused x.thread.refused (all_refused rest)
     ∙ ap (λ (t : Thread). refused ++ (t.refused ++ all_refused rest)) (sym here)
     ∙ ap (λ (ts : List Thread). refused ++ all_refused ts) (sym (drop_more (threads_of xs) i x.thread inside))
@@ -186,8 +147,5 @@ more-refused xs i x refused l e h =
 
 pub all-are-refused : (xs : List Caller) (i : ℕ) (refused : List Refused) → length xs ≤ i → refused ++ all_refused (drop i (threads_of xs)) ≡ all_refused (threads_of xs) → refused ≡ all_refused (threads_of xs)
 all-are-refused xs i refused l h =
-    let none : drop i (threads_of xs) ≡ [] = nothing (threads_of xs) i (let k = threads-length xs in omega (arith, k, l)) in
+    let none : drop i (threads_of xs) ≡ [] = drop_all i (threads_of xs) (let k = length-map xs (λ (x : Caller). x.thread) in omega (arith, k, l)) in
     sym (append-nil refused) ∙ ap (λ (ts : List Thread). refused ++ all_refused ts) (sym none) ∙ h
-  where
-    nothing : (ts : List Thread) (n : ℕ) → length ts ≤ n → drop n ts ≡ []
-    nothing ts n a = grind (arith, common_steps, a)

@@ -1,11 +1,10 @@
 -- What turns and rounds make of a play does not hang on its moves.
-use Rattle.std.proofs.Common.{◌≡◌, ℕ, zero, suc, Bool, true, false, refl, sym, ap, arith, ◌+◌, ◌*◌, ◌^◌, ◌-◌, ◌<◌, ◌≤◌, List, [], ◌∷◌, map, length, drop, get_or, true≢false, ◌∙◌, Option, Some, None}
+use Rattle.std.proofs.Common.{◌≡◌, ℕ, zero, suc, Bool, true, false, refl, sym, ap, arith, ◌+◌, ◌*◌, ◌^◌, ◌-◌, ◌<◌, ◌≤◌, List, [], ◌∷◌, length, drop, get_or, true≢false, ◌∙◌, Option, Some, None}
 use Rattle.std.specs.Prelude.{sum_by, All}
 use Rattle.std.proofs.Math.Nat.{mul-le-mul_right}
-use Rattle.std.proofs.lemmas.Grind.{common_steps}
-use Rattle.std.proofs.lemmas.List.{drop_more}
+use Rattle.std.proofs.lemmas.List.{drop_more, drop_all}
 use Rattle.std.proofs.lemmas.List.Sums.{sum_by-cons}
-use Rattle.serial_machine.proofs.Moving.{all_rest}
+use Rattle.std.proofs.lemmas.List.Elements.{All-tail}
 use Rattle.signal_graph.specs.declared.call.Call.{Call}
 use Rattle.signal_graph.specs.declared.log.Why.{Why}
 use Rattle.signal_graph.specs.Graph.{Graph}
@@ -17,7 +16,6 @@ use Rattle.flow_model.specs.Machine.Steps.{allowed}
 use Rattle.flow_model.specs.Machine.Next.{next}
 use Rattle.flow_model.specs.Machine.Histories.{Make}
 use Rattle.flow_model.specs.Machine.Schedules.{Thread, Play, no_thread, thread, made, refused_for, begin_or_refuse, begin_next, make_turn, turn_of, version_of, take_turn, take_turns, is_over, round_from, rounds, most_rounds, at_start, replayed}
-use Rattle.flow_model.proofs.Schedules.SchedulesMakeHistories.{new_thread}
 use Rattle.replay_run.specs.Replaying.{Stage, stage_of, play_of}
 
 -- the play with no moves
@@ -168,9 +166,6 @@ all-taken graph x y taken more g h o over =
 
 -- ---- at the end of a schedule and of a round
 
-nothing-left : {A : Type 0} (xs : List A) (n : ℕ) → length xs ≤ n → drop n xs ≡ []
-nothing-left xs n h = grind (arith, common_steps, h)
-
 with_graph : (graph : Graph) (x : Stage) → x.graph ≡ graph → x ≡ stage_of graph (play_of x)
 with_graph graph x g = ap (λ (k : Graph). staged k x) g
   where
@@ -178,10 +173,10 @@ with_graph graph x g = ap (λ (k : Graph). staged k x) g
     staged k y = record { graph = k; core = y.core; threads = y.threads }
 
 pub last-turn : (graph : Graph) (x z : Stage) (schedule : List ℕ) (i : ℕ) → x.graph ≡ graph → length schedule ≤ i → stage_of graph (take_turns graph (play_of x) (drop i schedule)) ≡ z → x ≡ z
-last-turn graph x z schedule i g l h = with_graph graph x g ∙ ap (λ (ns : List ℕ). stage_of graph (take_turns graph (play_of x) ns)) (sym (nothing-left schedule i l)) ∙ h
+last-turn graph x z schedule i g l h = with_graph graph x g ∙ ap (λ (ns : List ℕ). stage_of graph (take_turns graph (play_of x) ns)) (sym (drop_all i schedule l)) ∙ h
 
 pub last-in-round : (graph : Graph) (x z : Stage) (xs : List Thread) (i : ℕ) → x.graph ≡ graph → length xs ≤ i → stage_of graph (round_from graph i (drop i xs) (play_of x)) ≡ z → x ≡ z
-last-in-round graph x z xs i g l h = with_graph graph x g ∙ ap (λ (ts : List Thread). stage_of graph (round_from graph i ts (play_of x))) (sym (nothing-left xs i l)) ∙ h
+last-in-round graph x z xs i g l h = with_graph graph x g ∙ ap (λ (ts : List Thread). stage_of graph (round_from graph i ts (play_of x))) (sym (drop_all i xs l)) ∙ h
 
 -- ---- a whole replay
 
@@ -200,7 +195,7 @@ sum-small : (scripts : List (List Call)) → All (λ (calls : List Call). length
 sum-small [] h = omega arith
 sum-small (calls ∷ scripts) h =
     let first = h 0 calls (omega arith) in
-    let r = sum-small scripts (all_rest (λ (cs : List Call). length cs < 2 ^ 32) calls scripts h) in
+    let r = sum-small scripts (All-tail (λ (cs : List Call). length cs < 2 ^ 32) calls scripts h) in
     let e = sum_by-cons length calls scripts in
     omega (arith, first, r, e)
 
@@ -234,7 +229,3 @@ replay-ends graph scripts limit schedule x y z e h last =
     let most = most_rounds graph scripts in
     last ∙ ap (λ (k : Graph). stage_of k (rounds most k (play_of y))) (graph-of graph scripts limit schedule x y e h)
     ∙ replay-stage graph scripts limit schedule x y e h
-
-pub started-length : (scripts : List (List Call)) → length (map (λ (calls : List Call). new_thread calls) scripts) ≡ length scripts
-started-length [] = refl
-started-length (calls ∷ scripts) = ap suc (started-length scripts)

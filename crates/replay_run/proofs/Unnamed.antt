@@ -1,8 +1,7 @@
 -- The first number of a schedule that names no thread.
 use Rattle.std.proofs.Common.{◌≡◌, ℕ, zero, suc, ◌+◌, ◌<◌, ◌≤◌, Bool, true, false, refl, ap, arith, List, [], ◌∷◌, map, length, drop, get_or, ◌∙◌, Option, Some, None}
 use Rattle.std.specs.Prelude.{All}
-use Rattle.std.proofs.lemmas.Grind.{common_steps}
-use Rattle.std.proofs.lemmas.List.{drop_more}
+use Rattle.std.proofs.lemmas.List.{drop_more, drop_all}
 use Rattle.signal_graph.specs.Machine.{first_wrong}
 use Rattle.replay_run.specs.Schedule.{names_thread, first_unnamed}
 
@@ -21,10 +20,7 @@ pub named-here : (threads : ℕ) (schedule : List ℕ) (i : ℕ) → i < length 
 named-here threads schedule i l e = here threads schedule i l ∙ ap (λ (b : Bool). first_wrong (i + 1) (b ∷ map (names_thread threads) (drop (i + 1) schedule))) e
 
 pub none-unnamed : (threads : ℕ) (schedule : List ℕ) (i : ℕ) → length schedule ≤ i → from_place threads schedule i ≡ None
-none-unnamed threads schedule i l = ap (λ (ns : List ℕ). first_wrong (i + 1) (map (names_thread threads) ns)) (nothing schedule i l)
-  where
-    nothing : (ns : List ℕ) (n : ℕ) → length ns ≤ n → drop n ns ≡ []
-    nothing ns n h = grind (arith, common_steps, h)
+none-unnamed threads schedule i l = ap (λ (ns : List ℕ). first_wrong (i + 1) (map (names_thread threads) ns)) (drop_all i schedule l)
 
 -- where there is none, each number names a thread
 named-from : (threads k : ℕ) (schedule : List ℕ) → first_wrong k (map (names_thread threads) schedule) ≡ None → All (λ (n : ℕ). names_thread threads n ≡ true) schedule

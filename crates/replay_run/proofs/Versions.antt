@@ -20,6 +20,7 @@ use Rattle.flow_model.proofs.Together.WorkIsAllowed.{least-none}
 use Rattle.flow_model.proofs.Callers.OnlyBeginningsAdd.{makers, MakerStep, SameMakers, stays, logs, step-makers}
 use Rattle.flow_model.proofs.OrderStays.AfterEachStep.{ensure_mark-log, frame-log}
 use Rattle.flow_model.proofs.Together.NextIsAllowed.{least-passes}
+use Rattle.flow_model.proofs.Schedules.SchedulesMakeHistories.{idle-version}
 use Rattle.replay_run.proofs.NoEnd.{ends_call}
 
 -- ---- versions follow from whose calls live
@@ -39,12 +40,6 @@ version-held k (c ∷ cs) = go (c.caller == k) (version-held k cs)
 
 same-makers : (k : ℕ) (cs ds : List LiveCall) → makers cs ≡ makers ds → version_of k cs ≡ version_of k ds
 same-makers k cs ds e = version-held k cs ∙ ap (held k) e ∙ sym (version-held k ds)
-
--- ---- a caller's version, and whether there is one
-
-none-none : (k : ℕ) (cs : List LiveCall) → has_call k cs ≡ false → version_of k cs ≡ None
-none-none k [] h = refl
-none-none k (c ∷ cs) h = let r = none-none k cs in grind (arith, r, h)
 
 -- ---- the calls without one
 
@@ -131,7 +126,7 @@ end-others graph s t k j h g f ne = go (version_of j s.calls) refl
     q = apply graph s (steps.End t)
 
     go : (o : Option ℕ) → version_of j s.calls ≡ o → version_of j q.calls ≡ version_of j s.calls
-    go None e = none-none j q.calls (without-none j t s.calls (least-none (λ c. c.caller == j) s.calls e)) ∙ sym e
+    go None e = idle-version j q.calls (without-none j t s.calls (least-none (λ c. c.caller == j) s.calls e)) ∙ sym e
     go (Some u) e =
         let x = owned graph s h u j e in
         let apart : u ≡ t → ⊥ = λ p. ne (sym x.1 ∙ ap (λ (n : ℕ). (call s n).caller) p ∙ (owned graph s h t k f).1) in

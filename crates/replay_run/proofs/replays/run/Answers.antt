@@ -1,18 +1,19 @@
 use Rattle.std.proofs.Common.{◌≡◌, ℕ, length, slice_index_or, ap, ◌∙◌}
 use Rattle.std.proofs.lemmas.Result.{IfOk-weaker}
+use Rattle.std.proofs.lemmas.List.{length-map}
 use Rattle.call_log.specs.declared.finished.Finished.{Finished}
 use Rattle.flow_model.specs.Machine.Histories.{last_values}
 use Rattle.flow_model.specs.Machine.Schedules.{replayed, most_rounds, all_refused}
 use Rattle.replay_run.specs.Replaying.{Stage}
 use Rattle.replay_run.specs.Schedule.{names_thread}
 use Rattle.replay_run.proofs.Seats.{are-within}
-use Rattle.replay_run.proofs.Stages.{started-length, most-small, rounds-end, replay-ends}
+use Rattle.replay_run.proofs.Stages.{most-small, rounds-end, replay-ends}
 use Rattle.replay_run.proofs.Unnamed.{all-named}
 use Rattle.replay_run.proofs.replays.run.Goals as goal
 
 pub take_turns-requires : goal.take_turns-requires
 take_turns-requires c = λ k d l.
-    ap (λ (n : ℕ). names_thread n (slice_index_or c.args.schedule.now k d)) (ap (λ (z : Stage). length z.threads) c.in_ok-replaying.ensures ∙ started-length c.args.scripts)
+    ap (λ (n : ℕ). names_thread n (slice_index_or c.args.schedule.now k d)) (ap (λ (z : Stage). length z.threads) c.in_ok-replaying.ensures ∙ length-map c.args.scripts _)
     ∙ all-named (length c.args.scripts) c.args.schedule.now c.requires.named k d l
 
 pub finish_rounds-requires : goal.finish_rounds-requires
