@@ -1,12 +1,10 @@
 -- A call that has just begun.
-use Rattle.std.proofs.Common.{◌≡◌, ℕ, suc, ◌==◌, ◌||◌, Bool, true, false, List, [], ◌∷◌, Option, Some, None, refl, ◌∙◌, true≢false}
+use Rattle.std.proofs.Common.{◌≡◌, ℕ, suc, false, Option, Some, None, refl, ◌∙◌, true≢false}
 use Rattle.std.specs.Prelude.{is_some}
 use Rattle.signal_graph.specs.declared.call.Call.{Call}
 use Rattle.signal_graph.specs.Graph.{Graph}
 use Rattle.flow_model.specs.Machine.State.{Core, LiveCall, call_of, live}
-use Rattle.flow_model.specs.Machine.Next.{lesser}
-use Rattle.flow_model.specs.Machine.Schedules.{version_of}
-use Rattle.flow_model.specs.Machine.Steps.{begin, new_call, has_call}
+use Rattle.flow_model.specs.Machine.Steps.{begin, new_call}
 use Rattle.flow_model.proofs.OneList.CallsAndCells.{call_of-append, last_call-it}
 
 -- the new call is found under its version
@@ -19,13 +17,3 @@ begun-call graph s caller asked new =
     nothing : (o : Option LiveCall) → is_some o ≡ false → o ≡ None
     nothing None h = refl
     nothing (Some c) h = absurd (true≢false h)
-
--- who has no live call has no version
-pub idle-version : (k : ℕ) (cs : List LiveCall) → has_call k cs ≡ false → version_of k cs ≡ None
-idle-version k [] h = refl
-idle-version k (c ∷ cs) h = go (c.caller == k) h (λ r. idle-version k cs r)
-  where
-    go : (b : Bool) → (b || has_call k cs) ≡ false → (has_call k cs ≡ false → version_of k cs ≡ None)
-        → elim b as (λ _. Option ℕ) [ true ↦ Some (lesser c.version (version_of k cs)) | false ↦ version_of k cs ] ≡ None
-    go true h r = absurd (true≢false h)
-    go false h r = r h

@@ -2,6 +2,7 @@
 use Rattle.std.proofs.Common.{◌≡◌, ℕ, ◌≤◌, ◌<◌, Bool, true, false, cond, ◌==◌, List, [], ◌∷◌, length, filter, Option, Some, refl, sym, ap, subst, arith, true≢false}
 use Rattle.std.proofs.lemmas.Bool.{or_left, eq-eqb, both_ways}
 use Rattle.std.specs.Prelude.{is_some}
+use Rattle.std.proofs.lemmas.List.{nil_from_length}
 use Rattle.signal_graph.specs.Graph.{is_in}
 use Rattle.flow_model.specs.Machine.State.{LiveCall, call_of, call_or}
 use Rattle.flow_model.specs.Machine.Steps.{has_call, without_call}
@@ -33,10 +34,6 @@ found-counts k t (c ∷ cs) l w = go (c.version == t) (c.caller == k) refl l w (
     go true false e l w r = absurd (both_ways _ e (eq-eqb c.caller k w))
     go false false e l w r = r l w
 
-no_more : (cs : List LiveCall) → length cs ≤ 0 → cs ≡ []
-no_more [] le = refl
-no_more (c ∷ cs) le = absurd (omega (arith, le))
-
 -- who has one call at most has none without it
 pub ended-idle : (k t : ℕ) (cs : List LiveCall) → length (calls_by k cs) ≤ 1 → is_some (call_of cs t) ≡ true → (call_or (call_of cs t)).caller ≡ k → has_call k (without_call t cs) ≡ false
 ended-idle k t [] one l w = refl
@@ -48,7 +45,7 @@ ended-idle k t (c ∷ cs) one l w = go (c.version == t) (c.caller == k) refl one
         → (length (calls_by k cs) ≤ 1 → is_some (call_of cs t) ≡ true → (call_or (call_of cs t)).caller ≡ k → has_call k (without_call t cs) ≡ false)
         → (is_some (call_of cs t) ≡ true → (call_or (call_of cs t)).caller ≡ k → 0 < length (calls_by k cs))
         → has_call k (elim v as (λ _. List LiveCall) [ true ↦ without_call t cs | false ↦ c ∷ without_call t cs ]) ≡ false
-    go true true e one l w r f = fewer-idle k t cs (no_more (calls_by k cs) (omega (arith, one)))
+    go true true e one l w r f = fewer-idle k t cs (nil_from_length (calls_by k cs) (omega (arith, one)))
     go true false e one l w r f = absurd (both_ways _ e (eq-eqb c.caller k w))
     go false true e one l w r f = let more = f l w in absurd (omega (arith, one, more))
     go false false e one l w r f = rw e (r one l w)

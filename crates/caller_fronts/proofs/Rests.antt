@@ -2,6 +2,7 @@
 use Rattle.std.proofs.Common.{◌≡◌, ◌≢◌, ◌⊎◌, inl, inr, ⊎_elim, ℕ, Bool, true, false, ◌==◌, List, [], ◌∷◌, ◌++◌, Option, Some, refl, sym, ap, ◌∙◌, append-nil, append_assoc, subst, true≢false}
 use Rattle.std.proofs.lemmas.Bool.{eq-eqb, both_ways}
 use Rattle.std.specs.Prelude.{is_some}
+use Rattle.std.proofs.lemmas.List.{same_from_push}
 use Rattle.script_tree.proofs.Truths.{not_and_parts}
 use Rattle.signal_graph.specs.declared.call.Call.{Call}
 use Rattle.signal_graph.specs.Graph.{Graph}
@@ -67,22 +68,6 @@ ends (x ∷ xs) =
     (λ (e : Ends xs). (x ∷ e.0, e.1, ap (λ (l : List Move). x ∷ l) e.2))
     (ends xs))
 
-heads : (a b : Move) (xs ys : List Move) → a ∷ xs ≡ b ∷ ys → (a ≡ b) × (xs ≡ ys)
-heads a b xs ys e = (cc (e), cc (e))
-
-no_end : (xs : List Move) (x : Move) → xs ++ x ∷ [] ≡ [] → ⊥
-no_end [] x e = absurd (cc (e))
-no_end (a ∷ xs) x e = absurd (cc (e))
-
-same-ends : (xs ys : List Move) (x y : Move) → xs ++ x ∷ [] ≡ ys ++ y ∷ [] → (xs ≡ ys) × (x ≡ y)
-same-ends [] [] x y e = (refl, (heads x y [] [] e).0)
-same-ends [] (b ∷ ys) x y e = absurd (no_end ys y (sym (heads x b [] (ys ++ y ∷ []) e).1))
-same-ends (a ∷ xs) [] x y e = absurd (no_end xs x (heads a y (xs ++ x ∷ []) [] e).1)
-same-ends (a ∷ xs) (b ∷ ys) x y e =
-    let h = heads a b (xs ++ x ∷ []) (ys ++ y ∷ []) e in
-    let r = same-ends xs ys x y h.1 in
-    (ap (λ (m : Move). m ∷ xs) h.0 ∙ ap (λ (l : List Move). b ∷ l) r.0, r.1)
-
 none-last : (graph : Graph) (k : ℕ) (s : Core) (xs : List Move) (x : Move) → none_by graph k s (xs ++ x ∷ []) ≡ true → (caller_of (after_moves graph s xs) x == k) ≡ false
 none-last graph k s [] x h = (not_and_parts (caller_of s x == k) _ h).0
 none-last graph k s (y ∷ ys) x h = none-last graph k (after_move graph s y) ys x (not_and_parts (caller_of s y == k) _ h).1
@@ -93,7 +78,7 @@ last-seen graph callers limit k front earlier move l mine = ⊎_elim
     (λ (none : l.rest ≡ []). sym (append-nil front) ∙ ap (λ (r : List Move). front ++ r) (sym none) ∙ l.joined)
     (λ (e : Ends l.rest).
     let both : front ++ e.0 ++ e.1 ∷ [] ≡ earlier ++ move ∷ [] = append_assoc front e.0 (e.1 ∷ []) ∙ ap (λ (r : List Move). front ++ r) (sym e.2) ∙ l.joined in
-    let same = same-ends (front ++ e.0) earlier e.1 move both in
+    let same = same_from_push (front ++ e.0) earlier e.1 move both in
     let q = after_moves graph (state graph callers limit front) e.0 in
     let other : (caller_of q e.1 == k) ≡ false
     = none-last graph k (state graph callers limit front) e.0 e.1 (subst (λ (r : List Move). none_by graph k (state graph callers limit front) r ≡ true) e.2 l.others) in

@@ -7,8 +7,9 @@ use Rattle.flow_model.specs.Machine.Steps.{begin}
 use Rattle.flow_model.specs.Machine.Histories.{Begin, state}
 use Rattle.flow_model.specs.Follows.Callers.{count_begins}
 use Rattle.flow_model.proofs.OneStep.VersionsStayFresh.{not_begun-live}
+use Rattle.flow_model.proofs.Schedules.SchedulesMakeHistories.{idle-version}
 use Rattle.caller_fronts.proofs.KeysTell.{history-more}
-use Rattle.caller_fronts.proofs.Beginnings.{begun-call, idle-version}
+use Rattle.caller_fronts.proofs.Beginnings.{begun-call}
 use Rattle.caller_fronts.proofs.laws.beginnings_make_calls.Goals as goal
 
 pub returns-clause-going : goal.returns-clause-going
