@@ -1,6 +1,7 @@
 -- The last entry of a log.
 use Rattle.std.proofs.Common.{◌≡◌, ℕ, suc, ◌-◌, List, [], ◌∷◌, ◌++◌, length, Option, Some, refl, sym, ap, ◌∙◌, arith}
 use Rattle.std.specs.Prelude.{slice_get, option_map}
+use Rattle.std.proofs.lemmas.Option.{same_Some}
 use Rattle.signal_graph.specs.declared.call.Reply.{Reply}
 use Rattle.signal_graph.specs.declared.log.Logged.{Logged}
 use Rattle.node_set.specs.Members.{Members, no_members}
@@ -22,13 +23,7 @@ last-get (y ∷ z ∷ log) =
     ∙ ap (slice_get (z ∷ log)) (sym (less_one (length log))) ∙ last-get (z ∷ log)
 
 pub last-reply : (o : Option Logged) (x : Logged) (r : Reply) → o ≡ Some x → option_map (λ (e : Logged). e.reply) o ≡ Some r → r ≡ x.reply
-last-reply o x r is reply = the r x.reply (sym reply ∙ ap (option_map (λ (e : Logged). e.reply)) is)
-  where
-    the : (a b : Reply) → Some a ≡ Some b → a ≡ b
-    the a b e = cc
-
-pub the-same : (a b : Logged) → Some a ≡ Some b → a ≡ b
-the-same a b e = cc
+last-reply o x r is reply = same_Some r x.reply (sym reply ∙ ap (option_map (λ (e : Logged). e.reply)) is)
 
 pub no-members : (o : Members) (size : ℕ) → o.nodes ≡ [] → o.size ≡ size → o ≡ no_members size
 no-members o size n s = ap (members o.size) n ∙ ap (λ (z : ℕ). members z []) s
