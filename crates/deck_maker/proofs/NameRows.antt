@@ -1,5 +1,5 @@
 -- Which letter and number the name of a node is.
-use Rattle.std.proofs.Common.{◌≡◌, ℕ, zero, suc, ◌+◌, ◌-◌, ◌*◌, ◌<◌, ◌≤◌, List, [], ◌∷◌, ◌++◌, refl, sym, ap, ◌∙◌, subst, arith}
+use Rattle.std.proofs.Common.{◌≡◌, ℕ, zero, suc, ◌+◌, ◌-◌, ◌*◌, ◌<◌, ◌≤◌, List, [], ◌∷◌, ◌++◌, refl, sym, ap, ◌∙◌, subst, arith, zero-add}
 use Rattle.std.specs.Prelude.{◌/◌, ◌%◌, IsTrue, codes, slice_index_or}
 use Rattle.std.proofs.Math.Nat.{mod-lt}
 use Rattle.std.proofs.lemmas.Nat.{div-add-mod'}
@@ -58,16 +58,13 @@ pub source_name : (n : ℕ) → n < 64 → name_of n ≡ numbered (codes "s") n
 unfolding name_of all_names
 source_name n low = let e : 0 + n ≡ n = omega arith in in_row (codes "s") 0 64 n (row_of_names (codes "f") 0 8 ++ names_of_rows 0 24) low ∙ ap (numbered (codes "s")) e
 
-none_before : (i : ℕ) → 0 + i ≡ i
-none_before i = omega arith
-
 pub fold_name : (n i : ℕ) → n ≡ 64 + i → i < 8 → name_of n ≡ numbered (codes "f") i
 unfolding name_of all_names
 fold_name n i e low =
     ap (λ k. slice_index_or (row_of_names (codes "s") 0 64 ++ (row_of_names (codes "f") 0 8 ++ names_of_rows 0 24)) k []) e
     ∙ behind_row (codes "s") 0 64 i (row_of_names (codes "f") 0 8 ++ names_of_rows 0 24)
     ∙ in_row (codes "f") 0 8 i (names_of_rows 0 24) low
-    ∙ ap (numbered (codes "f")) (none_before i)
+    ∙ ap (numbered (codes "f")) (zero-add i)
 
 behind_folds : (n k : ℕ) → n ≡ 64 + (8 + k) → name_of n ≡ slice_index_or (names_of_rows 0 24) k []
 unfolding name_of all_names
@@ -77,10 +74,10 @@ behind_folds n k e =
     ∙ behind_row (codes "f") 0 8 k (names_of_rows 0 24)
 
 pub signal_name : (n i r : ℕ) → n ≡ 72 + (6 * i + r) → i < 24 → r < 5 → name_of n ≡ numbered (codes "g") (5 * i + r)
-signal_name n i r e low few = behind_folds n (6 * i + r) (omega (arith, e)) ∙ signal_in_rows 0 24 i r low few ∙ ap (λ k. numbered (codes "g") (5 * k + r)) (none_before i)
+signal_name n i r e low few = behind_folds n (6 * i + r) (omega (arith, e)) ∙ signal_in_rows 0 24 i r low few ∙ ap (λ k. numbered (codes "g") (5 * k + r)) (zero-add i)
 
 pub choose_name : (n i : ℕ) → n ≡ 72 + (6 * i + 5) → i < 24 → name_of n ≡ numbered (codes "c") i
-choose_name n i e low = behind_folds n (6 * i + 5) (omega (arith, e)) ∙ choose_in_rows 0 24 i low ∙ ap (numbered (codes "c")) (none_before i)
+choose_name n i e low = behind_folds n (6 * i + 5) (omega (arith, e)) ∙ choose_in_rows 0 24 i low ∙ ap (numbered (codes "c")) (zero-add i)
 
 -- these are names
 pub source_named : (n : ℕ) → n < 64 → IsTrue (is_name (numbered (codes "s") n))

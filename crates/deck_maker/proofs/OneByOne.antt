@@ -1,5 +1,5 @@
 -- The workload's declarations, node by node.
-use Rattle.std.proofs.Common.{◌≡◌, ℕ, zero, suc, ◌+◌, ◌-◌, ◌*◌, ◌<◌, ◌≤◌, false, List, [], ◌∷◌, ◌++◌, drop, refl, sym, ap, ◌∙◌, arith}
+use Rattle.std.proofs.Common.{◌≡◌, ℕ, zero, suc, ◌+◌, ◌-◌, ◌*◌, ◌<◌, ◌≤◌, false, List, [], ◌∷◌, ◌++◌, drop, refl, sym, ap, ◌∙◌, arith, zero-add}
 use Rattle.std.specs.Prelude.{◌%◌, nat_lt, if◌then◌else◌}
 use Rattle.std.proofs.lemmas.Bool.Decides.{Decides-ltb, nat_tests}
 use Rattle.std.proofs.lemmas.List.{drop_more}
@@ -80,9 +80,6 @@ one_kind : (n m x d : ℕ) (kind : DeclKind) → kind_at m x ≡ kind → draws_
 unfolding kinds_from
 one_kind n m x d kind e f = ap (λ k. k ∷ kinds_from n (m + 1) (skip (draws_at m) x)) e ∙ ap (λ c. kind ∷ kinds_from n (m + 1) (skip c x)) f
 
-none_before : (c : ℕ) → c ≡ 0 + c
-none_before c = omega arith
-
 one_before : (n c : ℕ) → suc (n + c) ≡ suc n + c
 one_before n c = omega arith
 
@@ -96,7 +93,7 @@ no_kinds m x = refl
 
 sources_are : (n c m x : ℕ) → m + n ≤ 64 → sources n x ++ kinds_from c (m + n) (skip n x) ≡ kinds_from (n + c) m x
 unfolding sources
-sources_are zero c m x few = let e : m + 0 ≡ m = omega arith in ap (λ k. kinds_from c k (skip 0 x)) e ∙ ap (kinds_from c m) (none_skipped x) ∙ ap (λ k. kinds_from k m x) (none_before c)
+sources_are zero c m x few = let e : m + 0 ≡ m = omega arith in ap (λ k. kinds_from c k (skip 0 x)) e ∙ ap (kinds_from c m) (none_skipped x) ∙ ap (λ k. kinds_from k m x) (sym (zero-add c))
 sources_are (suc n) c m x few =
     let e : m + suc n ≡ m + 1 + n = omega arith in
     let more : suc n ≡ 1 + n = omega arith in
@@ -109,7 +106,7 @@ sources_are (suc n) c m x few =
 
 folds_are : (n c i m x : ℕ) → m ≡ 64 + i → i + n ≤ 8 → folds i n x ++ kinds_from c (m + n) (skip (2 * n) x) ≡ kinds_from (n + c) m x
 unfolding folds
-folds_are zero c i m x at few = let e : m + 0 ≡ m = omega arith in ap (λ k. kinds_from c k (skip 0 x)) e ∙ ap (kinds_from c m) (none_skipped x) ∙ ap (λ k. kinds_from k m x) (none_before c)
+folds_are zero c i m x at few = let e : m + 0 ≡ m = omega arith in ap (λ k. kinds_from c k (skip 0 x)) e ∙ ap (kinds_from c m) (none_skipped x) ∙ ap (λ k. kinds_from k m x) (sym (zero-add c))
 folds_are (suc n) c i m x at few =
     let e : m + suc n ≡ m + 1 + n = omega arith in
     let kind = fold (8 * i + draw x 1 8) (8 * i + draw x 2 8) in
@@ -123,7 +120,7 @@ folds_are (suc n) c i m x at few =
 
 signals_are : (n c q r m x : ℕ) → m ≡ 72 + (q * 6 + r) → r + n ≤ 5 → signals m n x ++ kinds_from c (m + n) (skip (3 * n) x) ≡ kinds_from (n + c) m x
 unfolding signals
-signals_are zero c q r m x at few = let e : m + 0 ≡ m = omega arith in ap (λ k. kinds_from c k (skip 0 x)) e ∙ ap (kinds_from c m) (none_skipped x) ∙ ap (λ k. kinds_from k m x) (none_before c)
+signals_are zero c q r m x at few = let e : m + 0 ≡ m = omega arith in ap (λ k. kinds_from c k (skip 0 x)) e ∙ ap (kinds_from c m) (none_skipped x) ∙ ap (λ k. kinds_from k m x) (sym (zero-add c))
 signals_are (suc n) c q r m x at few =
     let e : m + suc n ≡ m + 1 + n = omega arith in
     let kind = signal (draw x 1 m) (draw x 2 m) (draw x 3 3) in

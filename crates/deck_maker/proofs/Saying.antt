@@ -1,22 +1,16 @@
 -- A line whose names are names and whose scripts are well formed is said by its canonical words.
-use Rattle.std.proofs.Common.{◌≡◌, ℕ, ◌^◌, ◌<◌, ◌≤◌, Bool, true, false, List, [], ◌∷◌, length, refl, sym, ap, ◌∙◌, arith, subst, true≢false}
-use Rattle.std.specs.Prelude.{◌&&◌, if◌then◌else◌, nat_lt, pos, codes, decimal, Some, None}
+use Rattle.std.proofs.Common.{◌≡◌, ℕ, ◌^◌, ◌<◌, ◌≤◌, Bool, true, false, List, [], ◌∷◌, length, refl, ap, arith, subst}
+use Rattle.std.specs.Prelude.{pos, None}
 use Rattle.std.specs.Option.{is_some}
-use Rattle.std.specs.List.{AllByRecursion, list_all}
-use Rattle.std.specs.Str.{bytes_eq}
-use Rattle.std.specs.Char.{is_ascii_digit}
-use Rattle.std.proofs.lemmas.Bool.Decides.{Decides-ltb}
-use Rattle.std.proofs.lemmas.Fmt.{decimal_nonempty}
-use Rattle.std.proofs.lemmas.Slice.Eq.{bytes_eq-Decides}
+use Rattle.std.specs.List.{AllByRecursion}
 use Rattle.script_tree.specs.declared.limits.TheConstants.{INPUTS, CANDIDATES}
-use Rattle.script_tree.specs.declared.value.Value.TheVariants.{Int, Bool as Truth}
+use Rattle.script_tree.specs.declared.value.Value.TheVariants.{Int}
 use Rattle.script_tree.specs.Scripts.{Scripted}
 use Rattle.expr_script.specs.declared.atoms.Atoms.TheVariants.{Script}
 use Rattle.expr_script.specs.Pieces.{words}
 use Rattle.expr_script.specs.Printed.{printed, printed_words}
 use Rattle.expr_script.specs.Spelled.{FormedScript, IsShallow, SpellsScript}
 use Rattle.expr_script.specs.Words.{value}
-use Rattle.expr_script.proofs.Numerals.{decimal_digits, decimal_value}
 use Rattle.signal_graph.specs.declared.builder.DeclKind.TheVariants as kind
 use Rattle.signal_graph.specs.declared.call.Call.TheVariants as call
 use Rattle.signal_graph.specs.Declarations.{Part, script_names, different_names}
@@ -25,9 +19,9 @@ use Rattle.deck_lines.specs.Canonical.{value_words, set_form, part_form, canonic
 use Rattle.deck_lines.specs.Forms as form
 use Rattle.deck_lines.specs.Forms.{IsName}
 use Rattle.deck_lines.specs.Lines.{IsLine}
-use Rattle.deck_lines.specs.Values.{plain, value_of}
 use Rattle.deck_lines.proofs.Judging.{chosen}
 use Rattle.deck_lines.proofs.NoSigns.{no_colon, no_among}
+use Rattle.deck_lines.proofs.ValueBack.{plain_back}
 
 -- the canonical words of scripts spell them
 pub record Canons : Type 0 where
@@ -42,29 +36,9 @@ pub record IsSayable (acc : Bool) (script : Scripted) : Type 0 where
 spelled : Canons → (acc : Bool) (script : Scripted) → IsSayable acc script → SpellsScript acc (printed_words script) script
 spelled k acc script h = subst (λ (ws : List (List ℕ)). SpellsScript acc ws script) (k.words_are acc script h.formed) (k.spells acc script h.formed h.shallow)
 
--- the digits of a number are no word
-no_digits : (n : ℕ) (word : List ℕ) → n < 2 ^ 64 → list_all is_ascii_digit word ≡ false → bytes_eq (decimal n) word ≡ false
-no_digits n word h other = by_test (bytes_eq (decimal n) word) refl
-  where
-    by_test : (t : Bool) → bytes_eq (decimal n) word ≡ t → t ≡ false
-    by_test true e = absurd (true≢false (sym (decimal_digits n h) ∙ ap (list_all is_ascii_digit) ((bytes_eq-Decides (decimal n) word).0 e) ∙ other))
-    by_test false e = refl
-
--- a number is read from its digits
-number_said : (n : ℕ) → n < 2 ^ 63 → value_of (decimal n ∷ []) ≡ Some (Int (pos n))
-number_said n h =
-    let small : n < 2 ^ 64 = omega (arith, h) in
-    let some = (Decides-ltb 0 (length (decimal n))).1 (decimal_nonempty n small) in
-    let low = (Decides-ltb n (2 ^ 63)).1 h in
-    ap (λ t. if t then Some (Truth true) else if bytes_eq (decimal n) (codes "false") then Some (Truth false) else plain (decimal n)) (no_digits n (codes "true") small refl)
-    ∙ ap (λ t. if t then Some (Truth false) else plain (decimal n)) (no_digits n (codes "false") small refl)
-    ∙ ap (λ t. if t && nat_lt (value 0 (decimal n)) (2 ^ 63) then Some (Int (pos (value 0 (decimal n)))) else None) (ap (λ t. t && list_all is_ascii_digit (decimal n)) some ∙ decimal_digits n small)
-    ∙ ap (λ v. if nat_lt v (2 ^ 63) then Some (Int (pos v)) else None) (decimal_value n small)
-    ∙ ap (λ t. if t then Some (Int (pos n)) else None) low
-
 pub source_said : (name : List ℕ) (n : ℕ) → IsName name → n < 2 ^ 63 → IsLine (canonical_words (Declares name (kind.Source (Int (pos n))))) (Declares name (kind.Source (Int (pos n))))
 source_said name n h low =
-    let back = number_said n low in
+    let back = plain_back n low in
     record {
       f = form.Source name (value_words (Int (pos n)));
       fits = record { same = refl; proper = (h, ap is_some back) };
@@ -84,7 +58,7 @@ signal_said k name script h s =
 
 pub fold_said : Canons → (name : List ℕ) (n : ℕ) (script : Scripted) → IsName name → n < 2 ^ 63 → IsSayable true script → IsLine (canonical_words (Declares name (kind.Fold (Int (pos n)) script))) (Declares name (kind.Fold (Int (pos n)) script))
 fold_said k name n script h low s =
-    let value = number_said n low in
+    let value = plain_back n low in
     let back = spelled k true script s in
     record {
       f = form.Fold name (value_words (Int (pos n))) (printed_words script);
@@ -121,7 +95,7 @@ thread_said = record { f = form.Thread; fits = record { same = refl; proper = tt
 -- a fire of one set and one look, and a read of one look
 pub fire_said : (name look : List ℕ) (n : ℕ) → IsName name → IsName look → n < 2 ^ 63 → IsLine (canonical_words (Calls (call.Fire ((name, Int (pos n)) ∷ []) (look ∷ [])))) (Calls (call.Fire ((name, Int (pos n)) ∷ []) (look ∷ [])))
 fire_said name look n h k low =
-    let back = number_said n low in
+    let back = plain_back n low in
     record {
       f = form.Fire (set_form (name, Int (pos n)) ∷ []) (look ∷ []);
       fits = record { same = refl; proper = (omega arith, (record { named = h; start = ap is_some back }, tt), (k, tt)) };

@@ -1,6 +1,6 @@
 -- Few short words are a short text.
 use Rattle.std.proofs.Common.{◌≡◌, ℕ, zero, suc, ◌*◌, ◌^◌, ◌<◌, ◌≤◌, Bool, true, false, List, [], ◌∷◌, length, map, arith}
-use Rattle.std.specs.Prelude.{not, ◌&&◌, if◌then◌else◌, nat_lt, nat_le, pos, negsuc, codes, decimal, slice_get, unwrap_or}
+use Rattle.std.specs.Prelude.{not, ◌&&◌, nat_lt, nat_le, pos, negsuc, decimal, slice_get, unwrap_or}
 use Rattle.std.specs.List.{AllByRecursion, list_all}
 use Rattle.std.proofs.lemmas.Bool.Decides.{Decides-ltb, nat_tests}
 use Rattle.std.proofs.lemmas.Fmt.{length-decimal-le}
@@ -12,10 +12,9 @@ use Rattle.script_tree.specs.Names.{is_word, is_reserved, starts_well}
 use Rattle.script_grammar.specs.declared.token.Word.TheVariants.{Digits, Yes, No, Called, Pick, Acc}
 use Rattle.script_grammar.specs.declared.token.Token.{Token}
 use Rattle.script_grammar.specs.declared.token.Token.TheVariants.{Plain, Sign, Minus, Bang, Opens, Closes, IfWord, ThenWord, ElseWord, Stray}
-use Rattle.expr_script.specs.Cut.{begins_word}
-use Rattle.expr_script.specs.Joined.{between, behind}
+use Rattle.expr_script.specs.Joined.{behind}
 use Rattle.expr_script.specs.Printed.{sign_text, token_text}
-use Rattle.expr_script.proofs.CutBack.{length_behind}
+use Rattle.expr_script.proofs.CutBack.{length_behind, between_short}
 use Rattle.deck_lines.specs.Forms.{IsName}
 
 -- a word of no more bytes than a name may have
@@ -29,16 +28,13 @@ name_short name h =
     let few = (and_parts (nat_le (length name) NAME_BYTES) (not (is_reserved name)) all.1).0 in
     grind (arith, nat_tests, few)
 
-gap_short : (last w : List ℕ) → length (between last w) ≤ 1
-gap_short last w = elim (begins_word last && begins_word w) as (λ t. length (if t then codes " " else []) ≤ 1) [ true ↦ omega arith | false ↦ omega arith ]
-
 pub words_short : (last : List ℕ) (ws : List (List ℕ)) → AllByRecursion Short ws → length (behind last ws) ≤ 33 * length ws
 words_short last [] h = omega arith
 words_short last (w ∷ ws) h =
     let rest = words_short w ws h.1 in
     let first = h.0 in
     let whole = length_behind last w ws in
-    let space = gap_short last w in
+    let space = between_short last w in
     omega (arith, rest, first, whole, space)
 
 -- a token that is written in a short word, whatever the names are; a number has no sign, and a pick is left out
