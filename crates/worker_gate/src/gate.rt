@@ -19,6 +19,7 @@ pub struct OpenGate;
 
 impl Gate for OpenGate {
     /// Takes no memory.
+    #[inline(always)]
     fn at<R: Wait>(&self, _rt: &R, _caller: u32, _node: u32) {}
 
     fn may_wait(&self) -> bool {

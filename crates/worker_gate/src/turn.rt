@@ -47,15 +47,18 @@ impl<'t> Turn<'t> {
     }
 
     /// Before a step of a call: waits for a turn, unless this worker has it and steps are left of it.
+    #[inline(always)]
     pub(crate) fn step<R: Wait>(&mut self, rt: &R) {
         if self.left == 0 {
             self.take(rt);
+        } else {
+            self.left -= 1;
         }
-        self.left = self.left.saturating_sub(1);
     }
 
     /// Before an answer is put, which counts as a step. Where heavy scripts are evaluated turns are short: so who gave its turn up for
     /// one looks for a while whether it has its next turn before it sleeps.
+    #[inline(always)]
     pub(crate) fn put_answer<R: Wait>(&mut self, rt: &R) {
         if self.is_used && self.held.is_none() {
             self.look();
@@ -64,6 +67,8 @@ impl<'t> Turn<'t> {
     }
 
     // Passes the turnstile if that gets free soon.
+    #[cold]
+    #[inline(never)]
     fn look(&mut self) {
         for _ in 0..LOOKS {
             if let Some(held) = self.turnstile.try_lock() {
@@ -75,13 +80,15 @@ impl<'t> Turn<'t> {
         }
     }
 
-    // Lets others pass, and waits for a turn of all steps.
+    // Lets others pass, and waits for a turn of all steps, of which the one that comes now is the first.
+    #[cold]
+    #[inline(never)]
     fn take<R: Wait>(&mut self, rt: &R) {
         self.give_up();
         if self.is_used {
             self.held = Some(self.turnstile.lock(rt));
         }
-        self.left = MOST_STEPS;
+        self.left = MOST_STEPS - 1;
     }
 
     /// Before a wait: gives the turn up.
@@ -91,6 +98,7 @@ impl<'t> Turn<'t> {
     }
 
     /// Before a script is evaluated: gives the turn up where the script is heavy.
+    #[inline(always)]
     pub(crate) fn evaluate(&mut self, is_heavy: bool) {
         if is_heavy {
             self.give_up();

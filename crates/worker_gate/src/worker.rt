@@ -1,14 +1,16 @@
 // What one worker does.
 
-ghost use Rattle.std.specs.Prelude.{◌≡◌, ◌+◌, ◌^◌, ◌<◌, ◌≤◌, [], length, All, MatchBool};
+ghost use Rattle.std.specs.Prelude.{◌≡◌, ◌+◌, ◌^◌, ◌<◌, ◌≤◌, [], length, All, MatchBool, Some};
 ghost use Rattle.flow_model.specs.Follows.Callers.{count_begins, IsWithin};
 ghost use Rattle.interleave_core.specs.Beginning.{why_of};
+ghost use Rattle.caller_fronts.specs.Jobs.{job_of};
 ghost use Rattle.worker_gate.specs.Scripts.{HasMadeIt};
 ghost use Rattle.worker_gate.specs.Calls.{Sees, HasGone, IsListed, IsTaken};
 
 use crate::gate::Gate;
 use crate::turn::Turn;
 use flow_model::Cause;
+use flow_state::Job;
 use signal_graph::call::Call;
 use signal_graph::log::{Refused, RefusedList, Why};
 use std::alloc::Global;
@@ -41,6 +43,27 @@ fn end<J: Naming, R: Wait>(
     }
 }
 
+// Evaluates a job of a call, with no lock held, and hands its answer in.
+#[inline(always)]
+fn evaluate<J: Naming, G: Gate, R: Wait>(
+    rt: &R,
+    sweeper: &Sweeper<'_, J>,
+    live: Live<J>,
+    job: Job<'_, '_>,
+    gate: &G,
+    turn: &mut Turn<'_>,
+) -> Live<J>
+    requires { job_of job.node live.out ≡ Some job }
+    ensures caller { result.caller ≡ live.caller }
+    ensures sees { Sees live.caller live.front result.front }
+{
+    turn.evaluate(sweeper.is_heavy(job.node()));
+    gate.at(rt, live.caller(), job.node());
+    let answer = job.evaluate();
+    turn.put_answer(rt);
+    sweeper.put(rt, live, answer)
+}
+
 // What a call does next: a step, an evaluation, its end; or it waits.
 #[inline(always)]
 fn go_on<J: Naming, G: Gate, R: Wait>(
@@ -56,13 +79,7 @@ fn go_on<J: Naming, G: Gate, R: Wait>(
     turn.step(rt);
     match sweeper.advance(rt, live, room) {
         Advance::Stepped(live) => Gone::On(live),
-        Advance::Evaluate(live, job) => {
-            turn.evaluate(sweeper.is_heavy(job.node()));
-            gate.at(rt, live.caller(), job.node());
-            let answer = job.evaluate();
-            turn.put_answer(rt);
-            Gone::On(sweeper.put(rt, live, answer))
-        }
+        Advance::Evaluate(live, job) => Gone::On(evaluate(rt, sweeper, live, job, gate, turn)),
         Advance::NotYet(live, _) => {
             turn.give_up();
             Gone::On(sweeper.wait_for_growth(rt, live))

@@ -1,4 +1,4 @@
-use Rattle.worker_gate.proofs.Tokens.{waits-Still, put-Still, further-Still, stepped-Still, job-Still, not_yet-Still, ready-Still, further-HasGone}
+use Rattle.worker_gate.proofs.Tokens.{waits-Still, further-Still, stepped-Still, job-Still, not_yet-Still, ready-Still, further-HasGone}
 use Rattle.worker_gate.proofs.worker.go_on.Goals as goal
 
 pub returns-in-Stepped : goal.returns-in-Stepped
@@ -7,9 +7,9 @@ returns-in-Stepped g c = stepped-Still g.J.Naming.graph g.J.Naming.callers g.J.N
 pub returns-in-Evaluate : goal.returns-in-Evaluate
 returns-in-Evaluate g c =
     let x = c.in-Evaluate in
-    further-Still c.args.live x.live c.put.result
+    further-Still c.args.live x.live c.evaluate.result
     (job-Still g.J.Naming.graph g.J.Naming.callers g.J.Naming.limit c.args.live x.live x.job c.advance.result c.advance.ensures x.is).0
-    (put-Still g.J.Naming.graph g.J.Naming.callers g.J.Naming.limit x.live c.put.result c.evaluate-answer.result c.put.ensures)
+    (c.evaluate.ensures.caller, c.evaluate.ensures.sees)
 
 pub returns-in-NotYet : goal.returns-in-NotYet
 returns-in-NotYet g c =
