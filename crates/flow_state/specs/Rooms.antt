@@ -1,6 +1,5 @@
 -- How a seat is kept, and what contracts see in a `Room`.
-use Rattle.std.specs.Prelude.{◌≡◌, ℕ, ◌≤◌, List, length, map}
-use Rattle.std.specs.List.{zip}
+use Rattle.std.specs.Prelude.{◌≡◌, ℕ, ◌≤◌, List, length}
 use Rattle.script_tree.specs.declared.value.Value.{Value}
 use Rattle.signal_graph.specs.declared.call.Call.{Call}
 use Rattle.signal_graph.specs.Graph.{Graph}
@@ -19,10 +18,6 @@ pub record Roomy : Type 0 where
   pub sets : List (ℕ × Value)
   pub looks : List ℕ
   pub nodes : ℕ
-
--- the values of sets, with the numbers of their names
-abbrev pub numbered : List ℕ → List (List ℕ × Value) → List (ℕ × Value)
-numbered numbers sets = zip numbers (map (λ (set : List ℕ × Value). set.1) sets)
 
 -- The room is one that was made for the call in this graph.
 pub record IsRoomFor (graph : Graph) (call : Call) (room : Roomy) : Type 0 where

@@ -1,44 +1,43 @@
 // The record of live calls.
 
-ghost use Rattle.std.specs.Prelude.{◌≡◌, ◌≢◌, ℕ, [], ◌<◌, ◌≤◌, ◌+◌, ◌^◌, true, false, length, map, slice_index, None, IfOk, OnOk, OnErr, slice_get, Some};
+ghost use Rattle.std.specs.Prelude.{◌≡◌, ◌≢◌, ℕ, [], ◌<◌, ◌≤◌, ◌+◌, ◌^◌, true, false, length, map, slice_index, None, IfOk, IfErr, OnOk, OnErr, slice_get, Some};
 ghost use Rattle.std.specs.List.{list_any, range_with_len};
-ghost use Rattle.script_tree.specs.declared.limits.TheConstants.{THREADS, VERSIONS, LOOKS};
+ghost use Rattle.script_tree.specs.declared.limits.TheConstants.{THREADS, VERSIONS, SETS, LOOKS};
 ghost use Rattle.std.specs.Option.{option_copied};
 ghost use Rattle.script_tree.specs.declared.value.Value.TheVariants as values;
 ghost use Rattle.script_tree.specs.declared.value.Fault.TheVariants.{NoChoice};
 ghost use Rattle.signal_graph.specs.Graph.{is_in};
+ghost use Rattle.signal_graph.specs.Machine.{sets_of, looks_of, misnamed};
 ghost use Rattle.order_graph.specs.Order.{reaches, is_recorded};
 ghost use Rattle.flow_model.specs.Machine.Sets.{least};
 ghost use Rattle.flow_model.specs.Machine.State.{call_of, changes};
 ghost use Rattle.flow_model.specs.Machine.Words.{gathered_of, set_value, presses, found_picks, picks_of_found};
 ghost use Rattle.flow_model.specs.Machine.Changes.{closed};
-ghost use Rattle.flow_model.specs.Machine.Steps.{started, counted, with_look, free_slot, is_framing_before};
+ghost use Rattle.flow_model.specs.Machine.Steps.{sets_in, looks_in, started, counted, with_look, free_slot, is_framing_before};
 ghost use Rattle.flow_model.specs.Machine.Schedules.{version_of};
 ghost use Rattle.flow_model.specs.Machine.Next.{least_version};
 ghost use Rattle.node_set.specs.Members.{first_from};
 ghost use Rattle.flow_state.specs.Booked.{AreApart, AreInside, opened_book, room_at, one_room_more, one_room_less, begin_call, end_call, call_in, live_in, next_look_in, node_count, work_at, stops_in, on_call, on_work, link_calls, opened_one, wanting, pressed_in, call_nth};
 ghost use Rattle.flow_model.specs.Parts.Books.{bare, no_work, with_gathered, with_found, with_body, forgotten};
-ghost use Rattle.flow_state.specs.Rooms.{numbered};
 ghost use Rattle.flow_state.specs.Found.{found_of, found_option};
 ghost use Rattle.flow_state.specs.Jobs.{found_items, answer_in, IsJob};
 
-use crate::asked::sets_by_node;
 use crate::found::Finding;
 use crate::job::Job;
 use crate::job_room::JobRoom;
 use crate::outcome::Answer;
-use crate::room::Room;
+use crate::room::{Lists, Room};
 use crate::seating::Seating;
 use crate::shelf::Shelves;
 use call_log::Log;
 use script_tree::memory::OutOfMemory;
-use script_tree::name::Name;
 use script_tree::picks::Picks;
 use script_tree::value::Value;
 use signal_graph::call::Call;
 use signal_graph::graph::Graph;
 use std::alloc::Global;
 use std::marker::Model;
+use std::mem::replace;
 
 /// The record of all live calls: what a state of interleaved calls has beside the lists of its nodes.
 ///
@@ -53,6 +52,8 @@ pub struct Book {
     calls: Seating,
     shelves: Shelves,
     log: Log,
+    // What the last call of a seat set and looked at, whose memory serves for the next room.
+    lists: Lists,
 }
 
 impl Model for Book {
@@ -91,30 +92,60 @@ impl Book {
             calls,
             shelves,
             log,
+            lists: Lists::new(alloc),
         })
     }
 
-    /// Takes all memory that a call will need which sets these values, `numbers` being the nodes of their names, and looks at these
-    /// nodes. The room has to be spent by the call's beginning, or given back.
+    /// Takes all memory that a call will need, where its names are those of this graph's nodes, and of sources in sets. Answers else
+    /// the place of the first name at fault, or none where there was no memory. The room has to be spent by the call's beginning, or
+    /// given back.
     pub fn make_room(
         &mut self,
         alloc: Global,
-        numbers: &[u32],
-        sets: &[(Name, Value)],
-        looks: &[u32],
-    ) -> Result<Room, OutOfMemory>
-        requires { length numbers.now ≡ length sets.now }
+        graph: &Graph,
+        call: &Call,
+    ) -> Result<Room, Option<u32>>
+        requires sets { length (sets_of call.now) ≤ SETS }
+        requires looks { length (looks_of call.now) ≤ LOOKS }
         ensures ok { OnOk result (self.new ≡ one_room_more self.old) }
         ensures err { OnErr result (self.new ≡ self.old) }
-        ensures room { IfOk result (λ room.
-            room ≡ record { sets = numbered numbers.now sets.now; looks = looks.now; nodes = node_count self.old }) }
+        ensures room { IfOk result (λ room. room ≡ record {
+          sets = sets_in graph.now call.now;
+          looks = looks_in graph.now call.now;
+          nodes = node_count self.old;
+        }) }
+        ensures named { OnOk result (misnamed graph.now call.now ≡ None) }
+        ensures misnamed { IfErr result (λ place. place ≡ misnamed graph.now call.now) }
+    {
+        let mut lists = replace(&mut self.lists, Lists::new(alloc));
+        match lists.make_ready(call.sets().len(), call.looks().len()) {
+            Ok(()) => {}
+            Err(_) => return Err(call.misnamed(graph)),
+        }
+        if let Some(place) = call.named_into(graph, &mut lists.sets, &mut lists.looks) {
+            self.lists = lists;
+            return Err(Some(place));
+        }
+        match self.room_for(alloc, lists) {
+            Ok(room) => Ok(room),
+            Err(_) => Err(None),
+        }
+    }
+
+    // The room of a call that sets and looks at this. Takes memory; where there is none the lists are dropped.
+    fn room_for(&mut self, alloc: Global, lists: Lists) -> Result<Room, OutOfMemory>
+        ensures ok { OnOk result (self.new ≡ one_room_more self.old) }
+        ensures err { OnErr result (self.new ≡ self.old) }
+        ensures room { IfOk result (λ room. room ≡ record {
+          sets = lists.sets.items;
+          looks = lists.looks.items;
+          nodes = node_count self.old;
+        }) }
     {
         let Some(rooms) = self.rooms.checked_add(1) else {
             return Err(OutOfMemory);
         };
-        let sets = sets_by_node(alloc, numbers, sets)?;
-        let looks = Vec::from_slice(alloc, looks)?;
-        let looked = Vec::with_capacity(alloc, looks.len())?;
+        let looked = Vec::with_capacity(alloc, lists.looks.len())?;
         if self.spare == 0 {
             self.log.reserve_one()?;
         } else {
@@ -122,8 +153,7 @@ impl Book {
         }
         self.rooms = rooms;
         Ok(Room {
-            sets,
-            looks,
+            lists,
             looked,
             nodes: self.calls.nodes(),
         })
@@ -135,12 +165,12 @@ impl Book {
         ensures { self.new ≡ one_room_less self.old }
     {
         let Room {
-            sets: _,
-            looks: _,
+            lists,
             looked: _,
             nodes: _,
         } = room;
         let rooms = self.rooms - 1;
+        self.lists = lists;
         self.rooms = rooms;
         self.spare = self.spare.saturating_add(1);
     }
@@ -158,7 +188,7 @@ impl Book {
     {
         let version = self.begun + 1;
         let rooms = self.rooms - 1;
-        self.calls.begin(version, caller, call, room);
+        self.lists = self.calls.begin(version, caller, call, room);
         self.begun = version;
         self.rooms = rooms;
         version

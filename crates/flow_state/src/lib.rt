@@ -8,7 +8,6 @@ pub use job_room::JobRoom;
 pub use outcome::{Answer, Outcome};
 pub use room::Room;
 
-mod asked;
 mod book;
 mod counts;
 mod found;

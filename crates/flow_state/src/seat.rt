@@ -17,7 +17,7 @@ ghost use Rattle.flow_state.specs.Booked.{AreInside, opened_one, wanting, reply_
 ghost use Rattle.flow_state.specs.Seats.{Seated, with_seated, one_if, count_at, Follow};
 
 use crate::counts::{want_all, want_none};
-use crate::room::Room;
+use crate::room::{Lists, Room};
 use node_set::NodeSet;
 use order_graph::MAX_CALLERS;
 use script_tree::items::Items;
@@ -182,7 +182,7 @@ impl Seat {
         last_set(self.sets.as_slice(), node)
     }
 
-    /// A call begins in a room. The counts of nodes change with what the seat wants.
+    /// A call begins in a room. The counts of nodes change with what the seat wants. Answers what the last call set and looked at.
     pub(crate) fn begin(
         &mut self,
         version: u32,
@@ -190,7 +190,7 @@ impl Seat {
         call: Call,
         room: Room,
         counts: &mut [u32],
-    )
+    ) -> Lists
         requires sets { AreInside self.old.size room.sets }
         requires looks { length room.looks ≤ LOOKS }
         requires count_each { length counts.old ≡ self.old.size }
@@ -205,11 +205,11 @@ impl Seat {
         ensures counts { Follow counts.old self.old.call.wanted counts.new self.new.call.wanted }
     {
         let Room {
-            sets,
-            looks,
+            lists,
             looked,
             nodes: _,
         } = room;
+        let Lists { sets, looks } = lists;
         let look_room = looks.len() as u32;
         want_none(&mut self.wanted, counts);
         self.open_nodes.clear();
@@ -219,11 +219,13 @@ impl Seat {
         self.caller = caller;
         self.executing = sets.is_empty();
         self.evaluated = 0;
-        self.sets = sets;
-        self.looks = looks;
         self.looked = looked;
         self.call = call;
         self.room = look_room;
+        Lists {
+            sets: replace(&mut self.sets, sets),
+            looks: replace(&mut self.looks, looks),
+        }
     }
 
     /// The call ends, and the seat is free. Answers the call with its reply.

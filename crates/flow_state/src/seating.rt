@@ -13,7 +13,7 @@ ghost use Rattle.flow_state.specs.Booked.{AreInside, opened_one, wanting, begun_
 ghost use Rattle.flow_state.specs.Seats.{find_call, has_call, on_live, stops_live, presses_live, pressed_live, before_live, framing_before_live, LeadsToLive, with_pairs, one_call_more, slot_in, has_version, AreAscending, free_seat, no_calls, left_calls, without_tenant};
 
 use crate::counts::{is_unwanted, lower, raise};
-use crate::room::Room;
+use crate::room::{Lists, Room};
 use crate::seat::Seat;
 use node_set::NodeSet;
 use order_graph::{MAX_CALLERS, OrderGraph};
@@ -186,8 +186,9 @@ impl Seating {
         }
     }
 
-    /// A call begins in a room, with a version above those of all live calls, in the least free slot.
-    pub(crate) fn begin(&mut self, version: u32, caller: u32, call: Call, room: Room)
+    /// A call begins in a room, with a version above those of all live calls, in the least free slot. Answers what the slot's last call
+    /// set and looked at.
+    pub(crate) fn begin(&mut self, version: u32, caller: u32, call: Call, room: Room) -> Lists
         requires some { 0 < version }
         requires newest { (t : ℕ) → has_call self.old t ≡ true → t < version }
         requires slot { free_slot self.old.callers 0 self.old.calls < self.old.callers }
@@ -198,9 +199,10 @@ impl Seating {
         let slot = self.free_slot();
         self.live.push_reserved(Tenant { version, slot });
         let counts = self.counts.as_mut_slice();
-        self.seats[slot as usize].begin(version, caller, call, room, counts);
+        let last = self.seats[slot as usize].begin(version, caller, call, room, counts);
         self.hints[version as usize % HINTS] = slot as u16;
         self.free.remove(slot);
+        last
     }
 
     /// Opens a node that the call wanted.

@@ -1,20 +1,15 @@
 -- The core before any call, and after a beginning.
-use Rattle.std.proofs.Common.{◌≡◌, ℕ, suc, ◌+◌, ◌-◌, ◌<◌, true, Result, Ok, Err, List, [], ◌∷◌, length, map, refl, sym, ap, ◌∙◌, subst}
-use Rattle.std.specs.Prelude.{IfOk}
-use Rattle.script_tree.specs.declared.memory.OutOfMemory.{OutOfMemory}
-use Rattle.script_tree.specs.declared.value.Value.{Value}
-use Rattle.signal_graph.specs.Machine.{sets_of}
-use Rattle.signal_graph.specs.Named.{Numbers, numbers_in}
+use Rattle.std.proofs.Common.{◌≡◌, ℕ, suc, ◌+◌, ◌-◌, ◌<◌, true, List, [], ◌∷◌, length, map, refl, sym, ap, ◌∙◌, subst}
 use Rattle.signal_graph.specs.declared.call.Call.{Call}
 use Rattle.signal_graph.specs.declared.node.Node.{Node}
-use Rattle.signal_graph.specs.Graph.{Graph, IsGraph, numbers, numbers_from, number_of}
+use Rattle.signal_graph.specs.Graph.{Graph, IsGraph, numbers, numbers_from}
 use Rattle.node_versions.specs.Entries.{Versions}
 use Rattle.flow_model.specs.Machine.State.{Core, Cell, start_cell, opening}
-use Rattle.flow_model.specs.Machine.Steps.{can_begin, begin}
+use Rattle.flow_model.specs.Machine.Steps.{sets_in, looks_in, can_begin, begin}
 use Rattle.flow_model.specs.Kept.Lawful.{IsLawful}
 use Rattle.flow_model.specs.Parts.Books.{Work, work_in}
 use Rattle.flow_state.specs.Booked.{Booked, opened_book}
-use Rattle.flow_state.specs.Rooms.{Roomy, IsRoomFor, numbered}
+use Rattle.flow_state.specs.Rooms.{Roomy, IsRoomFor}
 use Rattle.framing.specs.Begins.{book_begun, IsBeginning}
 use Rattle.interleave_core.specs.Whole.{Whole, cells_of, state_of, whole_of, HaveRooms, IsWhole}
 use Rattle.interleave_core.specs.Opening.{start_list, opened_core}
@@ -96,35 +91,13 @@ pub works_nodes : (graph : Graph) (book : Booked) (lists : List Versions) → Is
     → length book.book.works ≡ length graph.nodes
 works_nodes graph book lists kept = sym kept.many ∙ all_nodes graph book lists kept
 
-numbered_is : (graph : Graph) (sets : List (List ℕ × Value))
-    → numbered (map (λ (set : List ℕ × Value). number_of graph set.0) sets) sets ≡ map (λ (set : List ℕ × Value). (number_of graph set.0, set.1)) sets
-numbered_is graph [] = refl
-numbered_is graph (s ∷ ss) = ap (λ (xs : List (ℕ × Value)). (number_of graph s.0, s.1) ∷ xs) (numbered_is graph ss)
-
-pub sets_named : (graph other : Graph) (call : Call) (named : Numbers) (ns : List ℕ) → graph ≡ other → ns ≡ named.sets
-    → named ≡ numbers_in graph call → ns ≡ (numbers_in other call).sets
-sets_named graph other call named ns same is e = is ∙ ap (λ (n : Numbers). n.sets) e ∙ ap (λ (g : Graph). (numbers_in g call).sets) same
-
-pub looks_named : (graph other : Graph) (call : Call) (named : Numbers) (ns : List ℕ) → graph ≡ other → ns ≡ named.looks
-    → named ≡ numbers_in graph call → ns ≡ (numbers_in other call).looks
-looks_named graph other call named ns same is e = is ∙ ap (λ (n : Numbers). n.looks) e ∙ ap (λ (g : Graph). (numbers_in g call).looks) same
-
-pub room_for : (room : Roomy) (graph : Graph) (call : Call) (ns : List ℕ) (sets : List (List ℕ × Value)) (looks : List ℕ) (nodes : ℕ)
-    → ns ≡ (numbers_in graph call).sets → sets ≡ sets_of call → looks ≡ (numbers_in graph call).looks
-    → room ≡ record { sets = numbered ns sets; looks = looks; nodes = nodes } → nodes ≡ length graph.nodes → IsRoomFor graph call room
-room_for room graph call ns sets looks nodes n s l h e = record {
-  sets = ap (λ (r : Roomy). r.sets) h ∙ ap (λ (ms : List ℕ). numbered ms sets) n
-      ∙ ap (numbered (numbers_in graph call).sets) s ∙ numbered_is graph (sets_of call);
-  looks = ap (λ (r : Roomy). r.looks) h ∙ l;
-  nodes = ap (λ (r : Roomy). r.nodes) h ∙ e;
+pub room_made : (room : Roomy) (graph other : Graph) (call : Call) (nodes : ℕ) → graph ≡ other
+    → room ≡ record { sets = sets_in graph call; looks = looks_in graph call; nodes = nodes } → nodes ≡ length other.nodes → IsRoomFor other call room
+room_made room graph other call nodes same is many = record {
+  sets = ap (λ (r : Roomy). r.sets) is ∙ ap (λ (g : Graph). sets_in g call) same;
+  looks = ap (λ (r : Roomy). r.looks) is ∙ ap (λ (g : Graph). looks_in g call) same;
+  nodes = ap (λ (r : Roomy). r.nodes) is ∙ many;
 }
-
-pub room_is : (result : Result Roomy OutOfMemory) (graph : Graph) (call : Call) (ns : List ℕ) (sets : List (List ℕ × Value)) (looks : List ℕ) (nodes : ℕ)
-    → ns ≡ (numbers_in graph call).sets → sets ≡ sets_of call → looks ≡ (numbers_in graph call).looks
-    → IfOk result (λ room. room ≡ record { sets = numbered ns sets; looks = looks; nodes = nodes }) → nodes ≡ length graph.nodes
-    → IfOk result (IsRoomFor graph call)
-room_is (Ok room) graph call ns sets looks nodes n s l h e = room_for room graph call ns sets looks nodes n s l h e
-room_is (Err f) graph call ns sets looks nodes n s l h e = h
 
 pub can_begin_here : (graph : Graph) (book : Booked) (lists : List Versions) (caller : ℕ) (call : Call) (seen : Whole)
     → whole_of graph book lists ≡ seen → can_begin seen.graph seen.state caller call ≡ true

@@ -14,6 +14,7 @@ use crate::refusal::Refusal;
 use flow_model::laws::{lawful_stays, opening_is_lawful};
 use flow_state::{Book, Room};
 use framing::begin;
+use script_tree::items::Items;
 use script_tree::limits::SETS;
 use script_tree::memory::OutOfMemory;
 use signal_graph::call::Call;
@@ -61,21 +62,18 @@ impl Core<'_> {
         ensures begins { OnOk result (AllCanBegin self.old.graph self.old.state call.now) }
         ensures why { IfErr result (λ refusal. why_of refusal ≡ refused_in self.old.graph self.old.state call.now) }
     {
-        let named = match call.named_in(self.graph) {
-            Ok(named) => named,
-            Err(place) => return Err(Refusal::UnknownName(place)),
-        };
         let limit = self.book.limit();
         if self.book.begun() >= limit {
-            return Err(Refusal::VersionsUsedUp(limit));
+            return match call.misnamed(self.graph) {
+                Some(place) => Err(Refusal::UnknownName(place)),
+                None => Err(Refusal::VersionsUsedUp(limit)),
+            };
         }
-        let Ok(room) = self
-            .book
-            .make_room(alloc, named.sets(), call.sets(), named.looks())
-        else {
-            return Err(Refusal::Memory);
-        };
-        Ok(room)
+        match self.book.make_room(alloc, self.graph, call) {
+            Ok(room) => Ok(room),
+            Err(Some(place)) => Err(Refusal::UnknownName(place)),
+            Err(None) => Err(Refusal::Memory),
+        }
     }
 
     /// Takes all memory that a call will need which is within the limits and names in this graph what it has to; the room of any
@@ -88,14 +86,29 @@ impl Core<'_> {
         ensures room { length (sets_of call.now) ≤ SETS → misnamed self.old.graph call.now ≡ None
             → IfOk result (IsRoomFor self.old.graph call.now) }
     {
-        if call.sets().len() <= SETS {
-            if let Ok(named) = call.named_in(self.graph) {
-                return self
-                    .book
-                    .make_room(alloc, named.sets(), call.sets(), named.looks());
-            }
+        if call.sets().len() > SETS {
+            return self.room_for_no_names(alloc);
         }
-        self.book.make_room(alloc, &[], &[], &[])
+        let made = self.book.make_room(alloc, self.graph, call);
+        match made {
+            Ok(room) => Ok(room),
+            Err(Some(_)) => self.room_for_no_names(alloc),
+            Err(None) => Err(OutOfMemory),
+        }
+    }
+
+    // The room of a call that sets nothing and looks at nothing.
+    fn room_for_no_names(&mut self, alloc: Global) -> Result<Room, OutOfMemory>
+        ensures ok { OnOk result (self.new ≡ one_room_more self.old) }
+        ensures err { OnErr result (self.new ≡ self.old) }
+    {
+        let nothing = Call::Read {
+            looks: Items::new(alloc),
+        };
+        match self.book.make_room(alloc, self.graph, &nothing) {
+            Ok(room) => Ok(room),
+            Err(_) => Err(OutOfMemory),
+        }
     }
 
     /// Takes a room back that was not used. Takes no memory.
