@@ -98,10 +98,13 @@ pub(crate) struct Prepared {
 }
 
 impl Prepared {
-    pub(crate) fn new(alloc: Global, call: &Call) -> Result<Prepared, OutOfMemory>
+    /// The memory of the caller's last reply serves again.
+    pub(crate) fn new(alloc: Global, last: Vec<Value>, call: &Call) -> Result<Prepared, OutOfMemory>
         ensures { IfOk result (λ p. (p.call ≡ call.now) × (p.looks.items ≡ []) × (length (looks_of call.now) ≤ vec_capacity p.looks)) }
     {
-        let looks = Vec::with_capacity(alloc, call.looks().len())?;
+        let mut looks = last;
+        looks.clear();
+        looks.reserve(call.looks().len())?;
         let call = call.copy(alloc)?;
         Ok(Prepared { call, looks })
     }

@@ -19,7 +19,7 @@ use std::mem;
 pub(crate) struct Luggage {
     // The nodes of the jobs that are out, with room for all.
     pub(crate) out: NodeSet,
-    // Within a call the room for the looks of the reply that the caller gets.
+    // Within a call the room for the looks of the reply that the caller gets, and between calls memory for the next room.
     pub(crate) looks: Vec<Value>,
 }
 

@@ -89,7 +89,8 @@ impl<'g, J: Naming> Sweeper<'g, J> {
         ensures { (f : List AnyMove) × IsLater J.graph J.callers J.limit pass.caller pass.front f
             × Begins J.graph J.callers J.limit pass call.now f result }
     {
-        let prepared = Prepared::new(alloc, call);
+        let mut pass = pass;
+        let prepared = Prepared::new(alloc, pass.take_looks(), call);
         let mut locked = self.locked.lock(rt);
         let begun = locked.begin(alloc, pass, call, prepared);
         self.let_go(locked);

@@ -9,6 +9,7 @@ use chronicle::Note;
 use flow_model::Cause;
 use flow_state::Job;
 use interleave_core::Refusal;
+use script_tree::value::Value;
 use signal_graph::call::Reply;
 use std::marker::{Model, PhantomData};
 
@@ -105,6 +106,24 @@ impl<J: Naming> Pass<J> {
         ensures { result ≡ self.now.caller }
     {
         self.caller
+    }
+
+    /// The memory of a reply that is of no use any more serves for the caller's next one. Takes no memory.
+    pub fn take_over(&mut self, reply: Reply)
+        ensures { self.new ≡ self.old }
+    {
+        let looks = match reply {
+            Reply::Fire { looks, .. } => looks,
+            Reply::Read { looks } => looks,
+        };
+        self.luggage.put_looks(looks.into_vec());
+    }
+
+    /// Takes out the memory of the caller's last reply, where it was handed back.
+    pub(crate) fn take_looks(&mut self) -> Vec<Value>
+        ensures { self.new ≡ self.old }
+    {
+        self.luggage.take_looks()
     }
 }
 
