@@ -34,7 +34,11 @@ fn end<J: Naming, R: Wait>(
     ensures { HasGone J.limit live result }
 {
     match sweeper.end(rt, live) {
-        Ended::Ended(pass, _) => Gone::Ended(pass),
+        Ended::Ended(pass, reply) => {
+            let mut pass = pass;
+            pass.take_over(reply);
+            Gone::Ended(pass)
+        }
         Ended::NotYet(live, Cause::Before(_)) => {
             turn.give_up();
             Gone::On(sweeper.wait_for_growth(rt, live))
