@@ -4,4 +4,5 @@ pub mod Eval
 pub mod Names
 pub mod Scripts
 pub mod Printed
+pub mod PickPlaces
 pub mod Bits

@@ -3,25 +3,39 @@
 ghost use Rattle.std.specs.Prelude.{◌≡◌, ◌<◌, ◌≤◌, [], ◌∷◌, ◌++◌, length, slice_get, Some};
 
 use crate::limits::SELECTORS;
-use arrayvec::ArrayVec;
 use std::marker::Model;
+use std::mem::size_of;
+
+// What stands at an index: nothing, an item that is none, or a node's number.
+#[derive(Clone, Copy)]
+pub(crate) enum Place {
+    Free,
+    NoNode,
+    Node,
+}
 
 /// What the selectors of a choose picked, one item per selector: the number of the node that is picked, or none.
 /// Contracts see a list of at most four items. No call takes memory.
+///
+/// The items stand in the places before the first free one, and behind that all are free.
 #[derive(Drop)]
 pub struct Picks {
-    items: ArrayVec<Option<u32>, SELECTORS>,
+    numbers: [u32; SELECTORS],
+    places: [Place; SELECTORS],
 }
 
+// An entry of a list of versions has one: its size is theirs.
+const _: () = prove!(size_of::<Picks>() <= 20);
+
 impl Model for Picks {
-    ghost use Rattle.std.specs.Prelude.{List, Option, ℕ, ◌≤◌, length};
-    ghost use Rattle.script_tree.specs.declared.limits.TheConstants.{SELECTORS};
+    ghost use Rattle.std.specs.Prelude.{List, Option, ℕ};
+    ghost use Rattle.script_tree.specs.PickPlaces.{items_of, AreFreeBehind};
 
     ghost Value = { List (Option ℕ) };
 
-    ghost view = { λ p. p.items.items };
+    ghost view = { λ p. items_of p.places p.numbers };
 
-    ghost invariant = { λ p. length p.items.items ≤ SELECTORS };
+    ghost invariant = { λ p. AreFreeBehind p.places };
 }
 
 impl Picks {
@@ -30,7 +44,8 @@ impl Picks {
         ensures { result ≡ [] }
     {
         Picks {
-            items: ArrayVec::new(),
+            numbers: [0; SELECTORS],
+            places: [Place::Free; SELECTORS],
         }
     }
 
@@ -39,7 +54,13 @@ impl Picks {
         requires { length self.old < SELECTORS }
         ensures { self.new ≡ self.old ++ item ∷ [] }
     {
-        self.items.push(item);
+        let index = self.len() as usize;
+        let (place, number) = match item {
+            None => (Place::NoNode, 0),
+            Some(node) => (Place::Node, node),
+        };
+        self.places[index] = place;
+        self.numbers[index] = number;
     }
 
     /// How many items there are: at most one for each selector that a choose may have.
@@ -47,7 +68,12 @@ impl Picks {
         ensures value { result ≡ length self.now }
         ensures few { result ≤ SELECTORS }
     {
-        self.items.len() as u32
+        for index in 0..SELECTORS {
+            if let Place::Free = self.places[index] {
+                return index as u32;
+            }
+        }
+        SELECTORS as u32
     }
 
     /// The item at an index, counted from 0.
@@ -55,19 +81,19 @@ impl Picks {
         requires { index < length self.now }
         ensures { slice_get self.now index ≡ Some result }
     {
-        self.items[index as usize]
+        match self.places[index as usize] {
+            Place::Node => Some(self.numbers[index as usize]),
+            _ => None,
+        }
     }
 
     /// An equal list.
     pub fn copy(&self) -> Picks
         ensures { result ≡ self.now }
     {
-        // Most nodes have no picks: they are told without a call that copies none.
-        if self.items.is_empty() {
-            return Picks::new();
+        Picks {
+            numbers: self.numbers,
+            places: self.places,
         }
-        let mut items = ArrayVec::new();
-        let _ = items.try_extend_from_slice(self.items.as_slice());
-        Picks { items }
     }
 }
