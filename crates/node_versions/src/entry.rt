@@ -31,8 +31,8 @@ pub struct Entry {
     pub state: State,
 }
 
-// The largest size of an entry in bytes: a list of many callers' entries is to stay small.
-const _: () = prove!(size_of::<Entry>() <= 96);
+// The largest size of an entry in bytes: a step reads few lines of memory where entries are small.
+const _: () = prove!(size_of::<Entry>() <= 56);
 
 impl State {
     /// Whether the state is a Mark.

@@ -14,8 +14,8 @@ use smallvec::SmallVec;
 use std::alloc::Global;
 use std::marker::Model;
 
-// A list in use has room for more entries than it is worth to keep in the value itself.
-const INLINE_ENTRIES: usize = 1;
+// All entries lie in the block that `new` takes: none in the value, so that the values of many nodes' lists lie close.
+const INLINE_ENTRIES: usize = 0;
 
 // Few chooses list one node as a candidate.
 const INLINE_OUTS: usize = 4;
