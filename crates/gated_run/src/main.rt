@@ -3,31 +3,32 @@
 //! takes its time.
 //!
 //! The first word is how many times the gate may give the processor away at once, 0 for a gate that is open. The words behind it are
-//! a command line. In their place may stand `timed`: then the deck is run, and what is written is how many microseconds its run
-//! took, without those of reading the deck.
+//! a command line. In their place may stand `timed`: then the deck is run, and two numbers are written: how many microseconds its calls
+//! took, and how many the run with the opening and the closing of its machine, both without reading the deck.
 #![tactic(auto)]
 
 mod gate;
+mod measured;
 
 ghost use Rattle.std.specs.Prelude.{◌≡◌};
 
-use deck_text::{Deck, read_deck};
+use deck_text::read_deck;
 use framesweep_cli::framesweep;
 use fs_io::adapters::{ReadSource, WriteSink};
 use fs_io::source::Source;
 use fs_io::whole::{read_all, write_all};
 use gate::YieldingGate;
+use measured::{Times, measured};
 use script_tree::items::Text;
-use script_tree::limits::{DECK_BYTES, VERSIONS};
+use script_tree::limits::DECK_BYTES;
 use script_tree::print::print_number;
 use std::alloc::Global;
 use std::process::ExitCode;
 use std::rt::Env;
 use std::sync::Wait;
 use std::thread::Threads;
-use std::time::{Clock, Instant};
+use std::time::Clock;
 use std::{env, io};
-use worker_gate::run_scripts;
 
 /// The status where the words or the deck are refused, as those are that aren't UTF-8.
 const REFUSED: u8 = 1;
@@ -62,37 +63,20 @@ fn number(word: &Text) -> Option<u64> {
     }
 }
 
-// The microseconds that the run of a deck takes. None where there is no memory, or no clock.
-#[tactic(auto, using(framesweep_cli::proofs::Threads::run_laws))]
-fn microseconds<R: Threads + Wait + Clock + Sync>(
-    rt: &R,
-    alloc: Global,
-    deck: Deck,
-    gate: &YieldingGate,
-) -> Option<u32> {
-    let (graph, scripts) = deck.into_parts();
-    let Ok(begun) = Instant::now(rt) else {
-        return None;
-    };
-    if run_scripts(rt, alloc, &graph, &scripts, VERSIONS, gate).is_err() {
-        return None;
-    }
-    match begun.elapsed(rt) {
-        Ok(took) => Some(took.as_micros().min(u32::MAX as u128) as u32),
-        Err(_) => None,
-    }
-}
-
-// A number as a line. None where there is no memory.
-fn line(alloc: Global, number: u32) -> Option<Text> {
+// What a run takes, as a line: the microseconds of its calls alone, and of all. None where there is no memory.
+fn line(alloc: Global, times: Times) -> Option<Text> {
     let mut line = Text::new(alloc);
-    if print_number(&mut line, number).is_err() || line.push(b'\n').is_err() {
+    if print_number(&mut line, times.calls).is_err() || line.push(b' ').is_err() {
+        return None;
+    }
+    if print_number(&mut line, times.whole).is_err() || line.push(b'\n').is_err() {
         return None;
     }
     Some(line)
 }
 
 // How long the run of a deck takes, as a line, or the status where that can't be told.
+#[tactic(auto, using(framesweep_cli::proofs::Threads::run_laws))]
 fn timed<R: Threads + Wait + Clock + Sync, S: Source>(
     rt: &R,
     alloc: Global,
@@ -105,7 +89,8 @@ fn timed<R: Threads + Wait + Clock + Sync, S: Source>(
     let Ok(deck) = read_deck(alloc, bytes.as_slice()) else {
         return Err(REFUSED);
     };
-    let Some(took) = microseconds(rt, alloc, deck, gate) else {
+    let (graph, scripts) = deck.into_parts();
+    let Some(took) = measured(rt, alloc, &graph, &scripts, gate) else {
         return Err(NO_MEMORY);
     };
     line(alloc, took).ok_or(NO_MEMORY)
