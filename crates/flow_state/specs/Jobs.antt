@@ -47,12 +47,22 @@ abbrev pub outcome_of : Node → List (ℕ × Value) → Value → Option (List 
 outcome_of node gathered acc None = outcome_in (finds node (read_from gathered) acc)
 outcome_of node gathered acc (Some found) = outcome.Body (body_over (body_of node) (read_from gathered) (map selection_of found))
 
+-- the value in an outcome of a node's scripts
+abbrev pub value_in : Outcome → Option Value
+value_in (outcome.Value v) = Some v
+value_in (outcome.Found list) = None
+value_in (outcome.Body v) = None
+
 abbrev pub answer_of : Graph → ℕ → ℕ → List (ℕ × Value) → Value → Option (List Found) → Answer
 answer_of graph version node gathered acc found = record {
   version = version;
   node = node;
   outcome = outcome_of (node_at graph node) gathered acc found;
 }
+
+-- the answer of a value that a node's script gives
+abbrev pub value_answer : ℕ → ℕ → Value → Answer
+value_answer version node v = record { version = version; node = node; outcome = outcome.Value v }
 
 -- the answer from what a book has of the node
 abbrev pub answer_in : Graph → Booked → ℕ → ℕ → Value → Answer

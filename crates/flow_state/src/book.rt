@@ -6,7 +6,7 @@ ghost use Rattle.script_tree.specs.declared.limits.TheConstants.{THREADS, VERSIO
 ghost use Rattle.std.specs.Option.{option_copied};
 ghost use Rattle.script_tree.specs.declared.value.Value.TheVariants as values;
 ghost use Rattle.script_tree.specs.declared.value.Fault.TheVariants.{NoChoice};
-ghost use Rattle.signal_graph.specs.Graph.{is_in};
+ghost use Rattle.signal_graph.specs.Graph.{is_in, node_at};
 ghost use Rattle.signal_graph.specs.Machine.{sets_of, looks_of, misnamed};
 ghost use Rattle.order_graph.specs.Order.{reaches, is_recorded};
 ghost use Rattle.flow_model.specs.Machine.Sets.{least};
@@ -20,7 +20,7 @@ ghost use Rattle.node_set.specs.Members.{first_from};
 ghost use Rattle.flow_state.specs.Booked.{AreApart, AreInside, opened_book, room_at, one_room_more, one_room_less, begin_call, end_call, call_in, live_in, next_look_in, node_count, work_at, stops_in, on_call, on_work, link_calls, opened_one, wanting, pressed_in, call_nth};
 ghost use Rattle.flow_model.specs.Parts.Books.{bare, no_work, with_gathered, with_found, with_body, forgotten};
 ghost use Rattle.flow_state.specs.Found.{found_of, found_option};
-ghost use Rattle.flow_state.specs.Jobs.{found_items, answer_in, IsJob};
+ghost use Rattle.flow_state.specs.Jobs.{found_items, outcome_of, value_in, answer_in, IsJob};
 
 use crate::found::Finding;
 use crate::job::Job;
@@ -506,6 +506,16 @@ impl Book {
             node,
             outcome,
         }
+    }
+
+    /// The value that a node's script gives over what is gathered as it stands, where the node is no choose: then an answer with it is
+    /// what `evaluate` gives before anything is found. `acc` is the node's value before a call. Takes no memory.
+    pub fn script_value(&self, graph: &Graph, node: u32, acc: Value) -> Option<Value>
+        requires nodes { node_count self.now ≡ length graph.now.nodes }
+        requires job { IsJob graph.now node (found_items (work_at self.now node).found) }
+        ensures { result ≡ value_in (outcome_of (node_at graph.now node) (work_at self.now node).gathered acc None) }
+    {
+        self.shelves.script_value(node, graph.node(node), acc)
     }
 
     /// A node that a live call has framed is open for it, and it wants the node no more.

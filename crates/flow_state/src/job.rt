@@ -13,7 +13,7 @@ ghost use Rattle.flow_model.specs.Machine.Words.{gathered_of, run_over, pick_ove
 ghost use Rattle.flow_state.specs.Found.{selection_of};
 ghost use Rattle.signal_graph.specs.Graph.{body_of};
 ghost use Rattle.flow_state.specs.Booked.{AreApart};
-ghost use Rattle.flow_state.specs.Jobs.{read_from, found_as, outcome_in, outcome_of, HasFew, FitsBody};
+ghost use Rattle.flow_state.specs.Jobs.{read_from, found_as, outcome_in, outcome_of, value_in, HasFew, FitsBody};
 
 use crate::found::{Found, FoundList};
 use crate::job_room::JobRoom;
@@ -224,6 +224,28 @@ fn select_all(selectors: &[Selector], gathered: &[(u32, Value)]) -> FoundList
     found
 }
 
+/// The value that a node's script gives over what is gathered, where the node is no choose. No two values are gathered of one node.
+/// Takes no memory.
+#[inline(always)]
+pub(crate) fn script_value(node: &Node, gathered: &[(u32, Value)], acc: Value) -> Option<Value>
+    requires apart { AreApart gathered.now }
+    requires can { CanEvaluate node.now }
+    requires few { HasFew node.now }
+    ensures { result ≡ value_in (outcome_of node.now gathered.now acc None) }
+{
+    match node {
+        Node::Source { start } => Some(*start),
+        Node::Signal { script, inputs } => Some(run(
+            script,
+            inputs.as_slice(),
+            gathered,
+            Value::Fault(Fault::Kind),
+        )),
+        Node::Fold { script, inputs, .. } => Some(run(script, inputs.as_slice(), gathered, acc)),
+        Node::Choose { .. } => None,
+    }
+}
+
 // What the scripts of a node find.
 #[inline(always)]
 fn evaluated(node: &Node, gathered: &[(u32, Value)], acc: Value) -> Outcome
@@ -232,20 +254,12 @@ fn evaluated(node: &Node, gathered: &[(u32, Value)], acc: Value) -> Outcome
     requires few { HasFew node.now }
     ensures { result ≡ outcome_in (finds node.now (read_from gathered.now) acc) }
 {
-    match node {
-        Node::Source { start } => Outcome::Value(*start),
-        Node::Signal { script, inputs } => Outcome::Value(run(
-            script,
-            inputs.as_slice(),
-            gathered,
-            Value::Fault(Fault::Kind),
-        )),
-        Node::Fold { script, inputs, .. } => {
-            Outcome::Value(run(script, inputs.as_slice(), gathered, acc))
-        }
-        Node::Choose { selectors, .. } => {
-            Outcome::Found(select_all(selectors.as_slice(), gathered))
-        }
+    if let Node::Choose { selectors, .. } = node {
+        return Outcome::Found(select_all(selectors.as_slice(), gathered));
+    }
+    match script_value(node, gathered, acc) {
+        Some(value) => Outcome::Value(value),
+        None => unreachable!(),
     }
 }
 

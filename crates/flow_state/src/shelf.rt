@@ -10,10 +10,10 @@ ghost use Rattle.flow_state.specs.Found.{found_of, found_option};
 ghost use Rattle.flow_state.specs.Shelves.{work_on, on_shelf, empty_shelves, laid_out};
 ghost use Rattle.signal_graph.specs.Graph.{body_of};
 ghost use Rattle.signal_graph.specs.Evaluation.{CanEvaluate};
-ghost use Rattle.flow_state.specs.Jobs.{found_items, items_of, outcome_of, HasFew, FitsBody};
+ghost use Rattle.flow_state.specs.Jobs.{found_items, items_of, outcome_of, value_in, HasFew, FitsBody};
 
 use crate::found::{Finding, FoundList};
-use crate::job::outcome;
+use crate::job::{outcome, script_value};
 use crate::job_room::JobRoom;
 use crate::outcome::Outcome;
 use script_tree::limits::SELECTORS;
@@ -102,6 +102,16 @@ impl Shelves {
     {
         let found = self.found_items(number);
         outcome(node, self.part(number), acc, &found)
+    }
+
+    /// The value that a node's script gives over what is gathered, where the node is no choose. Takes no memory.
+    pub(crate) fn script_value(&self, number: u32, node: &Node, acc: Value) -> Option<Value>
+        requires inside { number < length self.now.works }
+        requires can { CanEvaluate node.now }
+        requires few { HasFew node.now }
+        ensures { result ≡ value_in (outcome_of node.now (work_on self.now number).gathered acc None) }
+    {
+        script_value(node, self.part(number), acc)
     }
 
     /// All that is gathered for a node, no two values of one node, and what its selectors have selected, in the room.

@@ -1,6 +1,6 @@
 -- What evaluations need, and that their answers are right.
 use Rattle.std.proofs.Common.{◌≡◌, ℕ, zero, suc, ◌+◌, ◌<◌, ◌≤◌, true, false, inl, inr, List, [], ◌∷◌, length, map, Option, Some, None, is_some, refl, sym, ap, ◌∙◌, subst, arith}
-use Rattle.std.specs.Prelude.{slice_index_or}
+use Rattle.std.specs.Prelude.{slice_index_or, IfSome}
 use Rattle.std.specs.List.{AllByRecursion}
 use Rattle.std.specs.Option.{IsSome}
 use Rattle.std.proofs.lemmas.List.{length-map}
@@ -33,14 +33,14 @@ use Rattle.flow_model.proofs.Work.WorkAtOneNode.{evaluate-not_found, body-found}
 use Rattle.flow_model.proofs.Known.Bounds.{has-bounds}
 use Rattle.flow_model.proofs.Known.ListsAnswer.{lists-answer}
 use Rattle.flow_model.proofs.Lengths.WorthFalls.{head-there}
-use Rattle.flow_state.specs.Booked.{Booked}
+use Rattle.flow_state.specs.Booked.{Booked, work_at}
 use Rattle.flow_state.specs.declared.outcome.Outcome.{Outcome}
 use Rattle.flow_state.specs.declared.outcome.Outcome.TheVariants as outcome
 use Rattle.flow_state.specs.Answers.{step_for, step_of, IsOutcome, IsRight}
 use Rattle.flow_state.specs.Found.{selection_of}
-use Rattle.flow_state.specs.Jobs.{read_from, found_as, outcome_in, items_of, found_items, outcome_of, answer_of, HasFew, FitsBody, IsJob, answer_in}
+use Rattle.flow_state.specs.Jobs.{read_from, found_as, outcome_in, items_of, found_items, outcome_of, value_in, answer_of, value_answer, HasFew, FitsBody, IsJob, answer_in}
 use Rattle.flow_state.proofs.Outcomes.{selections-back, outcome-right}
-use Rattle.interleave_core.specs.Whole.{Whole, cells_of, state_of, whole_of, IsWhole, IsDue}
+use Rattle.interleave_core.specs.Whole.{Whole, cells_of, state_of, whole_of, IsWhole, IsDue, IsAcc}
 use Rattle.interleave_core.proofs.Fits.{all_nodes}
 use Rattle.interleave_core.proofs.StepsMade.{CanMake, can_here}
 
@@ -217,10 +217,6 @@ pub body_answered : {graph : Graph} {book : Booked} {lists : List Versions} {see
 body_answered {graph} {book} {lists} t n acc can =
     ap step_of (same_answer t n acc can.kept) ∙ answer-body graph (state_of book.book lists) t n acc (can_here can)
 
--- What a fold reads as its value before the call, where that is asked.
-abbrev pub IsAcc : Graph → Core → ℕ → ℕ → Value → Type 0
-IsAcc graph s t n acc = kind_of (node_at graph n) ≡ kinds.Fold → acc ≡ value_before (entries s n) t
-
 pub right_answered : {graph : Graph} {book : Booked} {lists : List Versions} {seen : Whole} (t n : ℕ) (acc : Value)
     → IsWhole graph book lists → whole_of graph book lists ≡ seen → IsAcc seen.graph seen.state t n acc
     → IsRight seen.graph seen.state (answer_in graph book t n acc)
@@ -229,3 +225,30 @@ right_answered {graph} {book} {lists} t n acc kept view reads =
     let right = answer-right graph (state_of book.book lists) t n acc here in
     subst (λ (w : Whole). IsRight w.graph w.state (answer_in graph book t n acc)) view
     (subst (IsRight graph (state_of book.book lists)) (sym (same_answer t n acc kept)) right)
+
+value-in : (o : Outcome) (v : Value) → Some v ≡ value_in o → o ≡ outcome.Value v
+value-in (outcome.Value w) v given = cc
+value-in (outcome.Found list) v given = cc
+value-in (outcome.Body w) v given = cc
+
+-- The value that the node's script gives is right too, whatever is found already.
+value-right : {graph : Graph} {book : Booked} {lists : List Versions} {seen : Whole} (t n : ℕ) (acc v : Value)
+    → IsWhole graph book lists → whole_of graph book lists ≡ seen → IsAcc seen.graph seen.state t n acc
+    → Some v ≡ value_in (outcome_of (node_at graph n) (work_at book n).gathered acc None)
+    → IsRight seen.graph seen.state (value_answer t n v)
+value-right {graph} {book} {lists} t n acc v kept view reads given =
+    let s : Core = state_of book.book lists in
+    let here = subst (λ (w : Whole). IsAcc w.graph w.state t n acc) (sym view) reads in
+    let same = sym (finds-same (node_at graph n) (value_gathered s n) acc (value_before (entries s n) t) here) in
+    let found = finds (node_at graph n) (read_from (cell s n).gathered) acc in
+    let work = work-there book.book.works lists n kept.many in
+    let there = given ∙ ap (λ (w : Work). value_in (outcome_of (node_at graph n) w.gathered acc None)) work in
+    let right = subst (IsOutcome graph s t n) (value-in (outcome_in found) v there) (outcome-right graph s t n found same) in
+    subst (λ (w : Whole). IsRight w.graph w.state (value_answer t n v)) view right
+
+pub value_right : {graph : Graph} {book : Booked} {lists : List Versions} {seen : Whole} (t n : ℕ) (acc : Value) (value : Option Value)
+    → IsWhole graph book lists → whole_of graph book lists ≡ seen → IsAcc seen.graph seen.state t n acc
+    → value ≡ value_in (outcome_of (node_at graph n) (work_at book n).gathered acc None)
+    → IfSome value (λ v. IsRight seen.graph seen.state (value_answer t n v))
+value_right t n acc None kept view reads given = tt
+value_right t n acc (Some v) kept view reads given = value-right t n acc v kept view reads given

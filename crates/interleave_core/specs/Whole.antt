@@ -1,8 +1,10 @@
 -- The state of a book and the lists of all nodes.
 use Rattle.std.specs.Prelude.{◌≡◌, ℕ, ◌+◌, ◌⊎◌, true, List, [], ◌∷◌, length}
-use Rattle.signal_graph.specs.Graph.{Graph, IsGraph}
-use Rattle.node_versions.specs.Entries.{Versions}
-use Rattle.flow_model.specs.Machine.State.{Core, Cell}
+use Rattle.script_tree.specs.declared.value.Value.{Value}
+use Rattle.signal_graph.specs.declared.node.NodeKind.TheVariants.{Fold}
+use Rattle.signal_graph.specs.Graph.{Graph, IsGraph, node_at, kind_of}
+use Rattle.node_versions.specs.Entries.{Versions, value_before}
+use Rattle.flow_model.specs.Machine.State.{Core, Cell, entries}
 use Rattle.flow_model.specs.declared.step.Step.{Step}
 use Rattle.flow_model.specs.declared.step.Step.TheVariants.{Evaluate, Body}
 use Rattle.flow_model.specs.Machine.Words.{list_room}
@@ -65,3 +67,7 @@ pub record IsWhole (graph : Graph) (book : Booked) (lists : List Versions) : Typ
 -- An evaluation is due for a call at a node: of the node's scripts or of its body.
 abbrev pub IsDue : Graph → Core → ℕ → ℕ → Type 0
 IsDue graph s t n = (allowed graph s (Evaluate t n) ≡ true) ⊎ (allowed graph s (Body t n) ≡ true)
+
+-- What a fold's script reads as `acc` is the node's value before the call; no other script reads it.
+abbrev pub IsAcc : Graph → Core → ℕ → ℕ → Value → Type 0
+IsAcc graph s t n acc = kind_of (node_at graph n) ≡ Fold → acc ≡ value_before (entries s n) t

@@ -1,14 +1,11 @@
 // The steps that evaluate, and answers of evaluations that went on elsewhere.
 
-ghost use Rattle.std.specs.Prelude.{◌≡◌, true};
-ghost use Rattle.signal_graph.specs.declared.node.NodeKind.TheVariants as kinds;
-ghost use Rattle.signal_graph.specs.Graph.{kind_of, node_at};
-ghost use Rattle.node_versions.specs.Entries.{value_before};
+ghost use Rattle.std.specs.Prelude.{◌≡◌, true, IfSome};
 ghost use Rattle.flow_model.specs.declared.step.Step.TheVariants as step;
-ghost use Rattle.flow_model.specs.Machine.State.{entries};
 ghost use Rattle.flow_model.specs.Machine.Steps.{allowed};
 ghost use Rattle.flow_state.specs.Answers.{step_of, IsRight};
-ghost use Rattle.interleave_core.specs.Whole.{after, IsDue};
+ghost use Rattle.flow_state.specs.Jobs.{value_answer};
+ghost use Rattle.interleave_core.specs.Whole.{after, IsDue, IsAcc};
 
 use crate::core_state::Core;
 use flow_model::laws::lawful_stays;
@@ -45,8 +42,33 @@ impl<'g> Core<'g> {
         requires allowed { allowed self.old.graph self.old.state (step.Evaluate version node) ≡ true }
         ensures { self.new ≡ after self.old (step.Evaluate version node) }
     {
-        let answer = self.answer(version, node);
-        self.put(answer);
+        let acc = self.acc(version, node);
+        match self.script_value(version, node, acc) {
+            Some(value) => self.put_value(version, node, value),
+            None => {
+                let answer = self.answer(version, node, acc);
+                self.put(answer);
+            }
+        }
+    }
+
+    // The value that the node's script gives, where the node is no choose.
+    fn script_value(&self, version: u32, node: u32, acc: Value) -> Option<Value>
+        requires allowed { allowed self.now.graph self.now.state (step.Evaluate version node) ≡ true }
+        requires reads { IsAcc self.now.graph self.now.state version node acc }
+        ensures { IfSome result (λ v. IsRight self.now.graph self.now.state (value_answer version node v)) }
+    {
+        self.book.script_value(self.graph, node, acc)
+    }
+
+    // Such a value is kept.
+    fn put_value(&mut self, version: u32, node: u32, value: Value)
+        requires allowed { allowed self.old.graph self.old.state (step.Evaluate version node) ≡ true }
+        requires right { IsRight self.old.graph self.old.state (value_answer version node value) }
+        ensures { self.new ≡ after self.old (step.Evaluate version node) }
+    {
+        lawful_stays();
+        sweep::put_value(&mut self.book, version, node, value);
     }
 
     // Body: the value of the node's body is kept.
@@ -54,27 +76,28 @@ impl<'g> Core<'g> {
         requires allowed { allowed self.old.graph self.old.state (step.Body version node) ≡ true }
         ensures { self.new ≡ after self.old (step.Body version node) }
     {
-        let answer = self.answer(version, node);
+        let acc = self.acc(version, node);
+        let answer = self.answer(version, node, acc);
         self.put(answer);
     }
 
     // What that evaluation finds, without a copy of what is gathered.
-    fn answer(&self, version: u32, node: u32) -> Answer
-        requires { IsDue self.now.graph self.now.state version node }
+    fn answer(&self, version: u32, node: u32, acc: Value) -> Answer
+        requires due { IsDue self.now.graph self.now.state version node }
+        requires reads { IsAcc self.now.graph self.now.state version node acc }
         ensures scripts { allowed self.now.graph self.now.state (step.Evaluate version node) ≡ true
             → step_of result ≡ step.Evaluate version node }
         ensures body { allowed self.now.graph self.now.state (step.Body version node) ≡ true
             → step_of result ≡ step.Body version node }
         ensures right { IsRight self.now.graph self.now.state result }
     {
-        let acc = self.acc(version, node);
         self.book.evaluate(self.graph, version, node, acc)
     }
 
     // What the node's script reads as `acc`, which only a fold's does: its value before the call.
     fn acc(&self, version: u32, node: u32) -> Value
         requires { IsDue self.now.graph self.now.state version node }
-        ensures { kind_of (node_at self.now.graph node) ≡ kinds.Fold → result ≡ value_before (entries self.now.state node) version }
+        ensures { IsAcc self.now.graph self.now.state version node result }
     {
         match self.graph.kind(node) {
             NodeKind::Fold => fold_nodes::fold_acc(&self.lists[node as usize], version),

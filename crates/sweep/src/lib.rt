@@ -5,7 +5,7 @@ pub use ending::end;
 pub use gathering::gather;
 pub use looking::look;
 pub use marking::mark;
-pub use putting::put;
+pub use putting::{put, put_value};
 pub use resolving::resolve;
 pub use skipping::skip;
 

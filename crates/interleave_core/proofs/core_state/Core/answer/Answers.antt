@@ -17,7 +17,7 @@ evaluate-requires-clause-nodes c =
 
 pub evaluate-requires-clause-job : goal.evaluate-requires-clause-job
 evaluate-requires-clause-job c =
-    let due = due_here c.args.version c.args.node c.self.invariant c.self.view_is c.requires in
+    let due = due_here c.args.version c.args.node c.self.invariant c.self.view_is c.requires.due in
     let m = c.self.inside in
     let s : Core = state_of m.book.book m.lists.items in
     let work = sym (work-there m.book.book.works m.lists.items c.args.node c.self.invariant.many) in
@@ -27,15 +27,15 @@ evaluate-requires-clause-job c =
 pub returns-clause-scripts : goal.returns-clause-scripts
 returns-clause-scripts c allowed =
     let can = can_make (step.Evaluate c.args.version c.args.node) c.self.invariant c.self.view_is allowed in
-    ap step_of c.evaluate.ensures ∙ scripts_answered c.args.version c.args.node c.acc-acc.result can
+    ap step_of c.evaluate.ensures ∙ scripts_answered c.args.version c.args.node c.args.acc can
 
 pub returns-clause-body : goal.returns-clause-body
 returns-clause-body c allowed =
     let can = can_make (step.Body c.args.version c.args.node) c.self.invariant c.self.view_is allowed in
-    ap step_of c.evaluate.ensures ∙ body_answered c.args.version c.args.node c.acc-acc.result can
+    ap step_of c.evaluate.ensures ∙ body_answered c.args.version c.args.node c.args.acc can
 
 pub returns-clause-right : goal.returns-clause-right
 returns-clause-right c =
-    let acc = c.acc-acc.result in
-    let right = right_answered c.args.version c.args.node acc c.self.invariant c.self.view_is c.acc-acc.ensures in
+    let acc = c.args.acc in
+    let right = right_answered c.args.version c.args.node acc c.self.invariant c.self.view_is c.requires.reads in
     subst (IsRight c.args.self.now.graph c.args.self.now.state) (sym c.evaluate.ensures) right
