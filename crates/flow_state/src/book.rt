@@ -27,6 +27,7 @@ use crate::job::Job;
 use crate::job_room::JobRoom;
 use crate::outcome::Answer;
 use crate::room::{Lists, Room};
+use crate::seat::Seat;
 use crate::seating::Seating;
 use crate::shelf::Shelves;
 use call_log::Log;
@@ -277,12 +278,22 @@ impl Book {
         self.calls.live_call(caller)
     }
 
+    /// The seat of a live call: where several questions are asked of one call, it is found once.
+    #[inline(always)]
+    pub fn seat(&self, version: u32) -> &Seat
+        requires { live_in self.now version ≡ true }
+        ensures call { result.now.call ≡ call_in self.now version }
+        ensures size { result.now.size ≡ node_count self.now }
+    {
+        self.calls.seat(version)
+    }
+
     /// Whose a live call is.
     pub fn caller(&self, version: u32) -> u32
         requires { live_in self.now version ≡ true }
         ensures { result ≡ (call_in self.now version).caller }
     {
-        self.calls.seat(version).caller()
+        self.seat(version).caller()
     }
 
     /// The slot of a live call.
@@ -290,7 +301,7 @@ impl Book {
         requires { live_in self.now version ≡ true }
         ensures { result ≡ (call_in self.now version).slot }
     {
-        self.calls.seat(version).slot()
+        self.seat(version).slot()
     }
 
     /// Whether a live call executes. Else it frames.
@@ -298,7 +309,7 @@ impl Book {
         requires { live_in self.now version ≡ true }
         ensures { result ≡ (call_in self.now version).executing }
     {
-        self.calls.seat(version).executing()
+        self.seat(version).executing()
     }
 
     /// Whether a live call wants the node.
@@ -306,7 +317,7 @@ impl Book {
         requires { live_in self.now version ≡ true }
         ensures { result ≡ is_in node (call_in self.now version).wanted }
     {
-        self.calls.seat(version).wants(node)
+        self.seat(version).wants(node)
     }
 
     /// Whether the node is open for a live call.
@@ -315,16 +326,7 @@ impl Book {
         requires node { node < node_count self.now }
         ensures { result ≡ is_in node (call_in self.now version).open_nodes }
     {
-        self.calls.seat(version).open_nodes().contains(node)
-    }
-
-    /// Whether a live call has changed the node.
-    pub fn changes(&self, version: u32, node: u32) -> bool
-        requires live { live_in self.now version ≡ true }
-        requires node { node < node_count self.now }
-        ensures { result ≡ is_in node (call_in self.now version).changed }
-    {
-        self.calls.seat(version).changed().contains(node)
+        self.seat(version).opens(node)
     }
 
     /// Whether a live call has changed one of some nodes.
@@ -332,7 +334,7 @@ impl Book {
         requires { live_in self.now version ≡ true }
         ensures { result ≡ list_any (changes (bare self.now.book) version) nodes.now }
     {
-        self.calls.seat(version).any_changed(nodes)
+        self.seat(version).any_changed(nodes)
     }
 
     /// The least node that a live call wants.
@@ -341,7 +343,7 @@ impl Book {
         requires { live_in self.now version ≡ true }
         ensures { result ≡ least (call_in self.now version).wanted }
     {
-        self.calls.seat(version).wanted().first()
+        self.seat(version).first_wanted()
     }
 
     /// The least node that is open for a live call.
@@ -350,7 +352,7 @@ impl Book {
         requires { live_in self.now version ≡ true }
         ensures { result ≡ least (call_in self.now version).open_nodes }
     {
-        self.calls.seat(version).open_nodes().first()
+        self.seat(version).first_open()
     }
 
     /// The least node at or above one that is open for a live call.
@@ -358,7 +360,7 @@ impl Book {
         requires { live_in self.now version ≡ true }
         ensures { result ≡ first_from from (call_in self.now version).open_nodes }
     {
-        self.calls.seat(version).open_nodes().next_from(from)
+        self.seat(version).next_open(from)
     }
 
     /// The node that a live call looks at next.
@@ -366,7 +368,7 @@ impl Book {
         requires { live_in self.now version ≡ true }
         ensures { result ≡ next_look_in self.now version }
     {
-        self.calls.seat(version).next_look()
+        self.seat(version).next_look()
     }
 
     /// The last value that a live call sets a node to. Of a node that it does not set a fault.
@@ -374,7 +376,7 @@ impl Book {
         requires { live_in self.now version ≡ true }
         ensures { result ≡ set_value node (values.Fault NoChoice) (call_in self.now version).sets }
     {
-        self.calls.seat(version).set_value(node)
+        self.seat(version).set_value(node)
     }
 
     /// Whether a chain of recorded pairs leads from one live call to another.

@@ -7,6 +7,7 @@ pub use job::Job;
 pub use job_room::JobRoom;
 pub use outcome::{Answer, Outcome};
 pub use room::Room;
+pub use seat::Seat;
 
 mod book;
 mod counts;

@@ -30,8 +30,11 @@ use std::marker::Model;
 use std::mem::replace;
 
 /// A slot's seat: the call that has it, and all that is kept of it. A free seat has version 0. Only `new` takes memory.
+///
+/// Contracts see the call, for how many nodes its sets are, and room for how many looks. A `Book` lends a live call's seat, so
+/// that several questions of one call find it once.
 #[derive(Drop)]
-pub(crate) struct Seat {
+pub struct Seat {
     version: u32,
     caller: u32,
     slot: u32,
@@ -107,55 +110,68 @@ impl Seat {
         self.version
     }
 
-    pub(crate) fn caller(&self) -> u32
+    /// Whose the call is.
+    pub fn caller(&self) -> u32
         ensures { result ≡ self.now.call.caller }
     {
         self.caller
     }
 
-    pub(crate) fn slot(&self) -> u32
+    /// The slot that the seat is of.
+    pub fn slot(&self) -> u32
         ensures { result ≡ self.now.call.slot }
     {
         self.slot
     }
 
-    pub(crate) fn executing(&self) -> bool
+    /// Whether the call executes. Else it frames.
+    pub fn executing(&self) -> bool
         ensures { result ≡ self.now.call.executing }
     {
         self.executing
     }
 
-    pub(crate) fn wanted(&self) -> &NodeSet
-        ensures nodes { result.now.nodes ≡ self.now.call.wanted }
-        ensures size { result.now.size ≡ self.now.size }
+    /// The least node that the call wants.
+    #[inline(always)]
+    pub fn first_wanted(&self) -> Option<u32>
+        ensures { result ≡ least self.now.call.wanted }
     {
-        &self.wanted
+        self.wanted.first()
     }
 
     /// Whether the call wants the node.
-    pub(crate) fn wants(&self, node: u32) -> bool
+    pub fn wants(&self, node: u32) -> bool
         ensures { result ≡ is_in node self.now.call.wanted }
     {
         self.wanted.is_kept();
         node < self.wanted.size() && self.wanted.contains(node)
     }
 
-    pub(crate) fn open_nodes(&self) -> &NodeSet
-        ensures nodes { result.now.nodes ≡ self.now.call.open_nodes }
-        ensures size { result.now.size ≡ self.now.size }
+    /// The least node that is open for the call.
+    #[inline(always)]
+    pub fn first_open(&self) -> Option<u32>
+        ensures { result ≡ least self.now.call.open_nodes }
     {
-        &self.open_nodes
+        self.open_nodes.first()
     }
 
-    pub(crate) fn changed(&self) -> &NodeSet
-        ensures nodes { result.now.nodes ≡ self.now.call.changed }
-        ensures size { result.now.size ≡ self.now.size }
+    /// The least node at or above one that is open for the call.
+    pub fn next_open(&self, from: u32) -> Option<u32>
+        ensures { result ≡ first_from from self.now.call.open_nodes }
     {
-        &self.changed
+        self.open_nodes.next_from(from)
+    }
+
+    /// Whether the node is open for the call.
+    pub fn opens(&self, node: u32) -> bool
+        requires { node < self.now.size }
+        ensures { result ≡ is_in node self.now.call.open_nodes }
+    {
+        self.open_nodes.contains(node)
     }
 
     /// Whether the call has changed one of some nodes.
-    pub(crate) fn any_changed(&self, nodes: &[u32]) -> bool
+    pub fn any_changed(&self, nodes: &[u32]) -> bool
         ensures { result ≡ list_any (λ n. is_in n self.now.call.changed) nodes.now }
     {
         nodes.iter().any(|node| self.has_changed(*node))
@@ -169,14 +185,14 @@ impl Seat {
     }
 
     /// The node that the call looks at next.
-    pub(crate) fn next_look(&self) -> Option<u32>
+    pub fn next_look(&self) -> Option<u32>
         ensures { result ≡ slice_get self.now.call.looks (length self.now.call.looked) }
     {
         self.looks.as_slice().get(self.looked.len()).copied()
     }
 
-    /// The last value that the call sets a node to, or a fault.
-    pub(crate) fn set_value(&self, node: u32) -> Value
+    /// The last value that the call sets a node to. Of a node that it does not set a fault.
+    pub fn set_value(&self, node: u32) -> Value
         ensures { result ≡ set_value node (values.Fault NoChoice) self.now.call.sets }
     {
         last_set(self.sets.as_slice(), node)
