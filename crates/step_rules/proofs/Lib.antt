@@ -4,6 +4,7 @@ mod Inside
 mod Nodes
 mod OpenNodes
 mod PlainNodes
+mod SeatReads
 mod Seen
 mod Shrinking
 mod Truths

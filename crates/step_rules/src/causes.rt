@@ -47,11 +47,12 @@ fn unfinished(book: &Book, version: u32) -> Option<u32>
     requires { live_in book.now version ≡ true }
     ensures { result ≡ first_unfinished book.now version }
 {
-    if let Some(node) = book.first_wanted(version) {
+    let seat = book.seat(version);
+    if let Some(node) = seat.first_wanted() {
         return Some(node);
     }
-    if let Some(node) = book.first_open(version) {
+    if let Some(node) = seat.first_open() {
         return Some(node);
     }
-    book.next_look(version)
+    seat.next_look()
 }

@@ -4,12 +4,13 @@ ghost use Rattle.std.specs.Prelude.{◌≡◌, ◌<◌, Some, true};
 ghost use Rattle.node_versions.specs.Entries.{has, is_mark};
 ghost use Rattle.flow_model.specs.Machine.State.{opens};
 ghost use Rattle.flow_state.specs.Booked.{live_in, node_count};
+ghost use Rattle.step_rules.specs.Fits.{IsSeatOf};
 ghost use Rattle.step_rules.specs.Points.{entering_list, unless_blocked, framing_in, entered_in, reading_in, reading_candidate_in};
 
 use crate::fronts::has_room;
 use crate::lists::{Lists, Sight};
 use flow_model::{Cause, Step, Turn};
-use flow_state::Book;
+use flow_state::{Book, Seat};
 
 /// To frame a node the call enters its list, unless it has a Mark there.
 pub(crate) fn framing<L: Lists>(book: &Book, lists: &mut L, version: u32, node: u32) -> Turn
@@ -69,12 +70,14 @@ pub(crate) fn reading<L: Lists>(
 /// A step that reads a candidate: besides, the call has finished there.
 pub(crate) fn reading_candidate<L: Lists>(
     book: &Book,
+    seat: &Seat,
     lists: &mut L,
     version: u32,
     node: u32,
     step: Step,
 ) -> Turn
     requires live { live_in book.now version ≡ true }
+    requires seat { IsSeatOf book.now version seat.now }
     requires node { node < node_count book.now }
     requires list { node < L.nodes lists.old }
     ensures turn { result ≡ reading_candidate_in book.now (L.listing_of lists.old) version node step }
@@ -85,7 +88,7 @@ pub(crate) fn reading_candidate<L: Lists>(
     if !sight.has {
         return entering(book, sight, node, Step::Mark { version, node });
     }
-    if book.opens(version, node) {
+    if seat.opens(node) {
         return Turn::NotYet(Cause::InputOpen { node });
     }
     unless_blocked(sight, node, step)

@@ -36,13 +36,14 @@ fn turn_of<L: Lists>(book: &Book, graph: &Graph, lists: &mut L, version: u32) ->
     ensures lists { L.listing_of lists.new ≡ L.listing_of lists.old }
     ensures nodes { L.nodes lists.new ≡ L.nodes lists.old }
 {
-    if let Some(turn) = before_work(book, lists, version) {
+    let seat = book.seat(version);
+    if let Some(turn) = before_work(book, seat, lists, version) {
         return turn;
     }
-    if let Some(node) = book.first_open(version) {
-        return at_open_node(book, graph, lists, version, node, false);
+    if let Some(node) = seat.first_open() {
+        return at_open_node(book, seat, graph, lists, version, node, false);
     }
-    if let Some(node) = book.next_look(version) {
+    if let Some(node) = seat.next_look() {
         return reading(book, lists, version, node, Step::Look { version });
     }
     Turn::Ready

@@ -37,11 +37,12 @@ fn turn_at<L: Lists>(book: &Book, graph: &Graph, lists: &mut L, version: u32, no
     ensures lists { L.listing_of lists.new ≡ L.listing_of lists.old }
     ensures nodes { L.nodes lists.new ≡ L.nodes lists.old }
 {
-    if let Some(turn) = before_work(book, lists, version) {
+    let seat = book.seat(version);
+    if let Some(turn) = before_work(book, seat, lists, version) {
         return turn;
     }
-    if !book.opens(version, node) {
+    if !seat.opens(node) {
         return Turn::NotYet(Cause::NotOpen { node });
     }
-    at_open_node(book, graph, lists, version, node, true)
+    at_open_node(book, seat, graph, lists, version, node, true)
 }

@@ -2,14 +2,14 @@
 
 ghost use Rattle.std.specs.Prelude.{◌≡◌, ◌<◌, ◌++◌, true, false, drop, length};
 ghost use Rattle.std.specs.List.{list_any};
-ghost use Rattle.signal_graph.specs.Graph.{node_at, is_source, inputs_of};
-ghost use Rattle.flow_model.specs.Machine.State.{opens, changes};
+ghost use Rattle.signal_graph.specs.Graph.{node_at, is_in, is_source, inputs_of};
+ghost use Rattle.flow_model.specs.Machine.State.{opens};
 ghost use Rattle.flow_model.specs.Machine.Words.{is_found, found_candidates};
 ghost use Rattle.flow_model.specs.Machine.Steps.{has_body_value};
 ghost use Rattle.flow_model.specs.Machine.Next.{first_of, other_than};
 ghost use Rattle.flow_model.specs.Parts.Books.{bare};
 ghost use Rattle.flow_state.specs.Booked.{live_in, node_count};
-ghost use Rattle.step_rules.specs.Fits.{IsWhole};
+ghost use Rattle.step_rules.specs.Fits.{IsWhole, IsSeatOf};
 ghost use Rattle.step_rules.specs.Points.{points_in, picked_in, open_given};
 ghost use Rattle.step_rules.specs.Rests.{AreBelow};
 
@@ -20,7 +20,7 @@ use crate::plain_node::at_plain;
 use crate::searches::{first_held, first_new, first_open, first_ungathered};
 use crate::working::{has_body_value, is_choose, is_found, is_source};
 use flow_model::{Cause, Step, Turn};
-use flow_state::Book;
+use flow_state::{Book, Seat};
 use retrofit::to_help;
 use signal_graph::graph::Graph;
 
@@ -28,6 +28,7 @@ use signal_graph::graph::Graph;
 /// is `given`, the call has to have finished at all that the node rests on; at its least open node it has.
 pub(crate) fn at_open_node<L: Lists>(
     book: &Book,
+    seat: &Seat,
     graph: &Graph,
     lists: &mut L,
     version: u32,
@@ -36,6 +37,7 @@ pub(crate) fn at_open_node<L: Lists>(
 ) -> Turn
     requires whole { IsWhole graph.now book.now (L.listing_of lists.old) (L.nodes lists.old) }
     requires live { live_in book.now version ≡ true }
+    requires seat { IsSeatOf book.now version seat.now }
     requires open { opens (bare book.now.book) version node ≡ true }
     ensures turn { result ≡ first_of (points_in graph.now book.now (L.listing_of lists.old) version given node) }
     ensures lists { L.listing_of lists.new ≡ L.listing_of lists.old }
@@ -49,14 +51,15 @@ pub(crate) fn at_open_node<L: Lists>(
         });
     }
     if is_choose(graph, node) {
-        return at_choose(book, graph, lists, version, node, given);
+        return at_choose(book, seat, graph, lists, version, node, given);
     }
-    at_plain(book, graph, lists, version, node, given)
+    at_plain(book, seat, graph, lists, version, node, given)
 }
 
 // The points behind the first one, at a choose: what it rests on are its inputs and its picks before the call.
 fn at_choose<L: Lists>(
     book: &Book,
+    seat: &Seat,
     graph: &Graph,
     lists: &mut L,
     version: u32,
@@ -65,6 +68,7 @@ fn at_choose<L: Lists>(
 ) -> Turn
     requires whole { IsWhole graph.now book.now (L.listing_of lists.old) (L.nodes lists.old) }
     requires live { live_in book.now version ≡ true }
+    requires seat { IsSeatOf book.now version seat.now }
     requires open { opens (bare book.now.book) version node ≡ true }
     ensures turn { result ≡ first_of (drop 1 (points_in graph.now book.now (L.listing_of lists.old) version given node)) }
     ensures lists { L.listing_of lists.new ≡ L.listing_of lists.old }
@@ -78,13 +82,14 @@ fn at_choose<L: Lists>(
     if let Some(later) = to_help(book, version, node) {
         return framing(book, lists, later, node);
     }
-    at_front(book, graph, lists, version, node, picked.as_slice())
+    at_front(book, seat, graph, lists, version, node, picked.as_slice())
 }
 
 // The points where no other call is in the way: a source is set, an untouched node is skipped, and else its inputs are
 // gathered and its scripts evaluated.
 fn at_front<L: Lists>(
     book: &Book,
+    seat: &Seat,
     graph: &Graph,
     lists: &mut L,
     version: u32,
@@ -93,6 +98,7 @@ fn at_front<L: Lists>(
 ) -> Turn
     requires whole { IsWhole graph.now book.now (L.listing_of lists.old) (L.nodes lists.old) }
     requires live { live_in book.now version ≡ true }
+    requires seat { IsSeatOf book.now version seat.now }
     requires open { opens (bare book.now.book) version node ≡ true }
     requires picked { picked.now ≡ picked_in (L.listing_of lists.old) version node }
     ensures turn { result ≡ first_of (drop 3 (points_in graph.now book.now (L.listing_of lists.old) version false node)) }
@@ -102,7 +108,7 @@ fn at_front<L: Lists>(
     if is_source(graph, node) {
         return Turn::Step(Step::Resolve { version, node });
     }
-    if !is_touched(book, graph, version, node, picked) {
+    if !is_touched(seat, graph, node, picked) {
         return Turn::Step(Step::Skip { version, node });
     }
     if let Some(input) = first_ungathered(book, node, graph.inputs(node)) {
@@ -116,12 +122,13 @@ fn at_front<L: Lists>(
     if !is_found(book, node) {
         return Turn::Step(Step::Evaluate { version, node });
     }
-    at_found(book, graph, lists, version, node, picked)
+    at_found(book, seat, graph, lists, version, node, picked)
 }
 
 // The points once the node's scripts are evaluated: new candidates are discovered and gathered, and a body is evaluated.
 fn at_found<L: Lists>(
     book: &Book,
+    seat: &Seat,
     graph: &Graph,
     lists: &mut L,
     version: u32,
@@ -130,6 +137,7 @@ fn at_found<L: Lists>(
 ) -> Turn
     requires whole { IsWhole graph.now book.now (L.listing_of lists.old) (L.nodes lists.old) }
     requires live { live_in book.now version ≡ true }
+    requires seat { IsSeatOf book.now version seat.now }
     requires open { opens (bare book.now.book) version node ≡ true }
     requires picked { picked.now ≡ picked_in (L.listing_of lists.old) version node }
     ensures turn { result ≡ first_of (drop 7 (points_in graph.now book.now (L.listing_of lists.old) version false node)) }
@@ -151,7 +159,7 @@ fn at_found<L: Lists>(
             node,
             input,
         };
-        return reading_candidate(book, lists, version, input, step);
+        return reading_candidate(book, seat, lists, version, input, step);
     }
     if !has_body_value(book, graph, node) {
         return Turn::Step(Step::Body { version, node });
@@ -224,13 +232,10 @@ pub(crate) fn input_open(
     }
 }
 
-// Whether the call has changed something that the node rests on.
-fn is_touched(book: &Book, graph: &Graph, version: u32, node: u32, picked: &[u32]) -> bool
-    requires live { live_in book.now version ≡ true }
-    requires node { node < length graph.now.nodes }
-    requires inputs { AreBelow (node_count book.now) (inputs_of (node_at graph.now node)) }
-    requires picked { AreBelow (node_count book.now) picked.now }
-    ensures { result ≡ list_any (changes (bare book.now.book) version) (inputs_of (node_at graph.now node) ++ picked.now) }
+// Whether the call of a seat has changed something that the node rests on.
+fn is_touched(seat: &Seat, graph: &Graph, node: u32, picked: &[u32]) -> bool
+    requires { node < length graph.now.nodes }
+    ensures { result ≡ list_any (λ n. is_in n seat.now.call.changed) (inputs_of (node_at graph.now node) ++ picked.now) }
 {
-    book.any_changed(version, graph.inputs(node)) || book.any_changed(version, picked)
+    seat.any_changed(graph.inputs(node)) || seat.any_changed(picked)
 }

@@ -18,8 +18,9 @@ pub(crate) fn first_open(book: &Book, version: u32, nodes: &[u32]) -> Option<u32
     requires inside { AreBelow (node_count book.now) nodes.now }
     ensures { result ≡ find (opens (bare book.now.book) version) nodes.now }
 {
+    let seat = book.seat(version);
     for node in nodes {
-        if book.opens(version, *node) {
+        if seat.opens(*node) {
             return Some(*node);
         }
     }
