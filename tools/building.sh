@@ -156,16 +156,28 @@ next_place() {
     echo "$best"
 }
 
-# Begins as many crates as there is room for.
+# Whether nothing can be proved beside a crate: nothing is at work, and all that waits stands on it.
+is_alone() {
+    local each
+    [ ${#group[@]} -eq 0 ] || return 1
+    for each in "${waiting[@]}"; do
+        [[ ${below[$each]} == *" $1 "* ]] || return 1
+    done
+}
+
+# Begins as many crates as there is room for. One that is alone has all the room, a job for each processor, where rt would choose
+# as if others were at work. Where there is room for one only, rt knows better how many jobs fit.
 begin_more() {
-    local place name
+    local place name jobs
     while [ ${#group[@]} -lt "$room" ] && place=$(next_place) && [ -n "$place" ]; do
         name=${waiting[$place]}
         unset "waiting[$place]"
         # Of what changes from here on rt may know nothing.
         echo "$kit" >"$apart/$name.mark"
         make_tree "$name" || { say "$name: its tree could not be made in $apart" && take_back "$name" && return 1; }
-        begin "$name" "$apart/$name/crates/$name" rt lib
+        jobs=()
+        [ "$room" -eq 1 ] || ! is_alone "$name" || jobs=(--jobs "$room")
+        begin "$name" "$apart/$name/crates/$name" rt lib "${jobs[@]}"
     done
     [ ${#group[@]} -eq 0 ] || say_at_work
 }
