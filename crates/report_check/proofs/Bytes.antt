@@ -9,8 +9,8 @@ use Rattle.signal_graph.specs.declared.log.Refused.{Refused}
 use Rattle.signal_graph.specs.Graph.{Graph}
 use Rattle.report_text.specs.declared.data.CallLine.{CallLine}
 use Rattle.report_text.specs.declared.data.Report.{Report}
-use Rattle.report_text.specs.Report.{report_of, refused_line, final_line, done_line}
-use Rattle.report_text.specs.Printed.{line_text, printed, data_of, IsReport}
+use Rattle.report_text.specs.Report.{report_of, call_line, refused_line, final_line, done_line}
+use Rattle.report_text.specs.Printed.{printed, data_of, IsReport}
 use Rattle.report_check.specs.Lines.{OfCall, lines_behind, lines_of}
 use Rattle.report_check.specs.Runs.{IsReportOfRun, AreReportOfRun}
 use Rattle.report_check.proofs.Judging.{behind_size}
@@ -53,7 +53,7 @@ few_of text some (x ∷ xs) =
     let both = length-append (text x) (flat_map text xs) in
     omega (arith, rest, one, both)
 
-some_call : (line : CallLine) → 1 ≤ length (line_text line)
+some_call : (line : CallLine) → 1 ≤ length (call_line line)
 some_call line = omega arith
 
 some_refusal : (refused : Refused) → 1 ≤ length (refused_line refused)
@@ -67,11 +67,11 @@ some_done accepted refusals = omega arith
 
 pub few_lines : (report : Report) → length (lines_of report) ≤ length (printed report)
 few_lines report =
-    let calls = flat_map line_text report.calls in
+    let calls = flat_map call_line report.calls in
     let refused = flat_map refused_line report.refused in
     let last = flat_map final_line report.finals in
     let done = done_line report.accepted report.refusals in
-    let a = few_of line_text some_call report.calls in
+    let a = few_of call_line some_call report.calls in
     let b = few_of refused_line some_refusal report.refused in
     let c = few_of final_line some_final report.finals in
     let d = some_done report.accepted report.refusals in

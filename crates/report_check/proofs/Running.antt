@@ -28,8 +28,7 @@ use Rattle.call_log.specs.Merge.{IsOfCaller, Merge}
 use Rattle.call_log.proofs.Prefixes.{as_many}
 use Rattle.report_text.specs.declared.data.CallLine.{CallLine}
 use Rattle.report_text.specs.declared.data.Report.{Report}
-use Rattle.report_text.specs.Report.{names_of}
-use Rattle.report_text.specs.Printed.{line_of}
+use Rattle.report_text.specs.Report.{line_of}
 use Rattle.report_check.specs.declared.verdict.Verdict.{Verdict}
 use Rattle.report_check.specs.declared.verdict.Verdict.TheVariants.{Yes, Wrong}
 use Rattle.report_check.specs.Verdicts.{IsVerdict}
@@ -42,10 +41,6 @@ use Rattle.report_check.proofs.Numbering.{count, IsAmong, each_once, none_else, 
 use Rattle.report_check.proofs.Judging.{there, no_refusal_first, no_final_first, no_call_first, refusal_or, last_or, accepted_or, refusals_or, call_at, behind_there, behind_some, not_call, right_whole}
 
 -- ---- behind right lines a log keeps what a run's log keeps
-
-names_are : (call : Call) → names_of call ≡ looks_of call
-names_are (Fire sets looks) = refl
-names_are (Read looks) = refl
 
 pub record IsMade (graph : Graph) (scripts : List (List Call)) (made : ℕ) (log : List Logged) : Type 0 where
   pub callers : All (IsOfCaller (length scripts)) log
@@ -151,7 +146,7 @@ made_upto graph scripts made lines end inside right (suc n) low =
     let more : log_of graph scripts (take (n + 1) lines) ≡ log ++ entry_of graph scripts log line ∷ [] = log_more graph scripts lines n line own within in
     let e : n + 1 ≡ suc n = omega arith in
     let entry = entry_of graph scripts log line in
-    let same : line_of entry ≡ line = ap (λ ns. record { version = line.version; caller = line.caller; reply = line.reply; names = ns }) (names_are entry.call ∙ sym is.names) in
+    let same : line_of entry ≡ line = ap (λ ns. record { version = line.version; caller = line.caller; reply = line.reply; names = ns }) (sym is.names) in
     subst (λ k. IsMade graph scripts made (log_of graph scripts (take k lines)) × (map line_of (log_of graph scripts (take k lines)) ≡ take k lines)) e (
       subst (IsMade graph scripts made) (sym more) (made_more graph scripts made log line before.0 is),
       ap (map line_of) more ∙ map-append line_of log (entry ∷ []) ∙ ap (λ ls. ls ++ line_of entry ∷ []) before.1 ∙ ap (λ l. take n lines ++ l ∷ []) same
@@ -387,7 +382,7 @@ right_of_run graph scripts limit log refused before behind entry merge legal spl
   from_one = is.from_one;
   thread = is.thread;
   left = is.left;
-  names = names_are entry.call ∙ ap looks_of (sym is.next);
+  names = ap looks_of (sym is.next);
   low = version.0;
   high = let high = version.1 in omega (arith, high, size);
   once =

@@ -14,7 +14,6 @@ use crate::seat::Seat;
 use deck_text::Deck;
 use report_text::data::CallLine;
 use script_tree::memory::OutOfMemory;
-use script_tree::name::NameList;
 use serial_machine::Machine;
 use signal_graph::call::Call;
 use std::alloc::Global;
@@ -27,16 +26,6 @@ pub struct Pass<'d> {
     pub machine: Machine<'d>,
     pub seats: Vec<Seat>,
     pub marks: Vec<bool>,
-}
-
-// What a call looks at.
-fn looks(call: &Call) -> &NameList
-    ensures { result.now ≡ looks_of call.now }
-{
-    match call {
-        Call::Fire { looks, .. } => looks,
-        Call::Read { looks } => looks,
-    }
 }
 
 // Whether a version is one of 1 to `made`, has no mark, and is greater than the last one of its thread.
@@ -107,7 +96,7 @@ impl<'d> Pass<'d> {
         ensures right { (kept : Values) → IsAt self.old.machine kept → IfOk result (λ right. IsTrue right ↔ ((line.now.names ≡ looks_of call.now) × (line.now.reply ≡ reply self.old.machine.graph kept call.now))) }
         ensures moves { (kept : Values) → IsAt self.old.machine kept → IfOk result (λ right. IsTrue right → IsAt self.new.machine (after self.old.machine.graph kept call.now)) }
     {
-        if !same_names(line.names.as_slice(), looks(call).as_slice()) {
+        if !same_names(line.names.as_slice(), call.looks()) {
             return Ok(false);
         }
         let reply = self.machine.step(call)?;

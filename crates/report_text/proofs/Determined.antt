@@ -16,7 +16,8 @@ use Rattle.call_log.specs.Made.{entries_of, calls_in, well_named, script_of, IsP
 use Rattle.call_log.specs.Merge.{IsOfCaller, Merge}
 use Rattle.report_text.specs.declared.data.CallLine.{CallLine}
 use Rattle.report_text.specs.declared.data.Report.{Report}
-use Rattle.report_text.specs.Printed.{line_of, data_of}
+use Rattle.report_text.specs.Report.{line_of}
+use Rattle.report_text.specs.Printed.{data_of}
 use Rattle.report_text.specs.Runs.{Run, IsRun, text_of}
 use Rattle.report_text.proofs.OneReport.{one_report, one_zip, run_is_data}
 

@@ -14,8 +14,8 @@ use Rattle.signal_graph.specs.declared.log.Why.{Why}
 use Rattle.signal_graph.specs.declared.log.Why.TheVariants.{UnknownName, VersionsUsedUp}
 use Rattle.report_text.specs.declared.data.CallLine.{CallLine}
 use Rattle.report_text.specs.Pieces.{Ends, IsBlankFirst, IsValue}
-use Rattle.report_text.specs.Report.{counted, named_value, more_looks, looks_text, fire_looks, fire_text, reply_text, line_end, why_text, refused_line, final_line, done_line}
-use Rattle.report_text.specs.Printed.{line_text, IsLook, AreLooks, IsReply, IsWhy, NoCall, NoRefusal, NoFinal}
+use Rattle.report_text.specs.Report.{counted, named_value, more_looks, looks_text, fire_looks, fire_text, reply_text, line_end, call_line, why_text, refused_line, final_line, done_line}
+use Rattle.report_text.specs.Printed.{IsLook, AreLooks, IsReply, IsWhy, NoCall, NoRefusal, NoFinal}
 use Rattle.report_text.proofs.Unique.{one_piece, one_named, inner_name, numbers_differ, blank_ends, behind_count}
 use Rattle.report_text.proofs.LooksLaws.{looks_end}
 
@@ -122,7 +122,7 @@ pub reply_ends : (names : List (List ℕ)) (it : Reply) (rest : List ℕ) → En
 reply_ends names (Fired a b values) rest = refl
 reply_ends names (Seen values) rest = refl
 
-pub line_flat : (line : CallLine) (rest : List ℕ) → line_text line ++ rest ≡ counted (codes "call ") line.version (counted (codes " thread ") line.caller (reply_text line.names line.reply ++ 10 ∷ rest))
+pub line_flat : (line : CallLine) (rest : List ℕ) → call_line line ++ rest ≡ counted (codes "call ") line.version (counted (codes " thread ") line.caller (reply_text line.names line.reply ++ 10 ∷ rest))
 line_flat line rest =
     flat (codes "call ") (decimal line.version) (codes " thread ") (decimal line.caller) (reply_text line.names line.reply ++ line_end) rest
     ∙ ap (λ t. counted (codes "call ") line.version (counted (codes " thread ") line.caller t)) (append_assoc (reply_text line.names line.reply) line_end rest)

@@ -8,8 +8,7 @@ use Rattle.script_tree.specs.declared.value.Value.{Value}
 use Rattle.script_tree.specs.declared.value.Value.TheVariants.{Int, Bool as Truth, Fault as Faulty}
 use Rattle.signal_graph.specs.declared.call.Reply.{Reply}
 use Rattle.signal_graph.specs.declared.call.Reply.TheVariants.{Fire as Fired, Read as Seen}
-use Rattle.signal_graph.specs.declared.log.Logged.{Logged}
-use Rattle.report_text.specs.Report.{names_of}
+use Rattle.report_text.specs.declared.data.CallLine.{CallLine}
 use Rattle.report_text.specs.Json.{value_data, look_data, reply_data, call_data}
 
 value_has_no_float : (v : Value) → has_float (value_data v) ≡ false
@@ -26,5 +25,5 @@ reply_has_no_float : (caller version : ℕ) (names : List (List ℕ)) (reply : R
 reply_has_no_float t v names (Fired c e values) = rw (looks_have_no_float (zip names values)) refl
 reply_has_no_float t v names (Seen values) = rw (looks_have_no_float (zip names values)) refl
 
-pub call_has_no_float : (entry : Logged) → has_float (call_data entry) ≡ false
-call_has_no_float entry = reply_has_no_float entry.caller entry.version (names_of entry.call) entry.reply
+pub call_has_no_float : (line : CallLine) → has_float (call_data line) ≡ false
+call_has_no_float line = reply_has_no_float line.caller line.version line.names line.reply

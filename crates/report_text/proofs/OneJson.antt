@@ -1,5 +1,5 @@
 -- JSON texts are told apart as the data that they are of.
-use Rattle.std.proofs.Common.{◌≡◌, ℕ, ◌+◌, ◌<◌, ◌≤◌, Bool, false, List, [], ◌∷◌, ◌++◌, length, map, Some, refl, sym, ap, subst, ◌∙◌, arith}
+use Rattle.std.proofs.Common.{◌≡◌, ℕ, ◌+◌, ◌<◌, ◌≤◌, Bool, false, List, [], ◌∷◌, ◌++◌, length, map, Some, refl, sym, ap, ◌∙◌, arith}
 use Rattle.std.specs.Prelude.{◌^◌, ℤ, pos, negsuc, decimal, Option, None}
 use Rattle.std.specs.Fmt.{signed_decimal}
 use Rattle.std.specs.List.{AllByRecursion, zip}
@@ -14,7 +14,7 @@ use Rattle.json.specs.Tree.{json_tokens, depth, HasNumbers}
 use Rattle.json.proofs.Printed.Decimals.{IsNumber-decimal, IsNumber-signed_decimal}
 use Rattle.json.proofs.Printed.Tokens.{tokens-print}
 use Rattle.json.proofs.Printed.Trees.{value-json_tokens, ArePrintable-json_tokens}
-use Rattle.serde_json.specs.Data.{Data, array}
+use Rattle.serde_json.specs.Data.{Data}
 use Rattle.serde_json.specs.Find.{of_integer}
 use Rattle.serde_json.specs.View.{items_of}
 use Rattle.serde_json.specs.Written.{number_text, outline, items_outline, compact_text}
@@ -33,7 +33,8 @@ use Rattle.signal_graph.specs.Graph.{Graph}
 use Rattle.report_text.specs.declared.data.CallLine.{CallLine}
 use Rattle.report_text.specs.Json.{value_data, look_data, list_data, reply_data, call_data, why_data, refused_data, report_data}
 use Rattle.report_text.specs.Pieces.{IsValue}
-use Rattle.report_text.specs.Printed.{line_of, IsLook, AreLooks, IsReply, IsLine, IsWhy, IsRefusal, data_of, IsReport}
+use Rattle.report_text.specs.Report.{line_of}
+use Rattle.report_text.specs.Printed.{IsLook, AreLooks, IsReply, IsLine, IsWhy, IsRefusal, data_of, IsReport}
 use Rattle.report_text.specs.Runs.{Run, IsRun, json_text_of}
 use Rattle.report_text.proofs.Determined.{one_run}
 use Rattle.report_text.proofs.OneReport.{one_zip, same_look, same_line, same_refused}
@@ -153,10 +154,6 @@ one_looks_json xs ys hx hy e = one_list look_data IsLook one_look_json xs ys hx 
 one_count : (m n : ℕ) → m < 2 ^ 32 → n < 2 ^ 32 → decimal m ≡ decimal n → m ≡ n
 one_count m n hm hn e = decimal_injective m n (omega (arith, hm)) (omega (arith, hn)) e
 
--- what a report prints of a call, from its line
-line_data : CallLine → Data
-line_data line = reply_data line.caller line.version line.names line.reply
-
 one_reply_json : (t v s w : ℕ) (n m : List (List ℕ)) (r q : Reply) → t < 2 ^ 32 → v < 2 ^ 32 → s < 2 ^ 32 → w < 2 ^ 32 → IsReply n r → IsReply m q
     → outline (reply_data t v n r) ≡ outline (reply_data s w m q) → (t ≡ s) × (v ≡ w) × (n ≡ m) × (r ≡ q)
 one_reply_json t v s w n m (Fired a b x) (Fired c d y) ht hv hs hw hr hq e =
@@ -176,17 +173,10 @@ one_reply_json t v s w n m (Seen x) (Seen y) ht hv hs hw hr hq e =
 one_reply_json t v s w n m (Fired a b x) (Seen y) ht hv hs hw hr hq e = absurd (omega (arith, ap (λ j. length (key_in (members_in j))) e))
 one_reply_json t v s w n m (Seen x) (Fired c d y) ht hv hs hw hr hq e = absurd (omega (arith, ap (λ j. length (key_in (members_in j))) e))
 
-one_line_json : (a b : CallLine) → IsLine a → IsLine b → outline (line_data a) ≡ outline (line_data b) → a ≡ b
-unfolding line_data
+one_line_json : (a b : CallLine) → IsLine a → IsLine b → outline (call_data a) ≡ outline (call_data b) → a ≡ b
 one_line_json a b ha hb e =
     let parts = one_reply_json a.caller a.version b.caller b.version a.names b.names a.reply b.reply ha.caller ha.version hb.caller hb.version ha.reply hb.reply e in
     same_line a b parts.1 parts.0 parts.3 parts.2
-
--- the calls of a log by their lines
-calls_are_lines : (log : List Logged) → map call_data log ≡ map line_data (map line_of log)
-unfolding line_data
-calls_are_lines [] = refl
-calls_are_lines (entry ∷ log) = ap (λ l. call_data entry ∷ l) (calls_are_lines log)
 
 -- ---- refusals
 
@@ -236,8 +226,7 @@ reply_numbers t v names (Seen values) ht hv h =
     let looks = list_numbers look_data IsLook look_numbers (zip names values) h.1 in
     (tt, (looks, (count_number t ht, (count_number v hv, tt))))
 
-line_numbers : (line : CallLine) → IsLine line → HasNumbers (outline (line_data line))
-unfolding line_data
+line_numbers : (line : CallLine) → IsLine line → HasNumbers (outline (call_data line))
 line_numbers line h = reply_numbers line.caller line.version line.names line.reply h.caller h.version h.reply
 
 why_numbers : (t n : ℕ) (why : Why) → t < 2 ^ 32 → n < 2 ^ 32 → IsWhy why → HasNumbers (outline (why_data t n why))
@@ -249,12 +238,9 @@ refusal_numbers refused h = why_numbers refused.caller refused.number refused.wh
 
 -- ---- whole reports
 
-calls_list : (log : List Logged) → list_data call_data log ≡ list_data line_data (map line_of log)
-calls_list log = ap (λ (ds : List Data). array (items_of ds)) (calls_are_lines log)
-
 report_numbers : (log : List Logged) (refused : List Refused) (names : List (List ℕ)) (finals : List Value) → IsReport (data_of log refused names finals) → HasNumbers (outline (report_data log refused names finals))
 report_numbers log refused names finals is =
-    let calls = subst (λ (d : Data). HasNumbers (outline d)) (sym (calls_list log)) (list_numbers line_data IsLine line_numbers (map line_of log) is.calls) in
+    let calls = list_numbers call_data IsLine line_numbers (map line_of log) is.calls in
     let lasts = list_numbers look_data IsLook look_numbers (zip names finals) is.finals in
     let rest = list_numbers refused_data IsRefusal refusal_numbers refused is.refused in
     (count_number (length log) is.accepted, (calls, (lasts, (rest, tt))))
@@ -266,8 +252,7 @@ one_run_by_json graph scripts limit other a b is too e =
     let y = report_data b.log b.refused graph.names b.finals in
     let tree : outline x ≡ outline y = one_outline x y (report_numbers a.log a.refused graph.names a.finals is.fits) (report_numbers b.log b.refused graph.names b.finals too.fits)
     (append_cancel_right (compact_text x) (compact_text y) (10 ∷ []) e) in
-    let calls = one_list line_data IsLine one_line_json (map line_of a.log) (map line_of b.log) is.fits.calls too.fits.calls
-    (sym (ap outline (calls_list a.log)) ∙ ap (λ j. first_in (behind_in (members_in j))) tree ∙ ap outline (calls_list b.log)) in
+    let calls = one_list call_data IsLine one_line_json (map line_of a.log) (map line_of b.log) is.fits.calls too.fits.calls (ap (λ j. first_in (behind_in (members_in j))) tree) in
     let finals = one_looks_json (zip graph.names a.finals) (zip graph.names b.finals) is.fits.finals too.fits.finals (ap (λ j. first_in (behind_in (behind_in (members_in j)))) tree) in
     let refused = one_list refused_data IsRefusal one_refusal_json a.refused b.refused is.fits.refused too.fits.refused (ap (λ j. first_in (behind_in (behind_in (behind_in (members_in j))))) tree) in
     one_run graph scripts limit other a b is too calls refused finals

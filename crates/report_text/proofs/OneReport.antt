@@ -15,7 +15,7 @@ use Rattle.report_text.specs.declared.data.Report.{Report}
 use Rattle.report_text.specs.declared.reading.ReportFault.{ReportFault}
 use Rattle.report_text.specs.declared.reading.ReportFault.TheVariants.{Syntax, Memory}
 use Rattle.report_text.specs.Report.{counted, named_value, more_looks, looks_text, fire_looks, reply_text, why_text, refused_line, final_line, done_line, call_line, report_of}
-use Rattle.report_text.specs.Printed.{line_text, line_of, data_of, lines_before, printed, IsLook, AreLooks, IsReply, IsLine, IsRefusal, AreLines, AreRefusals, IsReport, NoCall, NoRefusal, NoFinal, StopsWithin, StopsBehind, Stops}
+use Rattle.report_text.specs.Printed.{data_of, lines_before, printed, IsLook, AreLooks, IsReply, IsLine, IsRefusal, AreLines, AreRefusals, IsReport, NoCall, NoRefusal, NoFinal, StopsWithin, StopsBehind, Stops}
 use Rattle.report_text.specs.Reading.{IsReadAs}
 use Rattle.report_text.proofs.Unique.{one_named, numbers_differ, behind_count}
 use Rattle.report_text.proofs.LooksLaws.{looks_end}
@@ -100,7 +100,7 @@ same_line a b v c r n =
     ap (λ x. line_from x a.caller a.reply a.names) v ∙ ap (λ x. line_from b.version x a.reply a.names) c
     ∙ ap (λ x. line_from b.version b.caller x a.names) r ∙ ap (λ x. line_from b.version b.caller b.reply x) n
 
-one_line : (a b : CallLine) (x y : List ℕ) → IsLine a → IsLine b → line_text a ++ x ≡ line_text b ++ y → (a ≡ b) × (x ≡ y)
+one_line : (a b : CallLine) (x y : List ℕ) → IsLine a → IsLine b → call_line a ++ x ≡ call_line b ++ y → (a ≡ b) × (x ≡ y)
 one_line a b x y ha hb e =
     let said_a = reply_text a.names a.reply ++ 10 ∷ x in
     let said_b = reply_text b.names b.reply ++ 10 ∷ y in
@@ -171,7 +171,7 @@ one_before : (cs ds : List CallLine) (rs ss : List Refused) (fs gs : List (List 
     → (rs ≡ [] → fs ≡ [] → NoCall x) → (ss ≡ [] → gs ≡ [] → NoCall y) → (fs ≡ [] → NoRefusal x) → (gs ≡ [] → NoRefusal y) → NoFinal x → NoFinal y
     → lines_before cs rs fs x ≡ lines_before ds ss gs y → (cs ≡ ds) × (rs ≡ ss) × (fs ≡ gs) × (x ≡ y)
 one_before cs ds rs ss fs gs x y hc hd hr hs hf hg ncx ncy nrx nry nfx nfy e =
-    let calls = one_section line_text IsLine one_line cs ds _ _ hc hd (no_call_in rs fs x ncx) (no_call_in ss gs y ncy) e in
+    let calls = one_section call_line IsLine one_line cs ds _ _ hc hd (no_call_in rs fs x ncx) (no_call_in ss gs y ncy) e in
     let refused = one_section refused_line IsRefusal one_refusal rs ss _ _ hr hs (no_refusal_in fs x nrx) (no_refusal_in gs y nry) calls.1 in
     let finals = one_section final_line IsLook one_final fs gs x y hf hg nfx nfy refused.1 in
     (calls.0, refused.0, finals.0, finals.1)
@@ -194,7 +194,7 @@ same_report a b c r f n m =
     ∙ ap (λ x. report_from b.calls b.refused b.finals b.accepted x) m
 
 moved : (report : Report) (x : List ℕ) → printed report ++ x ≡ lines_before report.calls report.refused report.finals (done_line report.accepted report.refusals ++ x)
-moved report x = all (flat_map line_text report.calls) (flat_map refused_line report.refused) (flat_map final_line report.finals) (done_line report.accepted report.refusals) x
+moved report x = all (flat_map call_line report.calls) (flat_map refused_line report.refused) (flat_map final_line report.finals) (done_line report.accepted report.refusals) x
   where
     all : (a b c d e : List ℕ) → (a ++ (b ++ (c ++ d))) ++ e ≡ a ++ (b ++ (c ++ (d ++ e)))
     all a b c d e = simp append_assoc
@@ -229,13 +229,8 @@ pub whole_reports : (report : Report) (bytes : List ℕ) (line : ℕ) → IsRepo
 whole_reports report bytes line is e stops = ⊎_elim (λ s. within_no_report report bytes line is e s) (λ s. behind_no_report report bytes line is e s) stops
 
 -- ---- the report of a run is that of its data
-lines_of_calls : (log : List Logged) → flat_map line_text (map line_of log) ≡ flat_map call_line log
-lines_of_calls [] = refl
-lines_of_calls (entry ∷ log) = ap (λ t. call_line entry ++ t) (lines_of_calls log)
-
 pub run_is_data : (log : List Logged) (refused : List Refused) (names : List (List ℕ)) (finals : List Value) → report_of log refused names finals ≡ printed (data_of log refused names finals)
-run_is_data log refused names finals =
-    ap (λ t. t ++ (flat_map refused_line refused ++ (flat_map final_line (zip names finals) ++ done_line (length log) (length refused)))) (sym (lines_of_calls log))
+run_is_data log refused names finals = refl
 
 -- ---- a report is read as its data
 pub read_back : (report : Report) (bytes : List ℕ) (answer : Result Report ReportFault) → IsReport report → bytes ≡ printed report → IsReadAs bytes answer → answer ≢ Err Memory → answer ≡ Ok report

@@ -5,8 +5,8 @@ use Rattle.script_tree.specs.declared.value.Value.{Value}
 use Rattle.signal_graph.specs.declared.log.Refused.{Refused}
 use Rattle.report_text.specs.declared.data.CallLine.{CallLine}
 use Rattle.report_text.specs.declared.data.Report.{Report}
-use Rattle.report_text.specs.Report.{refused_line, final_line, done_line}
-use Rattle.report_text.specs.Printed.{line_text, AreLines, AreRefusals, AreLooks, IsReport, NoCall, NoRefusal, NoFinal, NoDone, Stops}
+use Rattle.report_text.specs.Report.{call_line, refused_line, final_line, done_line}
+use Rattle.report_text.specs.Printed.{AreLines, AreRefusals, AreLooks, IsReport, NoCall, NoRefusal, NoFinal, NoDone, Stops}
 
 joined : (bytes a r1 b r2 c r3 : List ℕ) → bytes ≡ a ++ r1 → r1 ≡ b ++ r2 → r2 ≡ c ++ r3 → bytes ≡ a ++ (b ++ (c ++ r3))
 joined bytes a r1 b r2 c r3 one two three = one ∙ ap (λ t. a ++ t) (two ∙ ap (λ t. b ++ t) three)
@@ -15,7 +15,7 @@ same_rest : {A : Type 0} (f : A → List ℕ) (xs : List A) (text rest : List �
 same_rest f xs text rest e none = e ∙ ap (λ l. flat_map f l ++ rest) none
 
 pub stops_within : (bytes r1 r2 r3 : List ℕ) (calls : List CallLine) (refused : List Refused) (finals : List (List ℕ × Value)) (line : ℕ) → AreLines calls → AreRefusals refused → AreLooks finals
-    → bytes ≡ flat_map line_text calls ++ r1 → r1 ≡ flat_map refused_line refused ++ r2 → r2 ≡ flat_map final_line finals ++ r3
+    → bytes ≡ flat_map call_line calls ++ r1 → r1 ≡ flat_map refused_line refused ++ r2 → r2 ≡ flat_map final_line finals ++ r3
     → NoCall r1 → NoRefusal r2 → NoFinal r3 → NoDone r3 → line ≡ length calls + length refused + length finals + 1 → Stops bytes line
 stops_within bytes r1 r2 r3 calls refused finals line ac ar af one two three nc nr nf nd number =
     let at_finals : finals ≡ [] → r2 ≡ r3 = λ f. same_rest final_line finals r2 r3 three f in
@@ -28,7 +28,7 @@ stops_within bytes r1 r2 r3 calls refused finals line ac ar af one two three nc 
       are_calls = ac;
       are_refused = ar;
       are_finals = af;
-      text = joined bytes (flat_map line_text calls) r1 (flat_map refused_line refused) r2 (flat_map final_line finals) r3 one two three;
+      text = joined bytes (flat_map call_line calls) r1 (flat_map refused_line refused) r2 (flat_map final_line finals) r3 one two three;
       number = number;
       no_call = λ r f it rest is e. nc it rest is (at_refused r f ∙ e);
       no_refusal = λ f it rest is e. nr it rest is (at_finals f ∙ e);
@@ -37,7 +37,7 @@ stops_within bytes r1 r2 r3 calls refused finals line ac ar af one two three nc 
     })
 
 pub stops_behind : (bytes r1 r2 r3 r4 : List ℕ) (report : Report) (line : ℕ) → IsReport report
-    → bytes ≡ flat_map line_text report.calls ++ r1 → r1 ≡ flat_map refused_line report.refused ++ r2 → r2 ≡ flat_map final_line report.finals ++ r3 → r3 ≡ done_line report.accepted report.refusals ++ r4
+    → bytes ≡ flat_map call_line report.calls ++ r1 → r1 ≡ flat_map refused_line report.refused ++ r2 → r2 ≡ flat_map final_line report.finals ++ r3 → r3 ≡ done_line report.accepted report.refusals ++ r4
     → r4 ≢ [] → line ≡ length report.calls + length report.refused + length report.finals + 2 → Stops bytes line
 stops_behind bytes r1 r2 r3 r4 report line is one two three four more number =
     inr (record {
@@ -45,9 +45,9 @@ stops_behind bytes r1 r2 r3 r4 report line is one two three four more number =
       behind = r4;
       is_report = is;
       more = more;
-      text = joined bytes (flat_map line_text report.calls) r1 (flat_map refused_line report.refused) r2 (flat_map final_line report.finals) r3 one two three
-          ∙ ap (λ t. flat_map line_text report.calls ++ (flat_map refused_line report.refused ++ (flat_map final_line report.finals ++ t))) four
-          ∙ sym (behind_all (flat_map line_text report.calls) (flat_map refused_line report.refused) (flat_map final_line report.finals) (done_line report.accepted report.refusals) r4);
+      text = joined bytes (flat_map call_line report.calls) r1 (flat_map refused_line report.refused) r2 (flat_map final_line report.finals) r3 one two three
+          ∙ ap (λ t. flat_map call_line report.calls ++ (flat_map refused_line report.refused ++ (flat_map final_line report.finals ++ t))) four
+          ∙ sym (behind_all (flat_map call_line report.calls) (flat_map refused_line report.refused) (flat_map final_line report.finals) (done_line report.accepted report.refusals) r4);
       number = number;
     })
   where

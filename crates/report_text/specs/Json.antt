@@ -14,7 +14,8 @@ use Rattle.signal_graph.specs.declared.log.Logged.{Logged}
 use Rattle.signal_graph.specs.declared.log.Refused.{Refused}
 use Rattle.signal_graph.specs.declared.log.Why.{Why}
 use Rattle.signal_graph.specs.declared.log.Why.TheVariants.{UnknownName, VersionsUsedUp}
-use Rattle.report_text.specs.Report.{names_of}
+use Rattle.report_text.specs.declared.data.CallLine.{CallLine}
+use Rattle.report_text.specs.Report.{line_of}
 
 -- a number that counts
 abbrev pub count_data : ℕ → Data
@@ -50,9 +51,9 @@ abbrev pub reply_data : ℕ → ℕ → List (List ℕ) → Reply → Data
 reply_data caller version names (Fired changed evaluated values) = fire_data caller version changed evaluated (list_data look_data (zip names values))
 reply_data caller version names (Seen values) = read_data caller version (list_data look_data (zip names values))
 
--- a call that was made
-abbrev pub call_data : Logged → Data
-call_data entry = reply_data entry.caller entry.version (names_of entry.call) entry.reply
+-- a call that was made, of what a report shows of it
+abbrev pub call_data : CallLine → Data
+call_data line = reply_data line.caller line.version line.names line.reply
 
 -- a call that was not made, by its thread, its number and why
 abbrev pub why_data : ℕ → ℕ → Why → Data
@@ -74,7 +75,7 @@ whole_data accepted calls finals refused =
 -- the whole report: the keys of each object are in the order of their bytes
 abbrev pub report_data : List Logged → List Refused → List (List ℕ) → List Value → Data
 report_data log refused names finals =
-    whole_data (length log) (list_data call_data log) (list_data look_data (zip names finals)) (list_data refused_data refused)
+    whole_data (length log) (list_data call_data (map line_of log)) (list_data look_data (zip names finals)) (list_data refused_data refused)
 
 -- its line: the JSON text without a space, and LF
 abbrev pub json_of : List Logged → List Refused → List (List ℕ) → List Value → List ℕ

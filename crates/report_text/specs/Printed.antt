@@ -1,5 +1,5 @@
 -- The bytes that data is the report of.
-use Rattle.std.specs.Prelude.{◌≡◌, ◌≢◌, ℕ, ◌+◌, ◌<◌, ◌^◌, IsTrue, ◌⊎◌, List, [], ◌++◌, length, map, codes}
+use Rattle.std.specs.Prelude.{◌≡◌, ◌≢◌, ℕ, ◌+◌, ◌<◌, ◌^◌, IsTrue, ◌⊎◌, List, [], ◌++◌, length, map}
 use Rattle.std.specs.List.{AllByRecursion, flat_map, zip}
 use Rattle.script_tree.specs.Names.{is_name}
 use Rattle.script_tree.specs.declared.value.Value.{Value}
@@ -12,12 +12,7 @@ use Rattle.signal_graph.specs.declared.log.Why.TheVariants.{UnknownName, Version
 use Rattle.report_text.specs.declared.data.CallLine.{CallLine}
 use Rattle.report_text.specs.declared.data.Report.{Report}
 use Rattle.report_text.specs.Pieces.{IsValue}
-use Rattle.report_text.specs.Report.{counted, names_of, reply_text, line_end, refused_line, final_line, done_line}
-
--- the line of a call, from its data
-abbrev pub line_text : CallLine → List ℕ
-line_text line =
-    counted (codes "call ") line.version (counted (codes " thread ") line.caller (reply_text line.names line.reply ++ line_end))
+use Rattle.report_text.specs.Report.{line_of, call_line, refused_line, final_line, done_line}
 
 -- ---- what data of a line can be
 
@@ -57,16 +52,13 @@ AreRefusals lines = AllByRecursion IsRefusal lines
 
 -- the lines of a report before its last one, kind after kind, and what stands behind them
 abbrev pub lines_before : List CallLine → List Refused → List (List ℕ × Value) → List ℕ → List ℕ
-lines_before calls refused finals behind = flat_map line_text calls ++ (flat_map refused_line refused ++ (flat_map final_line finals ++ behind))
+lines_before calls refused finals behind = flat_map call_line calls ++ (flat_map refused_line refused ++ (flat_map final_line finals ++ behind))
 
 -- the text of a report
 abbrev pub printed : Report → List ℕ
 printed report = lines_before report.calls report.refused report.finals (done_line report.accepted report.refusals)
 
 -- the data of a finished run
-abbrev pub line_of : Logged → CallLine
-line_of entry = record { version = entry.version; caller = entry.caller; reply = entry.reply; names = names_of entry.call }
-
 abbrev pub data_of : List Logged → List Refused → List (List ℕ) → List Value → Report
 data_of log refused names finals = record { calls = map line_of log; refused = refused; finals = zip names finals; accepted = length log; refusals = length refused }
 
@@ -82,7 +74,7 @@ pub record IsReport (report : Report) : Type 0 where
 
 -- a text that begins with no line of a call, of a refusal, of a last value, or with no last line
 abbrev pub NoCall : List ℕ → Type 0
-NoCall text = (line : CallLine) (rest : List ℕ) → IsLine line → text ≢ line_text line ++ rest
+NoCall text = (line : CallLine) (rest : List ℕ) → IsLine line → text ≢ call_line line ++ rest
 
 abbrev pub NoRefusal : List ℕ → Type 0
 NoRefusal text = (refused : Refused) (rest : List ℕ) → IsRefusal refused → text ≢ refused_line refused ++ rest

@@ -1,6 +1,6 @@
 -- The bytes of a report: a line for each call that was made, for each that was refused, for each node's last value, and
 -- one with the counts. Each line ends with LF.
-use Rattle.std.specs.Prelude.{◌≡◌, ℕ, List, [], ◌∷◌, ◌++◌, length, codes, decimal}
+use Rattle.std.specs.Prelude.{◌≡◌, ℕ, List, [], ◌∷◌, ◌++◌, length, map, codes, decimal}
 use Rattle.std.specs.List.{AllByRecursion, flat_map, zip}
 use Rattle.script_tree.specs.declared.value.Value.{Value}
 use Rattle.script_tree.specs.Printed.{value_text}
@@ -12,6 +12,8 @@ use Rattle.signal_graph.specs.declared.log.Logged.{Logged}
 use Rattle.signal_graph.specs.declared.log.Refused.{Refused}
 use Rattle.signal_graph.specs.declared.log.Why.{Why}
 use Rattle.signal_graph.specs.declared.log.Why.TheVariants.{UnknownName, VersionsUsedUp}
+use Rattle.signal_graph.specs.Machine.{looks_of}
+use Rattle.report_text.specs.declared.data.CallLine.{CallLine}
 
 -- words, a number, and what comes behind them
 abbrev pub counted : List ℕ → ℕ → List ℕ → List ℕ
@@ -37,14 +39,6 @@ fire_looks (look ∷ looks) = codes " look " ++ looks_text (look ∷ looks)
 abbrev pub fire_text : ℕ → ℕ → List (List ℕ × Value) → List ℕ
 fire_text changed evaluated looks = counted (codes " fire changed ") changed (counted (codes " evaluated ") evaluated (fire_looks looks))
 
-abbrev pub names_of : Call → List (List ℕ)
-names_of (Fire sets looks) = looks
-names_of (Read looks) = looks
-
-abbrev pub values_of : Reply → List Value
-values_of (Fired changed evaluated values) = values
-values_of (Seen values) = values
-
 -- what a call did and saw
 abbrev pub reply_text : List (List ℕ) → Reply → List ℕ
 reply_text names (Fired changed evaluated values) = fire_text changed evaluated (zip names values)
@@ -53,10 +47,14 @@ reply_text names (Seen values) = codes " read " ++ looks_text (zip names values)
 abbrev pub line_end : List ℕ
 line_end = 10 ∷ []
 
--- the line of a call that was made
-abbrev pub call_line : Logged → List ℕ
-call_line entry =
-    counted (codes "call ") entry.version (counted (codes " thread ") entry.caller (reply_text (names_of entry.call) entry.reply ++ line_end))
+-- what a report shows of a call that was made: its version, its thread, its reply, and the names that it looked at
+abbrev pub line_of : Logged → CallLine
+line_of entry = record { version = entry.version; caller = entry.caller; reply = entry.reply; names = looks_of entry.call }
+
+-- the line of such a call
+abbrev pub call_line : CallLine → List ℕ
+call_line line =
+    counted (codes "call ") line.version (counted (codes " thread ") line.caller (reply_text line.names line.reply ++ line_end))
 
 abbrev pub why_text : Why → List ℕ
 why_text (UnknownName place) = codes " unknown name " ++ decimal place
@@ -78,7 +76,7 @@ done_line accepted refused = counted (codes "done ") accepted (counted (codes " 
 -- the report of the calls that were made, those that were refused, and the names and last values of all nodes
 abbrev pub report_of : List Logged → List Refused → List (List ℕ) → List Value → List ℕ
 report_of log refused names finals =
-    flat_map call_line log ++ (flat_map refused_line refused ++ (flat_map final_line (zip names finals) ++ done_line (length log) (length refused)))
+    flat_map call_line (map line_of log) ++ (flat_map refused_line refused ++ (flat_map final_line (zip names finals) ++ done_line (length log) (length refused)))
 
 -- a reply is of its call's kind and has a value for each look
 abbrev pub Answers : Call → Reply → Type 0

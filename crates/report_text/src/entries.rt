@@ -3,8 +3,8 @@
 ghost use Rattle.std.specs.Prelude.{◌≡◌, ◌≢◌, ℕ, List, ◌++◌, ◌∷◌, ◌<◌, ◌≤◌, ◌^◌, [], length, IfOk, IfErr, IfSome, IfNone, OnOk, codes};
 ghost use Rattle.std.specs.List.{zip};
 ghost use Rattle.report_text.specs.Pieces.{Ends};
-ghost use Rattle.report_text.specs.Printed.{line_text, IsLook, AreLooks, IsReply, IsLine, IsWhy, IsRefusal, NoCall, NoRefusal, NoFinal, NoDone};
-ghost use Rattle.report_text.specs.Report.{named_value, more_looks, looks_text, fire_looks, fire_text, reply_text, why_text, refused_line, final_line, done_line};
+ghost use Rattle.report_text.specs.Printed.{IsLook, AreLooks, IsReply, IsLine, IsWhy, IsRefusal, NoCall, NoRefusal, NoFinal, NoDone};
+ghost use Rattle.report_text.specs.Report.{named_value, more_looks, looks_text, fire_looks, fire_text, reply_text, call_line, why_text, refused_line, final_line, done_line};
 
 use crate::data::CallLine;
 use crate::pieces::{behind, count, counts, named};
@@ -192,7 +192,7 @@ fn reply(alloc: Global, text: &[u8]) -> Result<(Reply, NameList, &[u8]), Stop>
 
 /// The line of a call that was made, and what stands behind it. Takes memory.
 pub fn call(alloc: Global, text: &[u8]) -> Result<(CallLine, &[u8]), Stop>
-    ensures text { IfOk result (λ p. text.now ≡ line_text p.0 ++ p.1.now) }
+    ensures text { IfOk result (λ p. text.now ≡ call_line p.0 ++ p.1.now) }
     ensures line { IfOk result (λ p. IsLine p.0) }
     ensures none { IfErr result (λ stop. stop ≡ Stop.Syntax → NoCall text.now) }
     ensures shorter { IfOk result (λ p. length p.1.now < length text.now) }

@@ -1,11 +1,11 @@
 // The report as JSON, written item by item: only one item of a list is a JSON value at a time, because the value of a
 // whole report would take many times the memory of its text.
 
-ghost use Rattle.std.specs.Prelude.{◌≡◌, ◌++◌, length, false, IfOk, OnOk};
+ghost use Rattle.std.specs.Prelude.{◌≡◌, ◌++◌, length, map, false, IfOk, OnOk};
 ghost use Rattle.std.specs.List.{zip};
 ghost use Rattle.serde_json.specs.View.{view};
 ghost use Rattle.serde_json.specs.Written.{has_float, comma_if, compact_text};
-ghost use Rattle.report_text.specs.Report.{AreAnswered};
+ghost use Rattle.report_text.specs.Report.{line_of, AreAnswered};
 ghost use Rattle.report_text.specs.Json.{look_data, list_data, call_data, refused_data, json_of};
 
 use crate::json_values::{call_json, look_json, refused_json};
@@ -33,7 +33,7 @@ fn push_item(alloc: Global, out: &mut Text, later: bool, item: Json) -> Result<(
 // The list of the calls that were made.
 fn push_calls(alloc: Global, out: &mut Text, log: &[Logged]) -> Result<(), OutOfMemory>
     requires { AreAnswered log.now }
-    ensures { OnOk result (out.new ≡ out.old ++ compact_text (list_data call_data log.now)) }
+    ensures { OnOk result (out.new ≡ out.old ++ compact_text (list_data call_data (map line_of log.now))) }
 {
     out.extend_from_slice(b"[")?;
     let mut later = false;

@@ -4,10 +4,10 @@ ghost use Rattle.std.specs.Prelude.{◌≡◌, length, IfOk};
 ghost use Rattle.std.specs.List.{zip};
 ghost use Rattle.serde_json.specs.View.{view};
 ghost use Rattle.script_tree.specs.Printed.{fault_text};
-ghost use Rattle.report_text.specs.Report.{Answers, values_of};
+ghost use Rattle.signal_graph.specs.Machine.{looks_of_reply};
+ghost use Rattle.report_text.specs.Report.{line_of, Answers};
 ghost use Rattle.report_text.specs.Json.{value_data, look_data, list_data, fire_data, read_data, reply_data, call_data, why_data, refused_data};
 
-use crate::lines::names_of;
 use call_log::{Logged, Refused, Why};
 use script_tree::memory::OutOfMemory;
 use script_tree::name::Name;
@@ -109,7 +109,7 @@ fn reply_json(
     names: &[Name],
     reply: &Reply,
 ) -> Result<Json, OutOfMemory>
-    requires { length (values_of reply.now) ≡ length names.now }
+    requires { length (looks_of_reply reply.now) ≡ length names.now }
     ensures { IfOk result (λ json. view json ≡ reply_data caller version names.now reply.now) }
 {
     match reply {
@@ -131,13 +131,13 @@ fn reply_json(
 // A call that was made.
 pub fn call_json(alloc: Global, entry: &Logged) -> Result<Json, OutOfMemory>
     requires { Answers entry.now.call entry.now.reply }
-    ensures { IfOk result (λ json. view json ≡ call_data entry.now) }
+    ensures { IfOk result (λ json. view json ≡ call_data (line_of entry.now)) }
 {
     reply_json(
         alloc,
         entry.caller,
         entry.version,
-        names_of(&entry.call),
+        entry.call.looks(),
         &entry.reply,
     )
 }

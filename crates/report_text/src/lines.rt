@@ -3,8 +3,9 @@
 
 ghost use Rattle.std.specs.Prelude.{◌≡◌, ◌<◌, ◌^◌, ◌++◌, length, OnOk, decimal};
 ghost use Rattle.std.specs.List.{zip};
-ghost use Rattle.report_text.specs.Printed.{line_of, IsLook, AreLooks, IsReply, IsLine, IsWhy, IsRefusal};
-ghost use Rattle.report_text.specs.Report.{named_value, more_looks, looks_text, fire_looks, fire_text, reply_text, call_line, why_text, refused_line, final_line, done_line, names_of, values_of, Answers};
+ghost use Rattle.signal_graph.specs.Machine.{looks_of_reply};
+ghost use Rattle.report_text.specs.Printed.{IsLook, AreLooks, IsReply, IsLine, IsWhy, IsRefusal};
+ghost use Rattle.report_text.specs.Report.{named_value, more_looks, looks_text, fire_looks, fire_text, reply_text, line_of, call_line, why_text, refused_line, final_line, done_line, Answers};
 
 use itoa::Buffer;
 use script_tree::items::Text;
@@ -12,7 +13,7 @@ use script_tree::memory::OutOfMemory;
 use script_tree::name::Name;
 use script_tree::print::{print_number, print_value};
 use script_tree::value::Value;
-use signal_graph::call::{Call, Reply};
+use signal_graph::call::Reply;
 use signal_graph::log::{Logged, Refused, Why};
 
 // A name with a value.
@@ -80,29 +81,6 @@ fn print_fire_looks(out: &mut Text, names: &[Name], values: &[Value]) -> Result<
     }
 }
 
-// The names that a call looks at.
-pub fn names_of(call: &Call) -> &[Name]
-    ensures { result.now ≡ names_of call.now }
-{
-    match call {
-        Call::Fire { sets: _, looks } => looks.as_slice(),
-        Call::Read { looks } => looks.as_slice(),
-    }
-}
-
-fn values_of(reply: &Reply) -> &[Value]
-    ensures { result.now ≡ values_of reply.now }
-{
-    match reply {
-        Reply::Fire {
-            changed: _,
-            evaluated: _,
-            looks,
-        } => looks.as_slice(),
-        Reply::Read { looks } => looks.as_slice(),
-    }
-}
-
 // What a fire did and saw.
 fn print_fire(
     out: &mut Text,
@@ -123,7 +101,7 @@ fn print_fire(
 
 // What a call did and saw.
 fn print_reply(out: &mut Text, names: &[Name], reply: &Reply) -> Result<(), OutOfMemory>
-    requires { length (values_of reply.now) ≡ length names.now }
+    requires { length (looks_of_reply reply.now) ≡ length names.now }
     ensures text { OnOk result (out.new ≡ out.old ++ reply_text names.now reply.now) }
     ensures reply { OnOk result (IsReply names.now reply.now) }
 {
@@ -143,12 +121,12 @@ fn print_reply(out: &mut Text, names: &[Name], reply: &Reply) -> Result<(), OutO
 /// Adds the line of a call that was made.
 pub fn print_call(out: &mut Text, entry: &Logged) -> Result<(), OutOfMemory>
     requires { Answers entry.now.call entry.now.reply }
-    ensures text { OnOk result (out.new ≡ out.old ++ call_line entry.now) }
+    ensures text { OnOk result (out.new ≡ out.old ++ call_line (line_of entry.now)) }
     ensures line { OnOk result (IsLine (line_of entry.now)) }
 {
     print_count(out, b"call ", entry.version)?;
     print_count(out, b" thread ", entry.caller)?;
-    print_reply(out, names_of(&entry.call), &entry.reply)?;
+    print_reply(out, entry.call.looks(), &entry.reply)?;
     out.extend_from_slice(b"\n")
 }
 

@@ -2,9 +2,9 @@
 
 ghost use Rattle.std.specs.Prelude.{◌≡◌, ◌++◌, ◌+◌, ◌-◌, ◌<◌, ◌≤◌, ◌^◌, [], length, IfOk};
 ghost use Rattle.std.specs.List.{flat_map};
-ghost use Rattle.report_text.specs.Printed.{line_text, AreLines, AreRefusals, AreLooks, NoCall, NoRefusal, NoFinal};
+ghost use Rattle.report_text.specs.Printed.{AreLines, AreRefusals, AreLooks, NoCall, NoRefusal, NoFinal};
 ghost use Rattle.report_text.specs.Reading.{IsReadAs};
-ghost use Rattle.report_text.specs.Report.{refused_line, final_line};
+ghost use Rattle.report_text.specs.Report.{call_line, refused_line, final_line};
 
 use crate::data::{CallLine, Report};
 use crate::entries::{Stop, call, done, last, refusal};
@@ -46,7 +46,7 @@ fn read_calls<'a>(
     lines: &mut Vec<CallLine>,
 ) -> Result<&'a [u8], OutOfMemory>
     requires { lines.old.items ≡ [] }
-    ensures text { IfOk result (λ rest. text.now ≡ flat_map line_text lines.new.items ++ rest.now) }
+    ensures text { IfOk result (λ rest. text.now ≡ flat_map call_line lines.new.items ++ rest.now) }
     ensures lines { IfOk result (λ rest. AreLines lines.new.items) }
     ensures all { IfOk result (λ rest. NoCall rest.now) }
     ensures few { IfOk result (λ rest. length lines.new.items + length rest.now ≤ length text.now) }

@@ -3,9 +3,9 @@
 ghost use Rattle.std.specs.Prelude.{◌≡◌, ◌≢◌, ◌<◌, ◌^◌, ◌++◌, List, length, map, Result, IfOk, OnOk};
 ghost use Rattle.std.specs.List.{flat_map, zip};
 ghost use Rattle.report_text.specs.declared.data.Report.{Report};
-ghost use Rattle.report_text.specs.Printed.{line_of, data_of, AreLines, AreRefusals, AreLooks, IsReport};
+ghost use Rattle.report_text.specs.Printed.{data_of, AreLines, AreRefusals, AreLooks, IsReport};
 ghost use Rattle.report_text.specs.Reading.{IsReadAs};
-ghost use Rattle.report_text.specs.Report.{AreAnswered, call_line, refused_line, final_line, report_of};
+ghost use Rattle.report_text.specs.Report.{AreAnswered, line_of, call_line, refused_line, final_line, report_of};
 
 use crate::lines::{print_call, print_done, print_final, print_refused};
 use crate::reading::ReportFault;
@@ -19,7 +19,7 @@ use std::alloc::Global;
 // The lines of the calls that were made.
 fn print_calls(out: &mut Text, log: &[Logged]) -> Result<(), OutOfMemory>
     requires { AreAnswered log.now }
-    ensures text { OnOk result (out.new ≡ out.old ++ flat_map call_line log.now) }
+    ensures text { OnOk result (out.new ≡ out.old ++ flat_map call_line (map line_of log.now)) }
     ensures lines { OnOk result (AreLines (map line_of log.now)) }
 {
     for entry in log {

@@ -1,7 +1,8 @@
-use Rattle.std.proofs.Common.{◌≡◌, List, [], ◌∷◌, ◌++◌, ℕ, length, ap, ◌∙◌, append_assoc, codes}
+use Rattle.std.proofs.Common.{◌≡◌, List, [], ◌∷◌, ◌++◌, ℕ, length, map, ap, ◌∙◌, append_assoc, codes}
 use Rattle.std.specs.Prelude.{decimal}
 use Rattle.std.specs.List.{zip}
 use Rattle.serde_json.specs.Written.{compact_text}
+use Rattle.report_text.specs.Report.{line_of}
 use Rattle.report_text.specs.Json.{list_data, look_data, call_data, refused_data}
 use Rattle.serde_json.proofs.OnLiterals.{serde_json_on_literals}
 use Rattle.report_text.proofs.json_report.report_json.Goals as goal
@@ -19,12 +20,12 @@ unfolding serde_json_on_literals
 returns c =
     let log = c.args.finished.now.log.entries in
     let looks = zip c.args.graph.now.names c.args.finished.now.finals in
-    joined (codes "{\"accepted\":") (decimal (length log)) (codes ",\"calls\":") (compact_text (list_data call_data log))
+    joined (codes "{\"accepted\":") (decimal (length log)) (codes ",\"calls\":") (compact_text (list_data call_data (map line_of log)))
     (codes ",\"finals\":") (compact_text (list_data look_data looks)) (codes ",\"refused\":") (compact_text (list_data refused_data c.args.finished.now.refused)) _ _ _ _ _ _ _ _ _
     (c.in_ok-extend_from_slice.ensures.ok ∙ ap (λ v. v ++ codes "{\"accepted\":") c.new-out.ensures)
     (c.in_ok-print_number.ensures.ok ∙ ap (λ n. c.extend_from_slice.new.self ++ decimal n) c.len.ensures)
     c.in_ok-extend_from_slice-2.ensures.ok
-    (c.in_ok-push_calls.ensures ∙ ap (λ l. c.extend_from_slice-2.new.self ++ compact_text (list_data call_data l)) c.as_slice.ensures)
+    (c.in_ok-push_calls.ensures ∙ ap (λ l. c.extend_from_slice-2.new.self ++ compact_text (list_data call_data (map line_of l))) c.as_slice.ensures)
     c.in_ok-extend_from_slice-3.ensures.ok
     (c.in_ok-push_finals.ensures ∙ ap (λ l. c.extend_from_slice-3.new.self ++ compact_text (list_data look_data (zip c.args.graph.now.names l))) c.as_slice-2.ensures)
     c.in_ok-extend_from_slice-4.ensures.ok
