@@ -6,7 +6,7 @@ use Rattle.std.proofs.lemmas.Bool.{eqb-true}
 use Rattle.std.proofs.lemmas.Option.{slice_get-get_or}
 use Rattle.node_versions.specs.Entries.{Entry, has, IsUnique, rest, AllStop, StopsFrom, StopsToTheEnd}
 use Rattle.node_versions.proofs.Lists.{has-append}
-use Rattle.node_versions.proofs.Places.{place}
+use Rattle.node_versions.proofs.Places.{place, place-absent}
 use Rattle.node_versions.proofs.LastDone.{longer}
 use Rattle.node_versions.proofs.Indexes.{moved}
 
@@ -32,10 +32,6 @@ place_behind : (xs ys : List Entry) (e : Entry) (t : ℕ) → (e.version == t) �
 place_behind [] ys e t h k = grind (arith, h)
 place_behind (x ∷ xs) ys e t h k = let r = place_behind xs ys e t in grind (arith, h, k, r)
 
-place_none : (es : List Entry) (t : ℕ) → has es t ≡ false → place es t ≡ length es
-place_none [] t h = refl
-place_none (x ∷ xs) t h = let r = place_none xs t in grind (arith, h, r)
-
 pub look_on : (es left front : List Entry) (e : Entry) (t : ℕ) → IsLookedThrough es left t → left ≡ front ++ e ∷ [] → (e.version == t) ≡ false → IsLookedThrough es front t
 look_on es left front e t s k h = record {
   more = e ∷ s.more;
@@ -55,7 +51,7 @@ found_below es left front e t s k =
     omega (arith, ap length list, length-append front (e ∷ s.more))
 
 pub not_found : (es left : List Entry) (t : ℕ) → IsLookedThrough es left t → length left ≡ 0 → length es ≡ place es t
-not_found es [] t s none = sym (place_none es t (ap (λ (xs : List Entry). has xs t) s.list ∙ s.none))
+not_found es [] t s none = place-absent es t (ap (λ (xs : List Entry). has xs t) s.list ∙ s.none)
 not_found es (x ∷ left) t s none = absurd (omega (arith, none))
 
 -- ---- entries that stop

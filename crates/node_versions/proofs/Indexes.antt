@@ -26,9 +26,6 @@ entry_at_index es t i at = record {
   state = λ e test k. (entry_at_place es t e (ap (slice_get es) (sym at) ∙ k)).1 test;
 }
 
-pub has_index : (es : List Entry) (t i : ℕ) → i ≡ place es t → i < length es → true ≡ has es t
-has_index es t i at h = let r = has-place es t in grind (arith, nat_tests, r, at, h)
-
 pub has_no_index : (es : List Entry) (t i : ℕ) → i ≡ place es t → length es ≤ i → false ≡ has es t
 has_no_index es t i at h = let r = has-place es t in grind (arith, nat_tests, r, at, h)
 
