@@ -8,14 +8,13 @@ use Rattle.flow_model.specs.declared.step.Step.TheVariants as steps
 use Rattle.flow_model.specs.Machine.Keys.{version_of_step, is_own_step}
 use Rattle.flow_model.specs.Machine.Sets.{put, take_out}
 use Rattle.flow_model.specs.Machine.State.{Core, call, live}
-use Rattle.flow_model.specs.Machine.Steps.{apply}
+use Rattle.flow_model.specs.Machine.Steps.{apply, IsEvaluationDue}
 use Rattle.flow_model.specs.Machine.Histories.{Make}
 use Rattle.flow_model.specs.Follows.Others.{caller_of, caller_of_version}
 use Rattle.flow_model.proofs.General.Sets.{in-put, in-take_out}
 use Rattle.flow_model.proofs.OneStep.CallsLiveOn.{Continues, IsEnd, step-continues}
 use Rattle.flow_model.proofs.OneList.CallsAndCells.{without_call-other}
 use Rattle.caller_fronts.specs.Keys.{key_for}
-use Rattle.caller_fronts.specs.Tokens.{IsEvaluationDue}
 
 -- the caller of a turn's step
 pub step-whose : (s : Core) (k t : ℕ) (step : Step) → (call s t).caller ≡ k → (is_own_step step ≡ true → version_of_step step ≡ Some t) → caller_of s (Make step) ≡ key_for k step

@@ -5,7 +5,7 @@ use Rattle.signal_graph.specs.Graph.{Graph, is_in}
 use Rattle.flow_model.specs.declared.step.Step.TheVariants as steps
 use Rattle.flow_model.specs.Machine.State.{Core, opening}
 use Rattle.flow_model.specs.Machine.Words.{is_found, found_now, body_now}
-use Rattle.flow_model.specs.Machine.Steps.{allowed}
+use Rattle.flow_model.specs.Machine.Steps.{allowed, IsEvaluationDue}
 use Rattle.flow_model.specs.Machine.Histories.{Move, after_moves, may_all, state, is_history}
 use Rattle.flow_model.proofs.Histories.Moves.{may_parts, after_parts}
 use Rattle.flow_model.proofs.Work.WorkAtOneNode.{evaluate-not_found, body-found}
@@ -14,7 +14,6 @@ use Rattle.flow_state.specs.declared.outcome.Answer.{Answer}
 use Rattle.flow_state.specs.Jobs.{outcome_in}
 use Rattle.caller_fronts.specs.Fronts.{IsLater}
 use Rattle.caller_fronts.specs.Jobs.{job_at}
-use Rattle.caller_fronts.specs.Tokens.{IsEvaluationDue}
 
 -- ---- the moves behind a front
 

@@ -1,5 +1,5 @@
 -- What contracts see of idle callers and of callers within a call, and what their types keep.
-use Rattle.std.specs.Prelude.{◌≡◌, ◌≢◌, ◌⊎◌, ℕ, ◌<◌, ◌≤◌, true, false, List, length, Some}
+use Rattle.std.specs.Prelude.{◌≡◌, ◌≢◌, ℕ, ◌<◌, ◌≤◌, true, false, List, length, Some}
 use Rattle.signal_graph.specs.Graph.{Graph, is_in}
 use Rattle.signal_graph.specs.Machine.{looks_of}
 use Rattle.flow_model.specs.declared.step.Step.{Step}
@@ -8,7 +8,7 @@ use Rattle.flow_model.specs.declared.step.Turn.{Turn}
 use Rattle.flow_model.specs.declared.step.Turn.TheVariants as turn
 use Rattle.flow_model.specs.Machine.Keys.{version_of_step, is_own_step}
 use Rattle.flow_model.specs.Machine.State.{Core, live, call}
-use Rattle.flow_model.specs.Machine.Steps.{has_call, allowed}
+use Rattle.flow_model.specs.Machine.Steps.{has_call, allowed, IsEvaluationDue}
 use Rattle.flow_model.specs.Machine.Histories.{Move, state, is_history}
 use Rattle.flow_state.specs.declared.outcome.Answer.{Answer}
 use Rattle.caller_fronts.specs.Jobs.{jobs_at}
@@ -25,10 +25,6 @@ pub record Going : Type 0 where
   pub front : List Move
   pub version : ℕ
   pub out : List Answer
-
--- An evaluation is due for a call at a node: of the node's scripts or of its body.
-abbrev pub IsEvaluationDue : Graph → Core → ℕ → ℕ → Type 0
-IsEvaluationDue graph s t n = (allowed graph s (Evaluate t n) ≡ true) ⊎ (allowed graph s (Body t n) ≡ true)
 
 -- One of the callers has seen a history, and it has no live call after it.
 pub record IsIdle (graph : Graph) (callers limit caller : ℕ) (front : List Move) : Type 0 where

@@ -15,7 +15,7 @@ ghost use Rattle.flow_model.specs.Machine.Next.{next, next_at};
 ghost use Rattle.flow_model.specs.Machine.Schedules.{version_of};
 ghost use Rattle.flow_model.specs.Machine.Sets.{put, take_out};
 ghost use Rattle.flow_model.specs.Machine.State.{Core, live, call, opening};
-ghost use Rattle.flow_model.specs.Machine.Steps.{allowed, can_begin, has_call};
+ghost use Rattle.flow_model.specs.Machine.Steps.{allowed, can_begin, has_call, IsEvaluationDue};
 ghost use Rattle.flow_model.specs.Machine.Histories.{Move, Begin, Make, may, after_move, state, is_history};
 ghost use Rattle.flow_model.specs.Follows.Callers.{begun_by, count_begins};
 ghost use Rattle.flow_model.specs.Follows.Others.{caller_of};
@@ -25,7 +25,7 @@ ghost use Rattle.flow_state.specs.Answers.{step_of, IsRight};
 ghost use Rattle.caller_fronts.specs.Fronts.{IsLater, RestsAtEnds};
 ghost use Rattle.caller_fronts.specs.Jobs.{job_at, jobs_at, job_of, with_job, without_job};
 ghost use Rattle.caller_fronts.specs.Keys.{AreKeyed, key_for};
-ghost use Rattle.caller_fronts.specs.Tokens.{IsIdle, IsGoing, IsEvaluationDue, IsTurnOf, IsNoJob, HasLooks};
+ghost use Rattle.caller_fronts.specs.Tokens.{IsIdle, IsGoing, IsTurnOf, IsNoJob, HasLooks};
 
 use flow_model::laws::{
     callers_find_their_calls, callers_have_their_calls, evaluations_stay, histories_are_bounded,

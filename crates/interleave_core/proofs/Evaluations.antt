@@ -24,7 +24,7 @@ use Rattle.flow_model.specs.Machine.Keys.{list_of_step}
 use Rattle.flow_model.specs.Machine.State as state
 use Rattle.flow_model.specs.Machine.State.{Core, no_cell, cell, entries}
 use Rattle.flow_model.specs.Machine.Words.{at_front, finds, body_over, value_gathered, selections_of}
-use Rattle.flow_model.specs.Machine.Steps.{allowed}
+use Rattle.flow_model.specs.Machine.Steps.{allowed, IsEvaluationDue}
 use Rattle.flow_model.specs.Kept.Lawful.{IsLawful}
 use Rattle.flow_model.specs.Parts.Books.{Work, work_in, no_work}
 use Rattle.flow_model.proofs.OneStep.WhoMayStep.{at_front-heads, executes-live, evaluate-at_front, body-at_front}
@@ -40,23 +40,23 @@ use Rattle.flow_state.specs.Answers.{step_for, step_of, IsOutcome, IsRight}
 use Rattle.flow_state.specs.Found.{selection_of}
 use Rattle.flow_state.specs.Jobs.{read_from, found_as, outcome_in, items_of, found_items, outcome_of, value_in, answer_of, value_answer, HasFew, FitsBody, IsJob, answer_in}
 use Rattle.flow_state.proofs.Outcomes.{selections-back, outcome-right}
-use Rattle.interleave_core.specs.Whole.{Whole, cells_of, state_of, whole_of, IsWhole, IsDue, IsAcc}
+use Rattle.interleave_core.specs.Whole.{Whole, cells_of, state_of, whole_of, IsWhole, IsAcc}
 use Rattle.interleave_core.proofs.Fits.{all_nodes}
 use Rattle.interleave_core.proofs.StepsMade.{CanMake, can_here}
 
 -- ---- where a call evaluates
 
-pub due-front : (graph : Graph) (s : Core) (t n : ℕ) → IsDue graph s t n → at_front graph s t n ≡ true
+pub due-front : (graph : Graph) (s : Core) (t n : ℕ) → IsEvaluationDue graph s t n → at_front graph s t n ≡ true
 due-front graph s t n (inl a) = evaluate-at_front graph s t n a
 due-front graph s t n (inr a) = body-at_front graph s t n a
 
-pub due-there : (graph : Graph) (s : Core) → IsLawful graph s → (t n : ℕ) → IsDue graph s t n → n < length graph.nodes
+pub due-there : (graph : Graph) (s : Core) → IsLawful graph s → (t n : ℕ) → IsEvaluationDue graph s t n → n < length graph.nodes
 due-there graph s h t n a = head-there graph s h t n (due-front graph s t n a)
 
-pub due-entry : (graph : Graph) (s : Core) → IsLawful graph s → (t n : ℕ) → IsDue graph s t n → has (entries s n) t ≡ true
+pub due-entry : (graph : Graph) (s : Core) → IsLawful graph s → (t n : ℕ) → IsEvaluationDue graph s t n → has (entries s n) t ≡ true
 due-entry graph s h t n a = heads-entry graph s h t n (at_front-heads graph s t n (due-front graph s t n a))
 
-pub due-done : (graph : Graph) (s : Core) → IsLawful graph s → (t n : ℕ) → IsDue graph s t n → IsSome (last_done (before (entries s n) t))
+pub due-done : (graph : Graph) (s : Core) → IsLawful graph s → (t n : ℕ) → IsEvaluationDue graph s t n → IsSome (last_done (before (entries s n) t))
 due-done graph s h t n a =
     (lists-answer graph s h).done_before n t (executes-live s t (and_left _ _ (and_left _ _ (due-front graph s t n a))))
     (due-entry graph s h t n a)
@@ -99,7 +99,7 @@ fits-found (Choose selectors (Some body) inputs) can read acc =
     many = length-map _ found_as ∙ length-map selectors _
 
 -- Where the node's job is due, it can be made.
-pub due-job : (graph : Graph) → IsGraph graph → (s : Core) → IsLawful graph s → (t n : ℕ) → IsDue graph s t n
+pub due-job : (graph : Graph) → IsGraph graph → (s : Core) → IsLawful graph s → (t n : ℕ) → IsEvaluationDue graph s t n
     → IsJob graph n (found_items (cell s n).found)
 due-job graph g s h t n a = record {
   inside = inside;
@@ -121,7 +121,7 @@ due-job graph g s h t n a = record {
         (sym (h.values_are_read.found t n f (at_front-heads graph s t n (due-front graph s t n a)) e))
         (fits-found (node_at graph n) can (value_gathered s n) (value_before (entries s n) t))
 
-pub due-few : (graph : Graph) → IsGraph graph → (s : Core) → IsLawful graph s → (t n : ℕ) → IsDue graph s t n
+pub due-few : (graph : Graph) → IsGraph graph → (s : Core) → IsLawful graph s → (t n : ℕ) → IsEvaluationDue graph s t n
     → length (cell s n).gathered ≤ 68
 due-few graph g s h t n a =
     let b = (has-bounds graph g s h).gathered n in
@@ -190,12 +190,12 @@ answer-quiet t n (outcome.Body v) = refl
 
 -- What is due in what is seen is due in the state.
 pub due_here : {graph : Graph} {book : Booked} {lists : List Versions} {seen : Whole} (t n : ℕ)
-    → IsWhole graph book lists → whole_of graph book lists ≡ seen → IsDue seen.graph seen.state t n
-    → IsDue graph (state_of book.book lists) t n
-due_here t n kept view due = subst (λ (w : Whole). IsDue w.graph w.state t n) (sym view) due
+    → IsWhole graph book lists → whole_of graph book lists ≡ seen → IsEvaluationDue seen.graph seen.state t n
+    → IsEvaluationDue graph (state_of book.book lists) t n
+due_here t n kept view due = subst (λ (w : Whole). IsEvaluationDue w.graph w.state t n) (sym view) due
 
 pub due_below : {graph : Graph} {book : Booked} {lists : List Versions} (t n : ℕ)
-    → IsWhole graph book lists → IsDue graph (state_of book.book lists) t n → n < length lists
+    → IsWhole graph book lists → IsEvaluationDue graph (state_of book.book lists) t n → n < length lists
 due_below {graph} {book} {lists} t n kept due =
     let node = due-there graph (state_of book.book lists) kept.lawful t n due in
     let many = all_nodes graph book lists kept in

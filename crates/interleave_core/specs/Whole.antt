@@ -1,14 +1,13 @@
 -- The state of a book and the lists of all nodes.
-use Rattle.std.specs.Prelude.{◌≡◌, ℕ, ◌+◌, ◌⊎◌, true, List, [], ◌∷◌, length}
+use Rattle.std.specs.Prelude.{◌≡◌, ℕ, ◌+◌, List, [], ◌∷◌, length}
 use Rattle.script_tree.specs.declared.value.Value.{Value}
 use Rattle.signal_graph.specs.declared.node.NodeKind.TheVariants.{Fold}
 use Rattle.signal_graph.specs.Graph.{Graph, IsGraph, node_at, kind_of}
 use Rattle.node_versions.specs.Entries.{Versions, value_before}
 use Rattle.flow_model.specs.Machine.State.{Core, Cell, entries}
 use Rattle.flow_model.specs.declared.step.Step.{Step}
-use Rattle.flow_model.specs.declared.step.Step.TheVariants.{Evaluate, Body}
 use Rattle.flow_model.specs.Machine.Words.{list_room}
-use Rattle.flow_model.specs.Machine.Steps.{allowed, apply}
+use Rattle.flow_model.specs.Machine.Steps.{apply}
 use Rattle.flow_model.specs.Kept.Lawful.{IsLawful}
 use Rattle.flow_state.specs.Booked.{Booked, rooms_for}
 use Rattle.flow_model.specs.Parts.Books.{Work, Book}
@@ -63,10 +62,6 @@ pub record IsWhole (graph : Graph) (book : Booked) (lists : List Versions) : Typ
   pub room_for : book.room_for ≡ rooms_for graph
   pub rooms : HaveRooms graph book.book.callers 0 lists
   pub lawful : IsLawful graph (state_of book.book lists)
-
--- An evaluation is due for a call at a node: of the node's scripts or of its body.
-abbrev pub IsDue : Graph → Core → ℕ → ℕ → Type 0
-IsDue graph s t n = (allowed graph s (Evaluate t n) ≡ true) ⊎ (allowed graph s (Body t n) ≡ true)
 
 -- What a fold's script reads as `acc` is the node's value before the call; no other script reads it.
 abbrev pub IsAcc : Graph → Core → ℕ → ℕ → Value → Type 0

@@ -2,10 +2,10 @@
 
 ghost use Rattle.std.specs.Prelude.{◌≡◌, true, IfSome};
 ghost use Rattle.flow_model.specs.declared.step.Step.TheVariants as step;
-ghost use Rattle.flow_model.specs.Machine.Steps.{allowed};
+ghost use Rattle.flow_model.specs.Machine.Steps.{allowed, IsEvaluationDue};
 ghost use Rattle.flow_state.specs.Answers.{step_of, IsRight};
 ghost use Rattle.flow_state.specs.Jobs.{value_answer};
-ghost use Rattle.interleave_core.specs.Whole.{after, IsDue, IsAcc};
+ghost use Rattle.interleave_core.specs.Whole.{after, IsAcc};
 
 use crate::core_state::Core;
 use flow_model::laws::lawful_stays;
@@ -28,7 +28,7 @@ impl<'g> Core<'g> {
     /// The evaluation that is due at a node for a call, of the node's scripts or of its body, to be made elsewhere: contracts see its
     /// answer, which is what its step finds in this state. What it is over is copied into the room. Takes no memory.
     pub fn job<'r>(&self, version: u32, node: u32, room: &'r mut JobRoom) -> Job<'g, 'r>
-        requires { IsDue self.now.graph self.now.state version node }
+        requires { IsEvaluationDue self.now.graph self.now.state version node }
         ensures scripts { allowed self.now.graph self.now.state (step.Evaluate version node) ≡ true → step_of result ≡ step.Evaluate version node }
         ensures body { allowed self.now.graph self.now.state (step.Body version node) ≡ true → step_of result ≡ step.Body version node }
         ensures right { IsRight self.now.graph self.now.state result }
@@ -83,7 +83,7 @@ impl<'g> Core<'g> {
 
     // What that evaluation finds, without a copy of what is gathered.
     fn answer(&self, version: u32, node: u32, acc: Value) -> Answer
-        requires due { IsDue self.now.graph self.now.state version node }
+        requires due { IsEvaluationDue self.now.graph self.now.state version node }
         requires reads { IsAcc self.now.graph self.now.state version node acc }
         ensures scripts { allowed self.now.graph self.now.state (step.Evaluate version node) ≡ true
             → step_of result ≡ step.Evaluate version node }
@@ -96,7 +96,7 @@ impl<'g> Core<'g> {
 
     // What the node's script reads as `acc`, which only a fold's does: its value before the call.
     fn acc(&self, version: u32, node: u32) -> Value
-        requires { IsDue self.now.graph self.now.state version node }
+        requires { IsEvaluationDue self.now.graph self.now.state version node }
         ensures { IsAcc self.now.graph self.now.state version node result }
     {
         match self.graph.kind(node) {

@@ -11,14 +11,13 @@ ghost use Rattle.flow_state.specs.Answers.{step_of, IsRight};
 ghost use Rattle.flow_model.specs.declared.step.Step.TheVariants as step;
 ghost use Rattle.flow_model.specs.declared.step.Turn.TheVariants as turns;
 ghost use Rattle.flow_model.specs.Machine.State.{call, live};
-ghost use Rattle.flow_model.specs.Machine.Steps.{allowed, can_begin, reply_of};
+ghost use Rattle.flow_model.specs.Machine.Steps.{allowed, can_begin, reply_of, IsEvaluationDue};
 ghost use Rattle.flow_model.specs.Machine.Next.{next, next_at, why_not_ended};
 ghost use Rattle.flow_model.specs.Machine.Histories.{Begin, Make, state, is_history};
 ghost use Rattle.flow_model.specs.Follows.Callers.{IsWithin, count_begins};
 ghost use Rattle.flow_model.specs.Follows.Others.{caller_of};
 ghost use Rattle.interleave_core.specs.Beginning.{why_of};
 ghost use Rattle.interleave_core.specs.Rooms.{IsRoomFor};
-ghost use Rattle.interleave_core.specs.Whole.{IsDue};
 ghost use Rattle.sweeper.specs.Answers.{Begins, Starts, Advances, AdvancesAt, Finishes, Takes, HandsOut, plain_step};
 ghost use Rattle.sweeper.specs.Answers.{refused_after, seen, stepped, handed_in};
 ghost use Rattle.sweeper.specs.Ends.{Closes, HasAllPasses, Settles, EndsAt, fresh};
@@ -595,7 +594,7 @@ impl<'g, J: Naming> Locked<'g, J> {
     fn hand_out<'r>(&mut self, met: Met, node: u32, room: &'r mut JobRoom) -> Advance<'g, 'r, J>
         requires met { IsMet J.graph J.callers J.limit met self.old.moves }
         requires free { is_out met.caller self.old.out ≡ false }
-        requires due { IsDue J.graph (state J.graph J.callers J.limit self.old.moves) met.version node }
+        requires due { IsEvaluationDue J.graph (state J.graph J.callers J.limit self.old.moves) met.version node }
         ensures { HandsOut J.graph J.callers J.limit (met_at J.graph J.callers J.limit met self.old.moves) node result }
     {
         let _ = &self.core;

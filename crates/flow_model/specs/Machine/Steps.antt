@@ -1,5 +1,5 @@
 -- The steps: where each is allowed, and what it changes.
-use Rattle.std.specs.Prelude.{ℕ, zero, suc, Bool, true, false, ◌&&◌, ◌||◌, not, ◌==◌, nat_lt, nat_le, List, [], ◌∷◌, ◌++◌, length, map, Option, Some, None, is_none, is_some}
+use Rattle.std.specs.Prelude.{◌≡◌, ◌⊎◌, ℕ, zero, suc, Bool, true, false, ◌&&◌, ◌||◌, not, ◌==◌, nat_lt, nat_le, List, [], ◌∷◌, ◌++◌, length, map, Option, Some, None, is_none, is_some}
 use Rattle.std.specs.List.{list_any, list_all}
 use Rattle.script_tree.specs.declared.limits.TheConstants.{SETS, LOOKS}
 use Rattle.script_tree.specs.declared.value.Value.{Value}
@@ -152,6 +152,10 @@ allowed graph s (Mark t m) = executes s t && not (has (entries s m) t) && has_ro
 allowed graph s (Look t) = is_idle s t && served_look s t (next_look s t)
 allowed graph s (End t) = is_idle s t && is_none (next_look s t) && not (any_before s t)
 allowed graph s (Collect n) = nat_lt (length (collected_at s n)) (length (entries s n))
+
+-- An evaluation is due for a call at a node: of the node's scripts or of its body.
+abbrev pub IsEvaluationDue : Graph → Core → ℕ → ℕ → Type 0
+IsEvaluationDue graph s t n = (allowed graph s (Evaluate t n) ≡ true) ⊎ (allowed graph s (Body t n) ≡ true)
 
 -- ---- what a step changes
 

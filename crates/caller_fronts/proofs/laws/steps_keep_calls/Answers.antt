@@ -4,10 +4,9 @@ use Rattle.signal_graph.specs.Machine.{looks_of}
 use Rattle.flow_model.specs.declared.step.Step.{Step}
 use Rattle.flow_model.specs.declared.step.Step.TheVariants as steps
 use Rattle.flow_model.specs.Machine.State.{Core, LiveCall, live, call}
-use Rattle.flow_model.specs.Machine.Steps.{apply}
+use Rattle.flow_model.specs.Machine.Steps.{apply, IsEvaluationDue}
 use Rattle.flow_model.specs.Machine.Histories.{Make, state}
 use Rattle.caller_fronts.specs.Jobs.{job_at, jobs_at}
-use Rattle.caller_fronts.specs.Tokens.{IsEvaluationDue}
 use Rattle.flow_model.proofs.OneStep.SameCallers.{step-stable, caller-stable, call-stable}
 use Rattle.caller_fronts.proofs.KeysTell.{history-more}
 use Rattle.caller_fronts.proofs.OwnSteps.{step-whose, step-lives, fewer-due, more-due}

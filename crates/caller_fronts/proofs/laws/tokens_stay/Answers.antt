@@ -2,11 +2,10 @@ use Rattle.std.proofs.Common.{◌≡◌, ◌≤◌, ℕ, true, false, length, sy
 use Rattle.signal_graph.specs.declared.call.Call.{Call}
 use Rattle.signal_graph.specs.Machine.{looks_of}
 use Rattle.flow_model.specs.Machine.State.{Core, live, call}
-use Rattle.flow_model.specs.Machine.Steps.{has_call}
+use Rattle.flow_model.specs.Machine.Steps.{has_call, IsEvaluationDue}
 use Rattle.flow_model.specs.Machine.Histories.{state, after_moves}
 use Rattle.flow_model.specs.Follows.Others.{none_by}
 use Rattle.caller_fronts.specs.Jobs.{job_at, jobs_at}
-use Rattle.caller_fronts.specs.Tokens.{IsEvaluationDue}
 use Rattle.caller_fronts.proofs.TokensStay.{state_is, rest_may, due-stays, job-stays, maps-same}
 use Rattle.caller_fronts.proofs.laws.tokens_stay.Goals as goal
 
