@@ -1,10 +1,10 @@
 -- The words on lists by indexes.
-use Rattle.std.proofs.Common.{◌≡◌, ℕ, ◌+◌, ◌<◌, ◌≤◌, Bool, true, false, not, ◌&&◌, ◌||◌, ◌==◌, cond, List, [], ◌∷◌, length, drop, nat_lt, refl, sym, ap, ◌∙◌, arith, subst, zero, suc, Option, Some, None, true≢false}
+use Rattle.std.proofs.Common.{◌≡◌, ℕ, ◌+◌, ◌<◌, ◌≤◌, Bool, true, false, not, ◌&&◌, ◌||◌, ◌==◌, cond, List, [], ◌∷◌, length, take, drop, nat_lt, refl, sym, ap, ◌∙◌, arith, subst, zero, suc, Option, Some, None, true≢false}
 use Rattle.std.specs.List.{position_or_len, slice_get, list_any}
 use Rattle.std.proofs.lemmas.Bool.Decides.{eqb_tells, nat_tests}
 use Rattle.std.proofs.lemmas.Bool.{eqb-true}
-use Rattle.node_versions.specs.Entries.{Entry, State, is_frame, is_of, has, at, behind, served, up_to, IsUnique, IsEntryAt, IsFirstOpenAt, first_open, version_at, is_active}
-use Rattle.node_versions.proofs.Places.{place, has-place, place_fits, one_more}
+use Rattle.node_versions.specs.Entries.{Entry, State, is_frame, is_of, has, at, behind, served, before, up_to, IsUnique, IsEntryAt, IsFirstOpenAt, first_open, version_at, is_active}
+use Rattle.node_versions.proofs.Places.{place, has-place, place_fits, one_more, take-before}
 
 entry_at_place : (es : List Entry) (t : ℕ) (e : Entry) → slice_get es (place es t) ≡ Some e → (e.version ≡ t) × ((test : State → Bool) → at test es t ≡ test e.state)
 entry_at_place [] t e h = cc
@@ -104,10 +104,26 @@ pub version_at_place : (es : List Entry) (t : ℕ) → has es t ≡ true → ver
 version_at_place [] t h = absurd (true≢false (sym h))
 version_at_place (e ∷ es) t h = let r = version_at_place es t in grind (arith, eqb_tells, h, r)
 
-has_version_at : (es : List Entry) (i : ℕ) → i < length es → has es (version_at es i) ≡ true
+pub has_version_at : (es : List Entry) (i : ℕ) → i < length es → has es (version_at es i) ≡ true
 has_version_at [] i le = absurd (omega (arith, le))
 has_version_at (e ∷ es) zero le = grind (arith, eqb_tells)
 has_version_at (e ∷ es) (suc i) le = let r = has_version_at es i in grind (arith, eqb_tells, le, r)
+
+-- the index of a version's entry, and the version again
+pub version_at_index : (es : List Entry) (t i : ℕ) → i ≡ place es t → has es t ≡ true → version_at es i ≡ t
+version_at_index es t i at h = ap (version_at es) at ∙ version_at_place es t h
+
+pub index_of_version : (es : List Entry) (i : ℕ) → IsUnique es → i < length es → i ≡ place es (version_at es i)
+index_of_version [] i q le = absurd (omega (arith, le))
+index_of_version (e ∷ es) zero q le = grind (arith, eqb_tells)
+index_of_version (e ∷ es) (suc i) q le =
+    let r = index_of_version es i q.1 (omega (arith, le)) in
+    let here = has_version_at es i (omega (arith, le)) in
+    let other : (e.version == version_at es i) ≡ false = grind (arith, eqb_tells, here, q.0) in
+    ap suc r ∙ sym (one_more (place es (version_at es i))) ∙ sym (ap (λ b. cond (not b) (1 + place es (version_at es i)) 0) other)
+
+pub before_at_index : (es : List Entry) (i : ℕ) → IsUnique es → i < length es → take i es ≡ before es (version_at es i)
+before_at_index es i q le = ap (λ n. take n es) (index_of_version es i q le) ∙ take-before es (version_at es i)
 
 pub moved : (i : ℕ) → suc (i + 1) ≡ suc i + 1
 moved i = omega arith

@@ -122,6 +122,26 @@ impl NodeList {
         }
     }
 
+    /// The index of the version's entry, else how many entries there are. What is asked of an entry more than once is asked by its
+    /// index, so that the entry is looked for once.
+    #[inline]
+    pub fn index_of(&self, version: u32) -> u32
+        ensures place { result ≡ position_or_len (is_of version) self.now.entries }
+        ensures bound { result ≤ length self.now.entries }
+    {
+        if version > self.newest {
+            return self.len();
+        }
+        let mut rest = self.entries.as_slice();
+        while let Some((entry, front)) = rest.split_last() {
+            if entry.version == version {
+                return front.len() as u32;
+            }
+            rest = front;
+        }
+        self.len()
+    }
+
     /// The index of the first Frame. None exactly where there is none.
     pub fn first_open(&self) -> Option<u32>
         ensures index { result ≡ position (λ e. is_frame e.state) self.now.entries }
@@ -199,7 +219,8 @@ impl NodeList {
         requires { IsTrue (at is_mark self.old.entries version) }
         ensures { self.new ≡ with_entries self.old (with_state version Frame self.old.entries) }
     {
-        self.set_state(version, State::Frame);
+        let own = self.index_of(version);
+        self.set_state_at(own, State::Frame);
     }
 
     /// Makes the version's Frame a Done with this value and these picks, changed or not.
@@ -207,12 +228,24 @@ impl NodeList {
         requires { IsTrue (at is_frame self.old.entries version) }
         ensures { self.new ≡ with_entries self.old (with_state version (Done value changed picks) self.old.entries) }
     {
+        let own = self.index_of(version);
+        self.finish_at(own, value, changed, picks);
+    }
+
+    /// Makes the Frame at the index `own` a Done, as `finish` makes that of a version.
+    #[inline(always)]
+    pub fn finish_at(&mut self, own: u32, value: Value, changed: bool, picks: Picks)
+        requires in_list { own < length self.old.entries }
+        requires frame { IsTrue (at is_frame self.old.entries (version_at self.old.entries own)) }
+        ensures { self.new ≡ with_entries self.old
+            (with_state (version_at self.old.entries own) (Done value changed picks) self.old.entries) }
+    {
         let state = State::Done {
             value,
             changed,
             picks,
         };
-        self.set_state(version, state);
+        self.set_state_at(own, state);
     }
 
     /// The node's value for the version: that of the last Done at or before its entry.
@@ -240,6 +273,17 @@ impl NodeList {
         ensures { result ≡ value_before self.now.entries version }
     {
         value_in(self.done_before(version))
+    }
+
+    /// The node's value before the version whose entry stands at the index `own`, as `value_before` tells it of the version.
+    #[inline(always)]
+    pub fn value_before_at(&self, own: u32) -> Value
+        requires in_list { own < length self.now.entries }
+        requires done { IsSome (last_done (before self.now.entries (version_at self.now.entries own))) }
+        ensures { result ≡ value_before self.now.entries (version_at self.now.entries own) }
+    {
+        self.is_kept();
+        value_in(last_done(self.done_part(own as usize)))
     }
 
     /// The node's picks before the version: those of the last Done strictly before its entry. Takes no memory.
@@ -336,33 +380,16 @@ impl NodeList {
         let _ = &self.entries;
     }
 
-    // The index of the version's entry, else how many entries there are.
-    fn index_of(&self, version: u32) -> u32
-        ensures place { result ≡ position_or_len (is_of version) self.now.entries }
-        ensures bound { result ≤ length self.now.entries }
+    // Puts another state into the entry at an index, which is no Done.
+    #[inline(always)]
+    fn set_state_at(&mut self, own: u32, state: State)
+        requires in_list { own < length self.old.entries }
+        requires no_done { IsTrue (at (λ s. not (is_done s)) self.old.entries (version_at self.old.entries own)) }
+        ensures { self.new ≡ with_entries self.old (with_state (version_at self.old.entries own) state self.old.entries) }
     {
-        if version > self.newest {
-            return self.len();
-        }
-        let mut rest = self.entries.as_slice();
-        while let Some((entry, front)) = rest.split_last() {
-            if entry.version == version {
-                return front.len() as u32;
-            }
-            rest = front;
-        }
-        self.len()
-    }
-
-    // Puts another state into the version's entry, which is no Done.
-    fn set_state(&mut self, version: u32, state: State)
-        requires { IsTrue (at (λ s. not (is_done s)) self.old.entries version) }
-        ensures { self.new ≡ with_entries self.old (with_state version state self.old.entries) }
-    {
-        let place = self.index_of(version);
-        let first_frame = self.first_frame_after(place, &state);
-        let done_end = self.done_end_after(place, &state);
-        let Some(entry) = self.entries.get_mut(place as usize) else {
+        let first_frame = self.first_frame_after(own, &state);
+        let done_end = self.done_end_after(own, &state);
+        let Some(entry) = self.entries.get_mut(own as usize) else {
             return;
         };
         entry.state = state;
@@ -401,6 +428,7 @@ impl NodeList {
 
     // The index of the first Frame once the call whose entry stands at an index has another state, and the index behind the
     // last Done then, where that entry is no Done.
+    #[inline(always)]
     fn first_frame_after(&self, place: u32, state: &State) -> u32
         requires { place < length self.now.entries }
         ensures { (t : ℕ) → place ≡ position_or_len (is_of t) self.now.entries
@@ -415,6 +443,7 @@ impl NodeList {
         }
     }
 
+    #[inline(always)]
     fn done_end_after(&self, place: u32, state: &State) -> u32
         requires { place < length self.now.entries }
         ensures { (t : ℕ) → place ≡ position_or_len (is_of t) self.now.entries → IsTrue (at (λ s. not (is_done s)) self.now.entries t)
@@ -428,6 +457,7 @@ impl NodeList {
     }
 
     // The index of the first Frame at an index or behind it, else how many entries there are.
+    #[inline]
     fn frame_from(&self, from: u32) -> u32
         requires { from ≤ length self.now.entries }
         ensures place { result ≡ from + position_or_len (λ e. is_frame e.state) (drop from self.now.entries) }
