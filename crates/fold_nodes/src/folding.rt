@@ -35,8 +35,9 @@ pub fn resolve_fold(book: &mut Book, list: &mut NodeList, version: u32, node: u3
         → MakesList graph book.old node list.old (step.Resolve version node) book.new list.new }
 {
     let value = given_value(book, node);
-    let same = is_same(value, fold_acc(list, version));
-    list.finish(version, value, !same, Picks::new());
+    let own = list.index_of(version);
+    let same = is_same(value, list.value_before_at(own));
+    list.finish_at(own, value, !same, Picks::new());
     book.close(version, node, !same);
     book.clear(node);
 }
