@@ -8,7 +8,7 @@ use Rattle.node_versions.specs.Entries.{Versions, has}
 use Rattle.flow_model.specs.Machine.State.{Core, live, entries}
 use Rattle.flow_model.specs.Machine.Words.{has_room}
 use Rattle.flow_model.specs.Machine.Changes.{enter}
-use Rattle.flow_state.specs.Booked.{Booked, live_in, stops_in, with_book, link_calls}
+use Rattle.flow_state.specs.Booked.{Booked, live_in, call_in, stops_in, with_book, link_calls}
 use Rattle.flow_model.specs.Parts.Books.{book_of}
 use Rattle.flow_state.specs.Fitting.{IsBookOf, list_of}
 
@@ -36,6 +36,15 @@ Enters book n list t state new new_list =
 
 abbrev pub stops_entry : Booked → ℕ → Entry → Bool
 stops_entry book t e = stops_in book t e.version
+
+-- there is a call and it is live
+abbrev pub lives_in : Booked → Option ℕ → Bool
+lives_in book None = false
+lives_in book (Some u) = live_in book u
+
+-- the call's entry in a state
+abbrev pub entry_in : Booked → ℕ → State → Entry
+entry_in book t state = record { version = t; slot = (call_in book t).slot; state = state }
 
 -- the book with a pair of a call and the one that enters, where that call is live
 abbrev pub link_if : Bool → Booked → ℕ → ℕ → ℕ → Booked
