@@ -23,9 +23,10 @@ pub fn resolve(book: &mut Book, list: &mut NodeList, graph: &Graph, version: u32
     ensures { MakesList graph.now book.old node list.old (step.Resolve version node) book.new list.new }
 {
     let value = new_value(book, graph, version, node);
-    let changed = !is_same(value, list.value_before(version));
+    let own = list.index_of(version);
+    let changed = !is_same(value, list.value_before_at(own));
     let picks = book.found_picks(node);
-    list.finish(version, value, changed, picks);
+    list.finish_at(own, value, changed, picks);
     book.close(version, node, changed);
     book.clear(node);
 }

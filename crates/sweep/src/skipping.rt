@@ -19,9 +19,10 @@ pub fn skip(book: &mut Book, list: &mut NodeList, graph: &Graph, version: u32, n
     requires { IsListStep graph.now book.old node list.old (step.Skip version node) }
     ensures { MakesList graph.now book.old node list.old (step.Skip version node) book.new list.new }
 {
-    let value = list.value_before(version);
+    let own = list.index_of(version);
+    let value = list.value_before_at(own);
     let picks = kept_picks(list, graph, version, node);
-    list.finish(version, value, false, picks);
+    list.finish_at(own, value, false, picks);
     book.close(version, node, false);
 }
 
