@@ -8,11 +8,11 @@ use Rattle.script_tree.specs.Scripts.{WellFormed}
 use Rattle.signal_graph.specs.declared.builder.DeclKind.{DeclKind}
 use Rattle.signal_graph.specs.declared.call.Call.{Call}
 use Rattle.signal_graph.specs.declared.call.Call.TheVariants.{Fire, Read}
-use Rattle.signal_graph.specs.Graph.{Graph}
+use Rattle.signal_graph.specs.Graph.{Graph, no_nodes}
 use Rattle.signal_graph.specs.Declarations.{IsDeclaration, refusal, with_declaration}
 use Rattle.deck_text.specs.Kept.{IsDeck}
 use Rattle.separate_decks.specs.Draws.{skip, draw}
-use Rattle.separate_decks.specs.Workload.{name_of, declared, AreAccepted, no_nodes, workload_declarations, workload_graph, call_of, draws_of_call, calls_of, state_after_calls, threads, workload_scripts}
+use Rattle.separate_decks.specs.Workload.{name_of, declared, AreAccepted, workload_declarations, workload_graph, call_of, draws_of_call, calls_of, state_after_calls, threads, workload_scripts}
 use Rattle.deck_maker.specs.Nodes.{kind_at, draws_at, nodes_from, state_behind}
 use Rattle.deck_maker.proofs.Drawing.{skipped, later_draw}
 use Rattle.deck_maker.proofs.OneByOne.{declarations_are, state_is}

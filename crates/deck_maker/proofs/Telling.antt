@@ -28,7 +28,8 @@ use Rattle.deck_lines.specs.Kept.{IsCall, SetsWell}
 use Rattle.deck_text.specs.Calls.{IsThread}
 use Rattle.deck_text.specs.Kept.{IsDeck, IsCanonical}
 use Rattle.separate_decks.specs.Draws.{skip, draw}
-use Rattle.separate_decks.specs.Workload.{all_names, name_of, two, second, over, source, fold, signal_tree, signal, choice_tree, choose, sources, folds, signals, rows, all_kinds, named, workload_declarations, AreAccepted, no_nodes, workload_graph, call_of, draws_of_call, calls_of, state_after_calls, threads, workload_scripts}
+use Rattle.signal_graph.specs.Graph.{no_nodes}
+use Rattle.separate_decks.specs.Workload.{all_names, name_of, two, second, over, source, fold, signal_tree, signal, choice_tree, choose, sources, folds, signals, rows, all_kinds, named, workload_declarations, AreAccepted, workload_graph, call_of, draws_of_call, calls_of, state_after_calls, threads, workload_scripts}
 use Rattle.separate_decks.proofs.Declaring.{draw_low, fold_leaves, signal_no_acc, signal_no_picks}
 use Rattle.separate_decks.proofs.Keeping.{all_are_names, name_is_one, fold_kept, signal_kept, choice_kept}
 use Rattle.deck_maker.proofs.Saying.{Canons, source_said, signal_said, fold_said, choose_said, thread_said, fire_said, read_said}

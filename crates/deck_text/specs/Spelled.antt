@@ -3,6 +3,7 @@ use Rattle.std.specs.Prelude.{◌≡◌, ◌<◌, ◌≤◌, ℕ, List, [], ◌�
 use Rattle.script_tree.specs.declared.limits.TheConstants.{DECK_BYTES, LINE_BYTES, THREADS}
 use Rattle.signal_graph.specs.declared.call.Call.{Call}
 use Rattle.signal_graph.specs.Declarations.{refusal, with_declaration}
+use Rattle.signal_graph.specs.Graph.{no_nodes}
 use Rattle.deck_lines.specs.declared.line.Line.{Line}
 use Rattle.deck_lines.specs.declared.line.Line.TheVariants.{Nothing, Declares, Thread, Calls}
 use Rattle.deck_lines.specs.Lines.{IsLine}
@@ -37,7 +38,7 @@ Lead [] old new = new ≡ old
 Lead (line ∷ rest) old new = (next : Decked) × Extends line old next × Lead rest next new
 
 abbrev pub nothing_yet : Decked
-nothing_yet = record { graph = record { names = []; nodes = [] }; scripts = [] }
+nothing_yet = record { graph = no_nodes; scripts = [] }
 
 -- lines spell a deck: they lead to it from nothing, and one of them begins a thread
 pub record Spell (text : List (List ℕ)) (deck : Decked) : Type 0 where

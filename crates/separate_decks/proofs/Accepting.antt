@@ -16,8 +16,8 @@ use Rattle.script_tree.specs.Names.{place_in}
 use Rattle.script_tree.proofs.Lists.{all_append}
 use Rattle.signal_graph.specs.Declarations.{Part, IsDeclaration, names_of, names_of_parts, names_of_part, is_undeclared, unknown_input, refusal, selector_of, choose_of, node_of}
 use Rattle.signal_graph.specs.Tables.{is_declared}
-use Rattle.signal_graph.specs.Graph.{IsSelector, IsNode, AreNodes, are_different}
-use Rattle.separate_decks.specs.Workload.{all_names, all_kinds, named, declared, AreAccepted, no_nodes, workload_declarations, workload_graph}
+use Rattle.signal_graph.specs.Graph.{IsSelector, IsNode, AreNodes, are_different, no_nodes}
+use Rattle.separate_decks.specs.Workload.{all_names, all_kinds, named, declared, AreAccepted, workload_declarations, workload_graph}
 use Rattle.separate_decks.proofs.Naming.{length-all_names, all_different}
 use Rattle.separate_decks.proofs.Declaring.{Each, Fits, nodes_fit, are_nodes, made_graph, length-all_kinds}
 

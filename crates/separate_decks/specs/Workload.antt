@@ -9,7 +9,7 @@ use Rattle.signal_graph.specs.declared.builder.DeclKind.{DeclKind}
 use Rattle.signal_graph.specs.declared.builder.DeclKind.TheVariants.{Source, Signal, Fold, Choose}
 use Rattle.signal_graph.specs.declared.call.Call.{Call}
 use Rattle.signal_graph.specs.declared.call.Call.TheVariants.{Fire, Read}
-use Rattle.signal_graph.specs.Graph.{Graph}
+use Rattle.signal_graph.specs.Graph.{Graph, no_nodes}
 use Rattle.signal_graph.specs.Declarations.{IsDeclaration, refusal, with_declaration}
 use Rattle.separate_decks.specs.Draws.{skip, draw}
 
@@ -118,9 +118,6 @@ declared graph (d ∷ rest) = declared (with_declaration graph d.0 d.1) rest
 abbrev pub AreAccepted : Graph → List (List ℕ × DeclKind) → Type 0
 AreAccepted graph [] = Unit {0}
 AreAccepted graph (d ∷ rest) = IsDeclaration d.1 × (refusal graph d.0 d.1 ≡ None) × AreAccepted (with_declaration graph d.0 d.1) rest
-
-abbrev pub no_nodes : Graph
-no_nodes = record { names = []; nodes = [] }
 
 unfoldable pub workload_graph : ℕ → Graph
 workload_graph number = declared no_nodes (workload_declarations number)

@@ -5,7 +5,7 @@ ghost use Rattle.std.specs.List.{AllByRecursion};
 ghost use Rattle.signal_graph.specs.declared.call.Call.{Call};
 ghost use Rattle.signal_graph.specs.declared.log.Logged.{Logged};
 ghost use Rattle.signal_graph.specs.declared.log.Refused.{Refused};
-ghost use Rattle.signal_graph.specs.Graph.{Graph, IsGraph, node_at};
+ghost use Rattle.signal_graph.specs.Graph.{Graph, IsGraph, no_nodes, node_at};
 ghost use Rattle.signal_graph.specs.Values.{at};
 ghost use Rattle.signal_graph.specs.Machine.{misnamed, sets_of, looks_of};
 ghost use Rattle.signal_graph.specs.Legal.{state_after, finals};
@@ -13,7 +13,7 @@ ghost use Rattle.call_log.specs.Made.{entries_of, calls_in, count_well_named};
 ghost use Rattle.call_log.specs.Merge.{Merge};
 ghost use Rattle.separate_decks.specs.Separate.{Separate};
 ghost use Rattle.separate_decks.specs.Calls.{serial_finals, followed_by, Keeps, AreSources, AreNamed, OthersSetNone};
-ghost use Rattle.separate_decks.specs.Workload.{AreAccepted, no_nodes, workload_declarations, workload_graph, workload_scripts};
+ghost use Rattle.separate_decks.specs.Workload.{AreAccepted, workload_declarations, workload_graph, workload_scripts};
 
 use signal_graph::laws;
 

@@ -18,6 +18,10 @@ pub record Graph : Type 0 where
   pub names : List (List ℕ)
   pub nodes : List Node
 
+-- the graph without nodes
+abbrev pub no_nodes : Graph
+no_nodes = record { names = []; nodes = [] }
+
 abbrev pub node_at : Graph → ℕ → Node
 node_at graph n = slice_index_or graph.nodes n (Source (Faulty Kind))
 

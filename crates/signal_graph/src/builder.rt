@@ -1,8 +1,8 @@
 // Builders of graphs.
 
-ghost use Rattle.std.specs.Prelude.{◌≡◌, ℕ, ◌<◌, ◌∷◌, ◌++◌, [], map, find, length, MatchOption, Some, None, IfOk, IfErr, OnOk, OnErr};
+ghost use Rattle.std.specs.Prelude.{◌≡◌, ℕ, ◌<◌, ◌∷◌, ◌++◌, map, find, length, MatchOption, Some, None, IfOk, IfErr, OnOk, OnErr};
 ghost use Rattle.signal_graph.specs.Graph as definition;
-ghost use Rattle.signal_graph.specs.Graph.{IsGraph, Kept, BodyKept};
+ghost use Rattle.signal_graph.specs.Graph.{IsGraph, Kept, BodyKept, no_nodes};
 ghost use Rattle.std.specs.List.{All};
 ghost use Rattle.signal_graph.specs.Declarations.{Part, AreKept};
 
@@ -116,7 +116,7 @@ impl GraphBuilder {
 
     /// The empty builder. Takes no memory.
     pub fn new(alloc: Global) -> GraphBuilder
-        ensures { result ≡ record { names = []; nodes = [] } }
+        ensures { result ≡ no_nodes }
     {
         GraphBuilder {
             alloc,

@@ -15,12 +15,9 @@ use Rattle.sweeper.specs.declared.luggage.Luggage.{Luggage}
 abbrev pub outs_of : List (Box Luggage Global) → List Members
 outs_of = map (λ (luggage : Box Luggage Global). luggage.value.out)
 
--- the name of no table, and a graph without nodes
+-- the name of no table
 abbrev pub no_table : TableId
 no_table = record { words = 0; slots = 0; views_name = 0; atom = 0; block = 0; offset = 0; slot_names = [] }
-
-abbrev pub no_graph : Graph
-no_graph = record { names = []; nodes = [] }
 
 -- what contracts see under the lock: the moves so far, the callers' keys that are out, and how many rooms are
 pub record Held : Type 0 where

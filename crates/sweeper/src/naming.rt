@@ -23,11 +23,12 @@ pub trait Naming {
 }
 
 impl Naming for Brand {
-    ghost use Rattle.sweeper.specs.Tokens.{no_table, no_graph};
+    ghost use Rattle.signal_graph.specs.Graph.{no_nodes};
+    ghost use Rattle.sweeper.specs.Tokens.{no_table};
 
     ghost table = { no_table };
 
-    ghost graph = { no_graph };
+    ghost graph = { no_nodes };
 
     ghost callers = { 0 };
 
