@@ -1,4 +1,5 @@
--- The six kinds of atomic step: make, append, split, join, load and retire. Each is a step of the writer's seat; split has a new seat besides, and join and retire a note's. Retire is a join that no split of the same key follows.
+-- The six kinds of atomic step: make, append, split, join, load and retire. Each is a step of the writer's seat; split has a new seat
+-- besides, and join and retire a note's. Retire is a join that no split of the same key follows.
 use Rattle.std.specs.Prelude.{◌≡◌, ℕ, List, [], ◌∷◌, ◌++◌}
 use Rattle.std.specs.List.{AllByRecursion}
 use Rattle.atomic_table.specs.Table.{Me, Step}
@@ -36,11 +37,13 @@ module _ {E : Type 0} where
 
   -- Join and retire: the writer has the note among those seen, and its key is out no more. The note's seat is spent
   abbrev pub note_back : View E → View E → View E
-  note_back (Writing list out seen) note = Writing list (out_without (key_of note) out) (record { key = key_of note; list = list_of note; out = out } ∷ seen)
+  note_back (Writing list out seen) note =
+      Writing list (out_without (key_of note) out) (record { key = key_of note; list = list_of note; out = out } ∷ seen)
   note_back (Noted key list) note = Noted key list
   note_back Spent note = Spent
 
-  -- Load: nothing changes. It tells of each note seen that it is a prefix of the writer's list with all entries of its key, and that a key above 0 was out
+  -- Load: nothing changes. It tells of each note seen that it is a prefix of the writer's list with all entries of its key, and that a key
+  -- above 0 was out
   abbrev pub SeenAreTrue : View E → Type 0
   SeenAreTrue (Writing list out seen) = AllByRecursion (WasNoteOf list) seen
   SeenAreTrue (Noted key list) = Unit {0}

@@ -27,7 +27,8 @@ impl<E> Model for Note<E> {
 
     ghost view = { λ n. record { table = n.seat.table_id; key = key_of n.seat.me.0; list = list_of n.seat.me.0 } };
 
-    ghost invariant = { λ n. (n.seat.me ≡ (Noted (key_of n.seat.me.0) (list_of n.seat.me.0), [])) × (n.len ≡ length (list_of n.seat.me.0)) };
+    ghost invariant = { λ n. (n.seat.me ≡ (Noted (key_of n.seat.me.0) (list_of n.seat.me.0), []))
+        × (n.len ≡ length (list_of n.seat.me.0)) };
 }
 
 impl<E> Note<E> {

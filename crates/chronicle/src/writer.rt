@@ -33,7 +33,9 @@ impl<E> Model for Writer<E> {
 
     ghost view = { λ w. record { table = w.table.shared.table_id; list = list_of w.seat.me.0; out = out_of w.seat.me.0 } };
 
-    ghost invariant = { λ w. (w.seat.table_id ≡ w.table.shared.table_id) × (w.table.shared.table_id.words ≡ 1) × (w.seat.me ≡ (Writing (list_of w.seat.me.0) (out_of w.seat.me.0) (seen_of w.seat.me.0), [])) × (w.len ≡ length (list_of w.seat.me.0)) };
+    ghost invariant = { λ w. (w.seat.table_id ≡ w.table.shared.table_id) × (w.table.shared.table_id.words ≡ 1)
+        × (w.seat.me ≡ (Writing (list_of w.seat.me.0) (out_of w.seat.me.0) (seen_of w.seat.me.0), []))
+        × (w.len ≡ length (list_of w.seat.me.0)) };
 }
 
 impl<E> Writer<E> {

@@ -38,9 +38,11 @@ Says form.Nothing line = line ≡ Nothing
 Says (form.Source name start) line = (value : Value) × (value_of start ≡ Some value) × (line ≡ Declares name (kind.Source value))
 Says (form.Signal name words) line = (script : Scripted) × SpellsScript false words script × (line ≡ Declares name (kind.Signal script))
 Says (form.Fold name start words) line =
-    (value : Value) × (script : Scripted) × (value_of start ≡ Some value) × SpellsScript true words script × (line ≡ Declares name (kind.Fold value script))
+    (value : Value) × (script : Scripted) × (value_of start ≡ Some value) × SpellsScript true words script
+    × (line ≡ Declares name (kind.Fold value script))
 Says (form.Choose name words over) line =
-    (parts : List Part) × (body : Option Scripted) × AllZip SaysPart words parts × SaysBody (length words) over body × (line ≡ Declares name (kind.Choose parts body))
+    (parts : List Part) × (body : Option Scripted) × AllZip SaysPart words parts × SaysBody (length words) over body
+    × (line ≡ Declares name (kind.Choose parts body))
 Says form.Thread line = line ≡ Thread
 Says (form.Fire words looks) line = (sets : List (List ℕ × Value)) × AllZip SaysSet words sets × (line ≡ Calls (call.Fire sets looks))
 Says (form.Read looks) line = line ≡ Calls (call.Read looks)

@@ -76,7 +76,8 @@ source_by head = if is_some (value_of head.1) then Some (Source head.0 head.1) e
 
 abbrev pub fold_by : List ℕ × Words → Option Form
 fold_by head =
-    if has (codes ":") head.1 && is_some (value_of (before (codes ":") head.1)) then Some (Fold head.0 (before (codes ":") head.1) (behind (codes ":") head.1))
+    if has (codes ":") head.1 && is_some (value_of (before (codes ":") head.1))
+    then Some (Fold head.0 (before (codes ":") head.1) (behind (codes ":") head.1))
     else None
 
 abbrev pub choose_by : List ℕ × Words → Option Form
@@ -99,7 +100,8 @@ thread_of (word ∷ words) = None
 
 abbrev pub fire_of : Words → Option Form
 fire_of words =
-    if has (codes "look") words then option_and_then (λ sets. option_map (λ looks. Fire sets looks) (names_of (behind (codes "look") words))) (sets_of (before (codes "look") words))
+    if has (codes "look") words then option_and_then
+    (λ sets. option_map (λ looks. Fire sets looks) (names_of (behind (codes "look") words))) (sets_of (before (codes "look") words))
     else option_map (λ sets. Fire sets []) (sets_of words)
 
 abbrev pub read_of : Words → Option Form

@@ -1,5 +1,6 @@
 -- The selectors of a line while they are gathered.
-use Rattle.std.specs.Prelude.{◌≡◌, ◌<◌, ◌≤◌, min, Bool, true, false, ◌⊎◌, List, ◌∷◌, ◌++◌, [], length, map, Option, Some, None, Result, Ok, Err}
+use Rattle.std.specs.Prelude.{◌≡◌, ◌<◌, ◌≤◌, min, Bool, true, false, ◌⊎◌, List, ◌∷◌, ◌++◌}
+use Rattle.std.specs.Prelude.{[], length, map, Option, Some, None, Result, Ok, Err}
 use Rattle.std.specs.List.{AllByRecursion, AllZip}
 use Rattle.script_tree.specs.declared.limits.TheConstants.{INPUTS, CANDIDATES}
 use Rattle.script_tree.specs.Scripts.{HasNoPicks, HasNoAcc}

@@ -35,8 +35,10 @@ fn judge(
     selectors: Selectors,
     over: Option<Script>,
 ) -> Result<Line, LineFault>
-    ensures read { (parts : List PartForm) (words : Option Words) → Gathers parts selectors → SaysBody (length parts) words over → IsReadAs (form.Choose name parts words) result }
-    ensures kept { (parts : List PartForm) → Gathers parts selectors → 1 ≤ length parts → BodyFits (min (length parts) SELECTORS) over → IfOk result IsKept }
+    ensures read { (parts : List PartForm) (words : Option Words) → Gathers parts selectors → SaysBody (length parts) words over
+        → IsReadAs (form.Choose name parts words) result }
+    ensures kept { (parts : List PartForm) → Gathers parts selectors → 1 ≤ length parts → BodyFits (min (length parts) SELECTORS) over
+        → IfOk result IsKept }
 {
     if selectors.deep {
         return Err(LineFault::TooMany(Limit::Levels));
@@ -80,7 +82,9 @@ fn only(
     requires short { length text.now ≤ LINE_BYTES }
     requires whole { ArePiecesOf text.now pieces.now }
     requires none { Gathers [] selectors }
-    ensures read { (words : Words) → choose_by (name, words) ≡ option_map (λ part. form.Choose name (part ∷ []) None) (part_of (words_among text.now pieces.now)) → IsRead (choose_by (name, words)) result }
+    ensures read { (words : Words) → choose_by (name, words)
+        ≡ option_map (λ part. form.Choose name (part ∷ []) None) (part_of (words_among text.now pieces.now))
+        → IsRead (choose_by (name, words)) result }
     ensures kept { IfOk result IsKept }
 {
     let mut selectors = selectors;
@@ -101,7 +105,8 @@ fn over(
     requires short { length text.now ≤ LINE_BYTES }
     requires whole { ArePiecesOf text.now pieces.now }
     requires some { 1 ≤ selectors.count }
-    ensures read { (done : List PartForm) → Gathers done selectors → IsReadAs (form.Choose name done (Some (words_among text.now pieces.now))) result }
+    ensures read { (done : List PartForm) → Gathers done selectors
+        → IsReadAs (form.Choose name done (Some (words_among text.now pieces.now))) result }
     ensures kept { (done : List PartForm) → Gathers done selectors → IfOk result IsKept }
 {
     let picks = selectors.count.min(SELECTORS) as u32;
@@ -122,7 +127,9 @@ fn last(
     requires short { length text.now ≤ LINE_BYTES }
     requires whole { ArePiecesOf text.now pieces.now }
     requires gathered { HasGathered selectors }
-    ensures read { (words : Words) (done : List PartForm) → Gathers done selectors → parts_of (split (codes ":") words) ≡ option_map (prepended done) (last_of (words_among text.now pieces.now)) → IsRead (choose_by (name, words)) result }
+    ensures read { (words : Words) (done : List PartForm) → Gathers done selectors
+        → parts_of (split (codes ":") words) ≡ option_map (prepended done) (last_of (words_among text.now pieces.now))
+        → IsRead (choose_by (name, words)) result }
     ensures kept { IfOk result IsKept }
 {
     let alone = selectors.count == 0;

@@ -59,7 +59,8 @@ fn fold_from(
     requires short { length text.now ≤ LINE_BYTES }
     requires whole { ArePiecesOf text.now pieces.now }
     requires start { IsTrue (is_start start) }
-    ensures read { (words : Words) → value_of words ≡ Some start → IsReadAs (form.Fold name words (words_among text.now pieces.now)) result }
+    ensures read { (words : Words) → value_of words ≡ Some start
+        → IsReadAs (form.Fold name words (words_among text.now pieces.now)) result }
     ensures kept { IfOk result IsKept }
 {
     match script(alloc, text, pieces, true) {

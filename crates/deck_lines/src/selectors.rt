@@ -67,7 +67,8 @@ impl Selectors {
         requires some { 1 ≤ length candidates }
         requires picks { HasNoPicks script }
         requires acc { HasNoAcc script }
-        ensures { OnOk result ((form : PartForm) (forms : List PartForm) → SpellsScript false form.0 script → form.1 ≡ candidates → Gathers forms self.old → Gathers (forms ++ form ∷ []) self.new) }
+        ensures { OnOk result ((form : PartForm) (forms : List PartForm) → SpellsScript false form.0 script → form.1 ≡ candidates
+            → Gathers forms self.old → Gathers (forms ++ form ∷ []) self.new) }
     {
         self.count_one(&candidates);
         self.within.push((script, candidates))?;
@@ -76,7 +77,8 @@ impl Selectors {
 
     // Adds one whose script is too deep.
     fn add_deep(&mut self, candidates: &NameList)
-        ensures { (form : PartForm) (forms : List PartForm) → IsTooDeep (selector_script form) → form.1 ≡ candidates.now → Gathers forms self.old → Gathers (forms ++ form ∷ []) self.new }
+        ensures { (form : PartForm) (forms : List PartForm) → IsTooDeep (selector_script form) → form.1 ≡ candidates.now
+            → Gathers forms self.old → Gathers (forms ++ form ∷ []) self.new }
     {
         self.count_one(candidates);
         self.deep = true;
@@ -84,7 +86,8 @@ impl Selectors {
 
     // Adds one whose script has too many names.
     fn add_many(&mut self, candidates: &NameList)
-        ensures { (form : PartForm) (forms : List PartForm) → SpellsTooMany (atoms.Script false) form.0 → form.1 ≡ candidates.now → Gathers forms self.old → Gathers (forms ++ form ∷ []) self.new }
+        ensures { (form : PartForm) (forms : List PartForm) → SpellsTooMany (atoms.Script false) form.0 → form.1 ≡ candidates.now
+            → Gathers forms self.old → Gathers (forms ++ form ∷ []) self.new }
     {
         self.count_one(candidates);
         self.many = true;
@@ -92,7 +95,8 @@ impl Selectors {
 
     // Adds one whose script goes beyond a limit.
     fn add_beyond(&mut self, limit: Limit, candidates: &NameList)
-        ensures { (form : PartForm) (forms : List PartForm) → IsScriptRead false form.0 (Err (TooMany limit)) → form.1 ≡ candidates.now → Gathers forms self.old → Gathers (forms ++ form ∷ []) self.new }
+        ensures { (form : PartForm) (forms : List PartForm) → IsScriptRead false form.0 (Err (TooMany limit)) → form.1 ≡ candidates.now
+            → Gathers forms self.old → Gathers (forms ++ form ∷ []) self.new }
     {
         match limit {
             Limit::Levels => self.add_deep(candidates),
@@ -102,7 +106,8 @@ impl Selectors {
 
     // Adds one whose script is at fault, if it is a script.
     fn add_fault(&mut self, fault: LineFault, candidates: &NameList) -> Result<(), LineFault>
-        ensures { (form : PartForm) → IsScriptRead false form.0 (Err fault) → form.1 ≡ candidates.now → Adds (Some form) self.old self.new result }
+        ensures { (form : PartForm) → IsScriptRead false form.0 (Err fault) → form.1 ≡ candidates.now
+            → Adds (Some form) self.old self.new result }
     {
         match fault {
             LineFault::TooMany(limit) => {

@@ -95,7 +95,8 @@ fn four_names(
 fn candidates(alloc: Global, nodes: u32, draws: &mut Draws) -> Result<NameList, OutOfMemory>
     requires some { 0 < nodes }
     requires few { nodes < 216 }
-    ensures names { IfOk result (λ names. names ≡ map name_of (draw draws.old 1 nodes ∷ draw draws.old 2 nodes ∷ draw draws.old 3 nodes ∷ draw draws.old 4 nodes ∷ [])) }
+    ensures names { IfOk result (λ names. names
+        ≡ map name_of (draw draws.old 1 nodes ∷ draw draws.old 2 nodes ∷ draw draws.old 3 nodes ∷ draw draws.old 4 nodes ∷ [])) }
     ensures state { draws.new ≡ skip 4 draws.old }
 {
     let first = draws.draw(nodes);

@@ -35,7 +35,8 @@ fn remainder(alloc: Global, left: Expr, divisor: i64) -> Result<Expr, OutOfMemor
 }
 
 fn fold_tree(alloc: Global, first: u32, other: u32) -> Result<Expr, OutOfMemory>
-    ensures { IfOk result (λ made. tree_of made ≡ tree.Join Binary.Subtract (tree.Join Binary.Add tree.Acc (tree.Input 0)) (second first other)) }
+    ensures { IfOk result (λ made. tree_of made
+        ≡ tree.Join Binary.Subtract (tree.Join Binary.Add tree.Acc (tree.Input 0)) (second first other)) }
 {
     let sum = join(alloc, Binary::Add, Expr::Acc, Expr::Input(0))?;
     join(alloc, Binary::Subtract, sum, second_input(first, other))
@@ -45,7 +46,8 @@ fn fold_tree(alloc: Global, first: u32, other: u32) -> Result<Expr, OutOfMemory>
 pub fn fold_script(alloc: Global, first: u32, other: u32) -> Result<Script, OutOfMemory>
     requires first { first < 216 }
     requires other { other < 216 }
-    ensures { IfOk result (λ script. script ≡ over (two first other) (tree.Join Binary.Subtract (tree.Join Binary.Add tree.Acc (tree.Input 0)) (second first other))) }
+    ensures { IfOk result (λ script. script
+        ≡ over (two first other) (tree.Join Binary.Subtract (tree.Join Binary.Add tree.Acc (tree.Input 0)) (second first other))) }
 {
     let tree = fold_tree(alloc, first, other)?;
     let names = two_names(alloc, first, other)?;
@@ -62,7 +64,8 @@ fn thousandths(alloc: Global, op: Binary, other: Expr) -> Result<Expr, OutOfMemo
 
 // `if p < q then p else q`.
 fn lesser(alloc: Global, first: u32, other: u32) -> Result<Expr, OutOfMemory>
-    ensures { IfOk result (λ made. tree_of made ≡ tree.If (tree.Join Binary.Less (tree.Input 0) (second first other)) (tree.Input 0) (second first other)) }
+    ensures { IfOk result (λ made. tree_of made
+        ≡ tree.If (tree.Join Binary.Less (tree.Input 0) (second first other)) (tree.Input 0) (second first other)) }
 {
     let test = join(
         alloc,

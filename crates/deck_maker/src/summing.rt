@@ -83,8 +83,10 @@ pub fn summary(
     graph: &Graph,
     finished: &Finished,
 ) -> Result<Text, OutOfMemory>
-    ensures text { IfOk result (λ text. text ≡ summary_of number (length graph.now.nodes) (length finished.now.log.entries) finished.now.finals) }
-    ensures workload { graph.now ≡ workload_graph number → IfOk result (λ text. text ≡ summary_of number 216 (length finished.now.log.entries) finished.now.finals) }
+    ensures text { IfOk result (λ text. text
+        ≡ summary_of number (length graph.now.nodes) (length finished.now.log.entries) finished.now.finals) }
+    ensures workload { graph.now ≡ workload_graph number
+        → IfOk result (λ text. text ≡ summary_of number 216 (length finished.now.log.entries) finished.now.finals) }
 {
     let finals = finished.finals.as_slice();
     let mut out = Text::new(alloc);

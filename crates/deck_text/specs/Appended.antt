@@ -1,6 +1,7 @@
 -- What the parts of the printer add. Each definition is a text with something added at its end: a space stands before a
 -- word where the text ends with one. That what is added for a whole deck is its canonical text is a law.
-use Rattle.std.specs.Prelude.{ℕ, ◌+◌, ◌-◌, ◌<◌, Bool, false, if◌then◌else◌, List, [], ◌∷◌, ◌++◌, length, map, codes, slice_get, All, Option, Some, None}
+use Rattle.std.specs.Prelude.{ℕ, ◌+◌, ◌-◌, ◌<◌, Bool, false, if◌then◌else◌, List, [], ◌∷◌}
+use Rattle.std.specs.Prelude.{◌++◌, length, map, codes, slice_get, All, Option, Some, None}
 use Rattle.std.specs.Option.{option_map_or}
 use Rattle.script_tree.specs.Names.{is_word}
 use Rattle.script_tree.specs.Scripts.{Scripted}
@@ -94,8 +95,10 @@ with_body text (Some body) = (text ++ 58 ∷ []) ++ printed body
 abbrev pub with_declaration : Graph → List ℕ → List ℕ → Node → List ℕ
 with_declaration graph text name (Source start) = with_head text (codes "source") name ++ value_text start
 with_declaration graph text name (Signal script inputs) = with_head text (codes "signal") name ++ printed script
-with_declaration graph text name (Fold start script inputs) = ((with_head text (codes "fold") name ++ value_text start) ++ 58 ∷ []) ++ printed script
-with_declaration graph text name (Choose selectors body inputs) = with_body (with_selectors graph (with_head text (codes "choose") name) selectors) body
+with_declaration graph text name (Fold start script inputs) = ((with_head text (codes "fold") name ++ value_text start) ++ 58 ∷ [])
+    ++ printed script
+with_declaration graph text name (Choose selectors body inputs) =
+    with_body (with_selectors graph (with_head text (codes "choose") name) selectors) body
 
 -- its line
 abbrev pub with_node : Graph → List ℕ → List ℕ → Node → List ℕ

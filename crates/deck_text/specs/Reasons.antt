@@ -80,14 +80,16 @@ Has p Memory = ⊥
 
 -- all reasons in their order
 abbrev pub reasons : List Reason
-reasons = TooMany Bytes ∷ LineTooLong ∷ Syntax ∷ TooMany Nodes ∷ TooMany Threads ∷ TooMany Levels ∷ TooMany Inputs ∷ TooMany Candidates ∷ TooMany Selectors ∷ TooMany Sets ∷ TooMany Looks ∷ DoubleName ∷ UnknownInput ∷ []
+reasons = TooMany Bytes ∷ LineTooLong ∷ Syntax ∷ TooMany Nodes ∷ TooMany Threads ∷ TooMany Levels ∷ TooMany Inputs ∷ TooMany Candidates
+    ∷ TooMany Selectors ∷ TooMany Sets ∷ TooMany Looks ∷ DoubleName ∷ UnknownInput ∷ []
 
 -- the first of some reasons that is there
 abbrev pub IsFirstOf : List Reason → Place → Reason → Type 0
 IsFirstOf [] p reason = ⊥
 IsFirstOf (r ∷ more) p reason = ((reason ≡ r) × Has p r) ⊎ ((Has p r → ⊥) × IsFirstOf more p reason)
 
--- the line of this number is refused for a reason: the lines before it lead to a deck within the bytes of one, and of all reasons it is the line's first
+-- the line of this number is refused for a reason: the lines before it lead to a deck within the bytes of one, and of all reasons it is
+-- the line's first
 pub record IsFaultyLine (bytes : List ℕ) (number : ℕ) (reason : Reason) : Type 0 where
   pub before : List (List ℕ)
   pub line : List ℕ

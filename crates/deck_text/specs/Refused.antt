@@ -23,7 +23,8 @@ abbrev pub NotDeclared : Decked → List ℕ → DeclKind → Reason → Type 0
 NotDeclared deck name kind Syntax = 1 ≤ length deck.scripts
 NotDeclared deck name kind (TooMany Nodes) = (deck.scripts ≡ []) × (refusal deck.graph name kind ≡ Some graph.TooManyNodes)
 NotDeclared deck name kind DoubleName = (deck.scripts ≡ []) × (refusal deck.graph name kind ≡ Some graph.DoubleName)
-NotDeclared deck name kind UnknownInput = (deck.scripts ≡ []) × (unknown : List ℕ) × (refusal deck.graph name kind ≡ Some (graph.UnknownInput unknown))
+NotDeclared deck name kind UnknownInput = (deck.scripts ≡ []) × (unknown : List ℕ)
+    × (refusal deck.graph name kind ≡ Some (graph.UnknownInput unknown))
 NotDeclared deck name kind Memory = Unit {0}
 NotDeclared deck name kind reason = ⊥
 

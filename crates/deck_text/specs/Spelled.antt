@@ -21,7 +21,8 @@ pub record Joins (call : Call) (old new : List (List Call)) : Type 0 where
 -- what a line adds to a deck: declarations stand before the first thread, and calls behind one
 abbrev pub Adds : Line → Decked → Decked → Type 0
 Adds Nothing old new = new ≡ old
-Adds (Declares name kind) old new = (old.scripts ≡ []) × (refusal old.graph name kind ≡ None) × (new.graph ≡ with_declaration old.graph name kind) × (new.scripts ≡ [])
+Adds (Declares name kind) old new = (old.scripts ≡ []) × (refusal old.graph name kind ≡ None)
+    × (new.graph ≡ with_declaration old.graph name kind) × (new.scripts ≡ [])
 Adds Thread old new = (length old.scripts < THREADS) × (new.graph ≡ old.graph) × (new.scripts ≡ old.scripts ++ [] ∷ [])
 Adds (Calls call) old new = Joins call old.scripts new.scripts × (new.graph ≡ old.graph)
 

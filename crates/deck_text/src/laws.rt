@@ -16,7 +16,8 @@ ghost use Rattle.deck_text.specs.Spelled.{Spell, SpellsDeck};
 /// bytes have at most one fault, so none but the first faulty line is named, and it with no reason but its first.
 pub fn one_answer()
     ensures deck { (bytes : List ℕ) (a b : Decked) → SpellsDeck bytes a → SpellsDeck bytes b → a ≡ b }
-    ensures apart { (bytes : List ℕ) (deck : Decked) (fault : DeckFault) → SpellsDeck bytes deck → IsDeckFault bytes fault → fault ≡ Memory }
+    ensures apart { (bytes : List ℕ) (deck : Decked) (fault : DeckFault) → SpellsDeck bytes deck → IsDeckFault bytes fault
+        → fault ≡ Memory }
     ensures fault { (bytes : List ℕ) (a b : DeckFault) → IsDeckFault bytes a → IsDeckFault bytes b → a ≢ Memory → b ≢ Memory → a ≡ b }
 {
     deck_lines::laws::one_form();
@@ -31,8 +32,10 @@ pub fn one_answer()
 pub fn canonical_deck()
     ensures lines { (text : List (List ℕ)) (deck : Decked) → Spell text deck → lines (canonical deck) ≡ map line_text (lines_of deck) }
     ensures each { (text : List (List ℕ)) (deck : Decked) → Spell text deck → All IsCanonical (lines_of deck) }
-    ensures back { (text : List (List ℕ)) (deck : Decked) → Spell text deck → length (canonical deck) ≤ DECK_BYTES → SpellsDeck (canonical deck) deck }
-    ensures again { (text : List (List ℕ)) (deck : Decked) (answer : Result Decked DeckFault) → Spell text deck → length (canonical deck) ≤ DECK_BYTES → ReadsDeck (canonical deck) answer → answer ≢ Err Memory → answer ≡ Ok deck }
+    ensures back { (text : List (List ℕ)) (deck : Decked) → Spell text deck → length (canonical deck) ≤ DECK_BYTES
+        → SpellsDeck (canonical deck) deck }
+    ensures again { (text : List (List ℕ)) (deck : Decked) (answer : Result Decked DeckFault) → Spell text deck
+        → length (canonical deck) ≤ DECK_BYTES → ReadsDeck (canonical deck) answer → answer ≢ Err Memory → answer ≡ Ok deck }
     ensures short { (bytes : List ℕ) (deck : Decked) → SpellsDeck bytes deck → length (canonical deck) ≤ length bytes + 1 }
 {
     deck_lines::laws::canonical_line();

@@ -4,7 +4,9 @@ ghost use Rattle.std.specs.Prelude.{◌≡◌, ◌<◌, ◌≤◌, codes, ◌∷
 ghost use Rattle.signal_graph.specs.Graph.{name_at, node_at};
 ghost use Rattle.expr_script.specs.Printed.{printed};
 ghost use Rattle.script_tree.specs.Printed.{value_text};
-ghost use Rattle.deck_text.specs.Appended.{ends_with_word, with_word, with_head, with_names, with_more_names, with_set, with_sets, with_more_sets, with_looks, with_call, with_calls, with_threads, with_selector, with_selectors, with_more_selectors, with_body, with_declaration, with_node, with_nodes, CandidatesBelow};
+ghost use Rattle.deck_text.specs.Appended.{ends_with_word, with_word, with_head, with_names, with_more_names, with_set, with_sets};
+ghost use Rattle.deck_text.specs.Appended.{with_more_sets, with_looks, with_call, with_calls, with_threads, with_selector, with_selectors};
+ghost use Rattle.deck_text.specs.Appended.{with_more_selectors, with_body, with_declaration, with_node, with_nodes, CandidatesBelow};
 ghost use Rattle.deck_text.specs.Printed.{canonical};
 ghost use Rattle.deck_text.specs.Spelled.{SpellsDeck};
 ghost use Rattle.script_tree.specs.declared.limits.TheConstants.{DECK_BYTES};
@@ -295,7 +297,8 @@ fn push_choose(
     body: &Option<Script>,
 ) -> Result<(), OutOfMemory>
     requires { All (λ s. All (λ m. m < length graph.now.nodes) s.candidates) selectors.now }
-    ensures { OnOk result (text.new ≡ with_body (with_selectors graph.now (with_head text.old (codes "choose") name.now) selectors.now) body.now) }
+    ensures { OnOk result (text.new ≡ with_body (with_selectors graph.now (with_head text.old (codes "choose") name.now) selectors.now)
+        body.now) }
 {
     push_head(text, b"choose", name)?;
     push_selectors(alloc, text, graph, selectors)?;

@@ -192,7 +192,8 @@ impl Reader {
         ensures reads { OnOk result (Reads self.new) }
         ensures calls { OnOk result (length self.new.calls.items ≤ length self.old.calls.items + 1) }
         ensures extends { OnOk result (Extends line.now (deck_of self.old) (deck_of self.new)) }
-        ensures refuses { (end : ℕ) → end ≤ DECK_BYTES → IfErr result (IsReason (record { deck = deck_of self.old; end = end; line = line.now })) }
+        ensures refuses { (end : ℕ) → end ≤ DECK_BYTES
+            → IfErr result (IsReason (record { deck = deck_of self.old; end = end; line = line.now })) }
     {
         one_form();
         one_answer();

@@ -5,7 +5,8 @@ ghost use Rattle.std.specs.List.{position_or_len};
 ghost use Rattle.node_versions.specs.Entries.{StopsToTheEnd, has, with_entries};
 ghost use Rattle.flow_model.specs.Machine.Changes.{first_version, last_version};
 ghost use Rattle.flow_state.specs.Booked.{live_in};
-ghost use Rattle.entering.specs.Entering.{SomeCanEnter, Enters, stops_entry, lives_in, entry_in, link_before, link_behind, CanLinkBefore, CanLinkBehind};
+ghost use Rattle.entering.specs.Entering.{SomeCanEnter, Enters, stops_entry, lives_in, entry_in};
+ghost use Rattle.entering.specs.Entering.{link_before, link_behind, CanLinkBefore, CanLinkBehind};
 
 use flow_state::Book;
 use node_versions::{Entry, NodeList, State};

@@ -1,5 +1,6 @@
 -- The words and signs of a text: a word is the longest run of its bytes, and a sign the longest one.
-use Rattle.std.specs.Prelude.{ℕ, zero, suc, ◌+◌, ◌-◌, Bool, ◌&&◌, ◌||◌, ◌==◌, if◌then◌else◌, List, [], ◌∷◌, length, take, drop, take_while, map, slice_get, unwrap_or, Contains}
+use Rattle.std.specs.Prelude.{ℕ, zero, suc, ◌+◌, ◌-◌, Bool, ◌&&◌, ◌||◌, ◌==◌, if◌then◌else◌, List, []}
+use Rattle.std.specs.Prelude.{◌∷◌, length, take, drop, take_while, map, slice_get, unwrap_or, Contains}
 use Rattle.std.specs.Option.{option_map}
 use Rattle.script_tree.specs.Names.{is_word}
 use Rattle.expr_script.specs.declared.pieces.Piece.{Piece}

@@ -4,10 +4,12 @@ use Rattle.std.specs.List.{list_all}
 use Rattle.std.specs.Str.{bytes_eq}
 use Rattle.std.specs.Char.{is_ascii_digit}
 use Rattle.script_tree.specs.Names.{is_name, place_in}
-use Rattle.script_tree.specs.declared.expr.Binary.TheVariants.{OrElse, Or, And, Equal, Unequal, Less, AtMost, Greater, AtLeast, Add, Multiply, Divide, Remainder}
+use Rattle.script_tree.specs.declared.expr.Binary.TheVariants.{OrElse, Or, And, Equal, Unequal, Less, AtMost}
+use Rattle.script_tree.specs.declared.expr.Binary.TheVariants.{Greater, AtLeast, Add, Multiply, Divide, Remainder}
 use Rattle.script_grammar.specs.declared.token.Word.TheVariants.{Digits, Yes, No, Called, Pick, Acc}
 use Rattle.script_grammar.specs.declared.token.Token.{Token}
-use Rattle.script_grammar.specs.declared.token.Token.TheVariants.{Plain, Sign, Minus, Bang, Opens, Closes, IfWord, ThenWord, ElseWord, Stray}
+use Rattle.script_grammar.specs.declared.token.Token.TheVariants.{Plain, Sign, Minus, Bang, Opens, Closes}
+use Rattle.script_grammar.specs.declared.token.Token.TheVariants.{IfWord, ThenWord, ElseWord, Stray}
 use Rattle.expr_script.specs.declared.atoms.Atoms.{Atoms}
 use Rattle.expr_script.specs.declared.atoms.Atoms.TheVariants.{Script, Body}
 

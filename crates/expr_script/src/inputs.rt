@@ -32,7 +32,8 @@ impl Inputs {
 
     // Adds a word, if it is a name that isn't there yet.
     fn add(&mut self, word: &[u8]) -> Result<(), OutOfMemory>
-        ensures { IfOk result (λ _. (all : List (List ℕ)) → KeepsFirst INPUTS self.old.names self.old.more all → KeepsFirst INPUTS self.new.names self.new.more (with_name all word.now)) }
+        ensures { IfOk result (λ _. (all : List (List ℕ)) → KeepsFirst INPUTS self.old.names self.old.more all
+            → KeepsFirst INPUTS self.new.names self.new.more (with_name all word.now)) }
     {
         let Some(name) = Name::of_bytes(word) else {
             return Ok(());

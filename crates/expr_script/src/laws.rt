@@ -25,8 +25,10 @@ pub fn one_cut()
 /// Words have one answer, want of memory aside. So each answer comes exactly where what it says holds: a script where the
 /// words spell it, and each fault where its cause is there, at its place.
 pub fn one_answer()
-    ensures script { (acc : Bool) (words : List (List ℕ)) (places : ℕ → ℕ) (a b : Result Scripted ScriptFault) → IsScriptAnswer acc words places a → IsScriptAnswer acc words places b → a ≢ Err Memory → b ≢ Err Memory → a ≡ b }
-    ensures body { (picks : ℕ) (words : List (List ℕ)) (places : ℕ → ℕ) (a b : Result Scripted ScriptFault) → IsBodyAnswer picks words places a → IsBodyAnswer picks words places b → a ≢ Err Memory → b ≢ Err Memory → a ≡ b }
+    ensures script { (acc : Bool) (words : List (List ℕ)) (places : ℕ → ℕ) (a b : Result Scripted ScriptFault)
+        → IsScriptAnswer acc words places a → IsScriptAnswer acc words places b → a ≢ Err Memory → b ≢ Err Memory → a ≡ b }
+    ensures body { (picks : ℕ) (words : List (List ℕ)) (places : ℕ → ℕ) (a b : Result Scripted ScriptFault)
+        → IsBodyAnswer picks words places a → IsBodyAnswer picks words places b → a ≢ Err Memory → b ≢ Err Memory → a ≡ b }
 {
     script_grammar::laws::one_tree();
     script_grammar::laws::one_answer();
@@ -46,14 +48,21 @@ pub fn joined_words()
 /// place are no longer, and stand apart from what is before and behind them. So a canonical text has no more bytes than
 /// one that it was read from.
 pub fn canonical_script()
-    ensures formed { (acc : Bool) (list : List (List ℕ)) (script : Scripted) → SpellsScript acc list script → FormedScript acc script × IsShallow script }
-    ensures spells { (acc : Bool) (script : Scripted) → FormedScript acc script → IsShallow script → SpellsScript acc (words (printed script)) script }
-    ensures again { (acc : Bool) (script : Scripted) (places : ℕ → ℕ) (answer : Result Scripted ScriptFault) → FormedScript acc script → IsShallow script → IsScriptAnswer acc (words (printed script)) places answer → answer ≢ Err Memory → answer ≡ Ok script }
+    ensures formed { (acc : Bool) (list : List (List ℕ)) (script : Scripted) → SpellsScript acc list script
+        → FormedScript acc script × IsShallow script }
+    ensures spells { (acc : Bool) (script : Scripted) → FormedScript acc script → IsShallow script
+        → SpellsScript acc (words (printed script)) script }
+    ensures again { (acc : Bool) (script : Scripted) (places : ℕ → ℕ) (answer : Result Scripted ScriptFault) → FormedScript acc script
+        → IsShallow script → IsScriptAnswer acc (words (printed script)) places answer → answer ≢ Err Memory → answer ≡ Ok script }
     ensures words { (acc : Bool) (script : Scripted) → FormedScript acc script → words (printed script) ≡ printed_words script }
-    ensures fewest { (acc : Bool) (list : List (List ℕ)) (script : Scripted) → SpellsScript acc list script → length (printed_words script) ≤ length list }
-    ensures apart { (acc : Bool) (script : Scripted) (last : List ℕ) (more : List (List ℕ)) → FormedScript acc script → StandApart [] more → StandApart last (printed_words script ++ more) }
-    ensures within { (acc : Bool) (list : List (List ℕ)) (script : Scripted) (last : List ℕ) (more : List (List ℕ)) → SpellsScript acc list script → length (behind last (printed_words script ++ more)) ≤ length (behind last (list ++ more)) }
-    ensures short { (acc : Bool) (text : List ℕ) (script : Scripted) → SpellsScript acc (words text) script → length (printed script) ≤ length text }
+    ensures fewest { (acc : Bool) (list : List (List ℕ)) (script : Scripted) → SpellsScript acc list script
+        → length (printed_words script) ≤ length list }
+    ensures apart { (acc : Bool) (script : Scripted) (last : List ℕ) (more : List (List ℕ)) → FormedScript acc script → StandApart [] more
+        → StandApart last (printed_words script ++ more) }
+    ensures within { (acc : Bool) (list : List (List ℕ)) (script : Scripted) (last : List ℕ) (more : List (List ℕ))
+        → SpellsScript acc list script → length (behind last (printed_words script ++ more)) ≤ length (behind last (list ++ more)) }
+    ensures short { (acc : Bool) (text : List ℕ) (script : Scripted) → SpellsScript acc (words text) script
+        → length (printed script) ≤ length text }
 {
     script_grammar::laws::canonical_spells();
     script_grammar::laws::leaves_are_words();
@@ -62,14 +71,23 @@ pub fn canonical_script()
 
 /// The same of a body over at most four picks.
 pub fn canonical_body()
-    ensures formed { (picks : ℕ) (list : List (List ℕ)) (script : Scripted) → SpellsBody picks list script → FormedBody picks script × IsShallow script }
-    ensures spells { (picks : ℕ) (script : Scripted) → picks ≤ SELECTORS → FormedBody picks script → IsShallow script → SpellsBody picks (words (printed script)) script }
-    ensures again { (picks : ℕ) (script : Scripted) (places : ℕ → ℕ) (answer : Result Scripted ScriptFault) → picks ≤ SELECTORS → FormedBody picks script → IsShallow script → IsBodyAnswer picks (words (printed script)) places answer → answer ≢ Err Memory → answer ≡ Ok script }
-    ensures words { (picks : ℕ) (script : Scripted) → picks ≤ SELECTORS → FormedBody picks script → words (printed script) ≡ printed_words script }
-    ensures fewest { (picks : ℕ) (list : List (List ℕ)) (script : Scripted) → SpellsBody picks list script → length (printed_words script) ≤ length list }
-    ensures apart { (picks : ℕ) (script : Scripted) (last : List ℕ) (more : List (List ℕ)) → picks ≤ SELECTORS → FormedBody picks script → StandApart [] more → StandApart last (printed_words script ++ more) }
-    ensures within { (picks : ℕ) (list : List (List ℕ)) (script : Scripted) (last : List ℕ) (more : List (List ℕ)) → SpellsBody picks list script → length (behind last (printed_words script ++ more)) ≤ length (behind last (list ++ more)) }
-    ensures short { (picks : ℕ) (text : List ℕ) (script : Scripted) → SpellsBody picks (words text) script → length (printed script) ≤ length text }
+    ensures formed { (picks : ℕ) (list : List (List ℕ)) (script : Scripted) → SpellsBody picks list script
+        → FormedBody picks script × IsShallow script }
+    ensures spells { (picks : ℕ) (script : Scripted) → picks ≤ SELECTORS → FormedBody picks script → IsShallow script
+        → SpellsBody picks (words (printed script)) script }
+    ensures again { (picks : ℕ) (script : Scripted) (places : ℕ → ℕ) (answer : Result Scripted ScriptFault) → picks ≤ SELECTORS
+        → FormedBody picks script → IsShallow script → IsBodyAnswer picks (words (printed script)) places answer → answer ≢ Err Memory
+        → answer ≡ Ok script }
+    ensures words { (picks : ℕ) (script : Scripted) → picks ≤ SELECTORS → FormedBody picks script
+        → words (printed script) ≡ printed_words script }
+    ensures fewest { (picks : ℕ) (list : List (List ℕ)) (script : Scripted) → SpellsBody picks list script
+        → length (printed_words script) ≤ length list }
+    ensures apart { (picks : ℕ) (script : Scripted) (last : List ℕ) (more : List (List ℕ)) → picks ≤ SELECTORS → FormedBody picks script
+        → StandApart [] more → StandApart last (printed_words script ++ more) }
+    ensures within { (picks : ℕ) (list : List (List ℕ)) (script : Scripted) (last : List ℕ) (more : List (List ℕ))
+        → SpellsBody picks list script → length (behind last (printed_words script ++ more)) ≤ length (behind last (list ++ more)) }
+    ensures short { (picks : ℕ) (text : List ℕ) (script : Scripted) → SpellsBody picks (words text) script
+        → length (printed script) ≤ length text }
 {
     script_grammar::laws::canonical_spells();
     script_grammar::laws::leaves_are_words();

@@ -4,7 +4,8 @@ ghost use Rattle.std.specs.Prelude.{◌≡◌, ◌≤◌, length};
 ghost use Rattle.std.specs.List.{list_all};
 ghost use Rattle.std.specs.Char.{is_ascii_digit};
 ghost use Rattle.script_tree.specs.Names.{place_in};
-ghost use Rattle.expr_script.specs.Words.{is_digits, number, name_token, short_sign, sign_token, fixed_token, pick_token, other_token, token};
+ghost use Rattle.expr_script.specs.Words.{is_digits, number, name_token, short_sign, sign_token};
+ghost use Rattle.expr_script.specs.Words.{fixed_token, pick_token, other_token, token};
 
 use crate::atoms::Atoms;
 use script_grammar::token::{Token, Word};

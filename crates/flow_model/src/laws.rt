@@ -2,7 +2,8 @@
 //! is always a next step, and not without end; what calls find again after moves of others; and what schedules make of scripts. The
 //! functions do nothing when they run.
 
-ghost use Rattle.std.specs.Prelude.{◌≡◌, ◌≢◌, ℕ, ◌+◌, ◌*◌, ◌<◌, ◌≤◌, ◌⊎◌, List, [], ◌∷◌, ◌++◌, length, Some, is_none, ◌&&◌, true, false, IsTrue, ◌↔◌};
+ghost use Rattle.std.specs.Prelude.{◌≡◌, ◌≢◌, ℕ, ◌+◌, ◌*◌, ◌<◌, ◌≤◌, ◌⊎◌, List, [], ◌∷◌, ◌++◌};
+ghost use Rattle.std.specs.Prelude.{length, Some, is_none, ◌&&◌, true, false, IsTrue, ◌↔◌};
 ghost use Rattle.std.specs.List.{AllByRecursion};
 ghost use Rattle.node_versions.specs.Entries.{ended_len, last_done, state_of, picks_of};
 ghost use Rattle.script_tree.specs.declared.value.Value.{Value};
@@ -22,19 +23,28 @@ ghost use Rattle.flow_model.specs.Machine.Keys.{version_of_step};
 ghost use Rattle.flow_model.specs.Machine.Next.{next, next_at, why_not_ended};
 ghost use Rattle.flow_model.specs.Machine.Steps.{allowed, apply, can_begin, begin, has_call};
 ghost use Rattle.flow_model.specs.Kept.Lawful.{IsLawful};
-ghost use Rattle.flow_model.specs.Machine.Histories.{Move, Make, may, after_move, after_moves, may_all, state, is_history, last_values, HasGathered, HasEvaluated};
+ghost use Rattle.flow_model.specs.Machine.Histories.{Move, Make, may, after_move, after_moves, may_all, state};
+ghost use Rattle.flow_model.specs.Machine.Histories.{is_history, last_values, HasGathered, HasEvaluated};
 ghost use Rattle.flow_model.specs.Follows.Lengths.{AreNext};
 ghost use Rattle.flow_model.specs.Follows.Others.{is_own_move, none_by, after_others_move, IsKept, IsGiven, list_of, IsSameList};
-ghost use Rattle.flow_model.specs.Follows.Callers.{count_begins, begun_by, logged_of, live_of, made_by, IsBegunIn, IsFinishedRun, AreWithin};
+ghost use Rattle.flow_model.specs.Follows.Callers.{count_begins, begun_by, logged_of, live_of};
+ghost use Rattle.flow_model.specs.Follows.Callers.{made_by, IsBegunIn, IsFinishedRun, AreWithin};
 ghost use Rattle.flow_model.specs.Machine.Schedules.{is_over, replayed, all_refused};
 ghost use Rattle.flow_model.specs.Machine.Examples.{PlaysOut, retrofit_log_with};
-ghost use Rattle.flow_model.specs.Machine.Examples.{retrofit_graph, retrofit_scripts, retrofit_schedule, retrofit_moves, retrofit_log, retrofit_finals};
-ghost use Rattle.flow_model.specs.Machine.Examples.{other_order_graph, other_order_scripts, other_order_schedule, other_order_moves, other_order_log, other_order_finals};
-ghost use Rattle.flow_model.specs.Machine.Examples.{one_edge_graph, one_edge_scripts, one_edge_schedule, one_edge_moves, one_edge_log, one_edge_finals};
-ghost use Rattle.flow_model.specs.Machine.Examples.{two_levels_graph, two_levels_scripts, two_levels_schedule, two_levels_moves, two_levels_log, two_levels_finals};
-ghost use Rattle.flow_model.specs.Machine.Examples.{reader_in_the_past_graph, reader_in_the_past_scripts, reader_in_the_past_schedule, reader_in_the_past_moves, reader_in_the_past_log, reader_in_the_past_finals};
-ghost use Rattle.flow_model.specs.Machine.Examples.{unconnected_graph, unconnected_scripts, unconnected_schedule, unconnected_moves, unconnected_log, unconnected_finals};
-ghost use Rattle.flow_model.specs.Machine.Examples.{two_selectors_graph, two_selectors_scripts, two_selectors_schedule, two_selectors_moves, two_selectors_log, two_selectors_finals};
+ghost use Rattle.flow_model.specs.Machine.Examples.{retrofit_graph, retrofit_scripts, retrofit_schedule};
+ghost use Rattle.flow_model.specs.Machine.Examples.{retrofit_moves, retrofit_log, retrofit_finals};
+ghost use Rattle.flow_model.specs.Machine.Examples.{other_order_graph, other_order_scripts, other_order_schedule};
+ghost use Rattle.flow_model.specs.Machine.Examples.{other_order_moves, other_order_log, other_order_finals};
+ghost use Rattle.flow_model.specs.Machine.Examples.{one_edge_graph, one_edge_scripts, one_edge_schedule};
+ghost use Rattle.flow_model.specs.Machine.Examples.{one_edge_moves, one_edge_log, one_edge_finals};
+ghost use Rattle.flow_model.specs.Machine.Examples.{two_levels_graph, two_levels_scripts, two_levels_schedule};
+ghost use Rattle.flow_model.specs.Machine.Examples.{two_levels_moves, two_levels_log, two_levels_finals};
+ghost use Rattle.flow_model.specs.Machine.Examples.{reader_in_the_past_graph, reader_in_the_past_scripts, reader_in_the_past_schedule};
+ghost use Rattle.flow_model.specs.Machine.Examples.{reader_in_the_past_moves, reader_in_the_past_log, reader_in_the_past_finals};
+ghost use Rattle.flow_model.specs.Machine.Examples.{unconnected_graph, unconnected_scripts, unconnected_schedule};
+ghost use Rattle.flow_model.specs.Machine.Examples.{unconnected_moves, unconnected_log, unconnected_finals};
+ghost use Rattle.flow_model.specs.Machine.Examples.{two_selectors_graph, two_selectors_scripts, two_selectors_schedule};
+ghost use Rattle.flow_model.specs.Machine.Examples.{two_selectors_moves, two_selectors_log, two_selectors_finals};
 
 // ---- lawful states
 

@@ -1,5 +1,6 @@
 -- The seats of live calls, and the calls and pairs that they stand for.
-use Rattle.std.specs.Prelude.{◌≡◌, ℕ, ◌+◌, ◌<◌, ◌≤◌, Bool, true, false, ◌||◌, ◌&&◌, ◌==◌, List, [], ◌∷◌, ◌++◌, length, map, filter, not, slice_index_or}
+use Rattle.std.specs.Prelude.{◌≡◌, ℕ, ◌+◌, ◌<◌, ◌≤◌, Bool, true, false, ◌||◌, ◌&&◌, ◌==◌}
+use Rattle.std.specs.Prelude.{List, [], ◌∷◌, ◌++◌, length, map, filter, not, slice_index_or}
 use Rattle.std.specs.List.{AllByRecursion, list_any}
 use Rattle.signal_graph.specs.Graph.{is_in}
 use Rattle.order_graph.specs.declared.pair.Pair.{Pair}

@@ -1,6 +1,7 @@
 // The record of live calls.
 
-ghost use Rattle.std.specs.Prelude.{◌≡◌, ◌≢◌, ℕ, [], ◌<◌, ◌≤◌, ◌+◌, ◌^◌, true, false, length, map, slice_index, None, IfOk, IfErr, OnOk, OnErr, slice_get, Some};
+ghost use Rattle.std.specs.Prelude.{◌≡◌, ◌≢◌, ℕ, [], ◌<◌, ◌≤◌, ◌+◌, ◌^◌, true, false, length, map};
+ghost use Rattle.std.specs.Prelude.{slice_index, None, IfOk, IfErr, OnOk, OnErr, slice_get, Some};
 ghost use Rattle.std.specs.List.{list_any, range_with_len};
 ghost use Rattle.script_tree.specs.declared.limits.TheConstants.{THREADS, VERSIONS, SETS, LOOKS};
 ghost use Rattle.std.specs.Option.{option_copied};
@@ -17,7 +18,9 @@ ghost use Rattle.flow_model.specs.Machine.Steps.{sets_in, looks_in, started, cou
 ghost use Rattle.flow_model.specs.Machine.Schedules.{version_of};
 ghost use Rattle.flow_model.specs.Machine.Next.{least_version};
 ghost use Rattle.node_set.specs.Members.{first_from};
-ghost use Rattle.flow_state.specs.Booked.{AreApart, AreInside, opened_book, room_at, one_room_more, one_room_less, begin_call, end_call, call_in, live_in, next_look_in, node_count, work_at, stops_in, on_call, on_work, link_calls, opened_one, wanting, pressed_in, call_nth};
+ghost use Rattle.flow_state.specs.Booked.{AreApart, AreInside, opened_book, room_at, one_room_more, one_room_less};
+ghost use Rattle.flow_state.specs.Booked.{begin_call, end_call, call_in, live_in, next_look_in, node_count, work_at, stops_in};
+ghost use Rattle.flow_state.specs.Booked.{on_call, on_work, link_calls, opened_one, wanting, pressed_in, call_nth};
 ghost use Rattle.flow_model.specs.Parts.Books.{bare, no_work, with_gathered, with_found, with_body, forgotten};
 ghost use Rattle.flow_state.specs.Found.{found_of, found_option};
 ghost use Rattle.flow_state.specs.Jobs.{found_items, outcome_of, value_in, answer_in, IsJob};

@@ -1,6 +1,7 @@
 // The seats of live calls, and their recorded order.
 
-ghost use Rattle.std.specs.Prelude.{◌≡◌, ◌≢◌, ◌==◌, ◌<◌, ◌≤◌, ◌+◌, ◌^◌, ℕ, true, false, [], length, map, vec_capacity, slice_index_or, None, Some, IfOk, IfSome};
+ghost use Rattle.std.specs.Prelude.{◌≡◌, ◌≢◌, ◌==◌, ◌<◌, ◌≤◌, ◌+◌, ◌^◌, ℕ, true, false, [], length};
+ghost use Rattle.std.specs.Prelude.{map, vec_capacity, slice_index_or, None, Some, IfOk, IfSome};
 ghost use Rattle.std.specs.List.{range_with_len};
 ghost use Rattle.script_tree.specs.declared.limits.TheConstants.{NODES, LOOKS};
 ghost use Rattle.signal_graph.specs.Graph.{is_in};
@@ -10,7 +11,9 @@ ghost use Rattle.flow_model.specs.Machine.Changes.{closed};
 ghost use Rattle.flow_model.specs.Machine.Steps.{started, counted, with_look, logged, free_slot, uses_slot};
 ghost use Rattle.flow_model.specs.Machine.Next.{least_version};
 ghost use Rattle.flow_state.specs.Booked.{AreInside, opened_one, wanting, begun_call};
-ghost use Rattle.flow_state.specs.Seats.{find_call, has_call, on_live, stops_live, presses_live, pressed_live, before_live, framing_before_live, LeadsToLive, with_pairs, one_call_more, slot_in, has_version, AreAscending, free_seat, no_calls, left_calls, without_tenant};
+ghost use Rattle.flow_state.specs.Seats.{find_call, has_call, on_live, stops_live, presses_live, pressed_live, before_live};
+ghost use Rattle.flow_state.specs.Seats.{framing_before_live, LeadsToLive, with_pairs, one_call_more, slot_in};
+ghost use Rattle.flow_state.specs.Seats.{has_version, AreAscending, free_seat, no_calls, left_calls, without_tenant};
 
 use crate::counts::{is_unwanted, lower, raise};
 use crate::room::{Lists, Room};

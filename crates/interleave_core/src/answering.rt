@@ -29,7 +29,8 @@ impl<'g> Core<'g> {
     /// answer, which is what its step finds in this state. What it is over is copied into the room. Takes no memory.
     pub fn job<'r>(&self, version: u32, node: u32, room: &'r mut JobRoom) -> Job<'g, 'r>
         requires { IsEvaluationDue self.now.graph self.now.state version node }
-        ensures scripts { allowed self.now.graph self.now.state (step.Evaluate version node) ≡ true → step_of result ≡ step.Evaluate version node }
+        ensures scripts { allowed self.now.graph self.now.state (step.Evaluate version node) ≡ true
+            → step_of result ≡ step.Evaluate version node }
         ensures body { allowed self.now.graph self.now.state (step.Body version node) ≡ true → step_of result ≡ step.Body version node }
         ensures right { IsRight self.now.graph self.now.state result }
     {

@@ -1,5 +1,6 @@
 -- Numbers as bits of words: q is the bit q modulo 64 of the word q / 64.
-use Rattle.std.specs.Prelude.{◌≡◌, ℕ, ◌-◌, ◌*◌, ◌^◌, ◌<◌, ◌≤◌, ◌/◌, ◌%◌, ◌==◌, not, true, false, List, length, slice_index, slice_set, bit_and, bit_or}
+use Rattle.std.specs.Prelude.{◌≡◌, ℕ, ◌-◌, ◌*◌, ◌^◌, ◌<◌, ◌≤◌, ◌/◌, ◌%◌, ◌==◌, not, true}
+use Rattle.std.specs.Prelude.{false, List, length, slice_index, slice_set, bit_and, bit_or}
 use Rattle.script_tree.specs.Bits.{is_set}
 
 -- the words with a bit set, and with it cleared

@@ -1,5 +1,6 @@
 -- A node's list: an entry for each call that reached the node, in the calls' order. A call is named by its version.
-use Rattle.std.specs.Prelude.{ℕ, suc, ◌+◌, Bool, true, false, not, ◌&&◌, ◌||◌, ◌==◌, ◌≡◌, IsTrue, List, [], ◌∷◌, ◌++◌, drop, filter, Option, Some, None, slice_get, slice_index_or}
+use Rattle.std.specs.Prelude.{ℕ, suc, ◌+◌, Bool, true, false, not, ◌&&◌, ◌||◌, ◌==◌, ◌≡◌, IsTrue, List, []}
+use Rattle.std.specs.Prelude.{◌∷◌, ◌++◌, drop, filter, Option, Some, None, slice_get, slice_index_or}
 use Rattle.std.specs.List.{cons_option, position_or_len, AllByRecursion}
 use Rattle.std.specs.Option.{option_or, is_some, IsSome}
 use Rattle.script_tree.specs.declared.value.Value.{Value}
@@ -214,7 +215,8 @@ since_at outs index = (slice_index_or outs index (0, 0)).1
 -- the nodes of the out-edges that are active for the call
 abbrev pub active_nodes : List Entry → List OutEdge → ℕ → List ℕ
 active_nodes es [] t = []
-active_nodes es ((node, since) ∷ outs) t = elim (is_active es since t) [ true ↦ node ∷ active_nodes es outs t | false ↦ active_nodes es outs t ]
+active_nodes es ((node, since) ∷ outs) t =
+    elim (is_active es since t) [ true ↦ node ∷ active_nodes es outs t | false ↦ active_nodes es outs t ]
 
 abbrev pub is_edge : ℕ → ℕ → OutEdge → Bool
 is_edge node since edge = (edge.0 == node) && (edge.1 == since)

@@ -4,9 +4,9 @@ use Rattle.std.specs.List.{position_or_len}
 use Rattle.smallvec.specs.SmallVec.{SmallVec}
 use Rattle.node_versions.specs.Entries.{Entry, OutEdge, is_frame, done_len, has, IsUnique, AreDifferent}
 
--- The rooms are numbers of 32 bits. There is an entry, and there are no more entries and out-edges than there is room for. No two entries are of one
--- call, and no out-edge is there twice. What is kept of the entries is the index of the first Frame, or how many entries there are, and the
--- index behind the last Done, and a version above which no entry's is.
+-- The rooms are numbers of 32 bits. There is an entry, and there are no more entries and out-edges than there is room for. No two entries
+-- are of one call, and no out-edge is there twice. What is kept of the entries is the index of the first Frame, or how many entries there
+-- are, and the index behind the last Done, and a version above which no entry's is.
 pub record IsKept (entries : SmallVec Entry) (outs : SmallVec OutEdge) (room outs_room first_frame done_end newest : ℕ) : Type 0 where
   pub small : room < 2 ^ 32
   pub outs_small : outs_room < 2 ^ 32

@@ -1,7 +1,9 @@
 // Laws that tie the words on lists to indexes, for crates that reason about lists. The functions do nothing when they run.
-ghost use Rattle.std.specs.Prelude.{◌≡◌, ℕ, suc, ◌+◌, ◌<◌, ◌≤◌, not, ◌&&◌, Bool, true, List, take, drop, insert, nat_lt, Some, None, slice_get};
+ghost use Rattle.std.specs.Prelude.{◌≡◌, ℕ, suc, ◌+◌, ◌<◌, ◌≤◌, not, ◌&&◌, Bool, true, List};
+ghost use Rattle.std.specs.Prelude.{take, drop, insert, nat_lt, Some, None, slice_get};
 ghost use Rattle.std.specs.List.{position_or_len};
-ghost use Rattle.node_versions.specs.Entries.{Entry, is_of, is_frame, has, behind, IsUnique, served, version_at, before, up_to, front, rest, first_entry, last_entry, placed, StopsToTheEnd, is_active};
+ghost use Rattle.node_versions.specs.Entries.{Entry, is_of, is_frame, has, behind, IsUnique, served, version_at, before};
+ghost use Rattle.node_versions.specs.Entries.{up_to, front, rest, first_entry, last_entry, placed, StopsToTheEnd, is_active};
 
 /// An entry that is inserted at its place stands before the first that stops.
 pub fn placed_at_index()
@@ -10,7 +12,8 @@ pub fn placed_at_index()
 
 /// Of two calls with an entry, one stands behind the other where its index is larger.
 pub fn behind_by_index()
-    ensures { (es : List Entry) (t u : ℕ) → IsUnique es → has es u ≡ true → behind es t u ≡ nat_lt (position_or_len (is_of t) es) (position_or_len (is_of u) es) }
+    ensures { (es : List Entry) (t u : ℕ) → IsUnique es → has es u ≡ true
+        → behind es t u ≡ nat_lt (position_or_len (is_of t) es) (position_or_len (is_of u) es) }
 {}
 
 /// The entries before a call's are those below its index.

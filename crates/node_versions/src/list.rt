@@ -1,8 +1,13 @@
 // One node's list over small vectors.
-ghost use Rattle.std.specs.Prelude.{◌≡◌, ℕ, ◌<◌, ◌≤◌, ◌+◌, length, take, drop, min, insert, IsTrue, IfOk, IfSome, IfNone, Some, None, slice_get, not, false};
+ghost use Rattle.std.specs.Prelude.{◌≡◌, ℕ, ◌<◌, ◌≤◌, ◌+◌, length, take, drop, min, insert, IsTrue};
+ghost use Rattle.std.specs.Prelude.{IfOk, IfSome, IfNone, Some, None, slice_get, not, false};
 ghost use Rattle.std.specs.List.{list_any, position, position_or_len, remove_range};
 ghost use Rattle.std.specs.Option.{IsSome, is_some, option_copied};
-ghost use Rattle.node_versions.specs.Entries.{Frame, Done, IsUnique, AreDifferent, has, at, is_of, is_mark, is_frame, is_done, value_of, picks_of, state_of, up_to, before, served, last_done, done_len, value_at, value_before, picks_at, picks_before, with_state, is_active, since_at, version_at, StopsFrom, StopsToTheEnd, IsEntryAt, IsFirstOpenAt, first_open, has_out, with_out, without_out, HasEndedPrefix, ended_len, collected, opened, with_entries, with_outs};
+ghost use Rattle.node_versions.specs.Entries.{Frame, Done, IsUnique, AreDifferent, has, at, is_of, is_mark, is_frame, is_done};
+ghost use Rattle.node_versions.specs.Entries.{value_of, picks_of, state_of, up_to, before, served, last_done, done_len, value_at};
+ghost use Rattle.node_versions.specs.Entries.{value_before, picks_at, picks_before, with_state, is_active, since_at, version_at};
+ghost use Rattle.node_versions.specs.Entries.{StopsFrom, StopsToTheEnd, IsEntryAt, IsFirstOpenAt, first_open, has_out, with_out};
+ghost use Rattle.node_versions.specs.Entries.{without_out, HasEndedPrefix, ended_len, collected, opened, with_entries, with_outs};
 ghost use Rattle.smallvec.specs.SmallVec.{small_vec_len, HasRoomFor};
 ghost use Rattle.node_versions.specs.Answers.{IsAskable, AnswersBy, AnswersTo};
 
@@ -353,7 +358,8 @@ impl NodeList {
     pub fn collect<F: Fn(&Entry) -> bool>(&mut self, ended: F) -> u32
         requires askable { IsAskable F.Fn ended self.old.entries }
         requires ended { AnswersTo F.Fn ended self.old.entries (λ test. HasEndedPrefix test self.old.entries) }
-        ensures list { AnswersBy F.Fn ended self.old.entries (λ test. HasEndedPrefix test self.old.entries → self.new ≡ with_entries self.old (collected test self.old.entries)) }
+        ensures list { AnswersBy F.Fn ended self.old.entries
+            (λ test. HasEndedPrefix test self.old.entries → self.new ≡ with_entries self.old (collected test self.old.entries)) }
         ensures gone { result + length self.new.entries ≡ length self.old.entries }
     {
         let count = self.ended_len(&ended);

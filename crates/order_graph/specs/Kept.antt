@@ -21,7 +21,8 @@ AreMirrored before after = (a b : ℕ) → has after b a ≡ has before a b
 -- There is room for a pair of each two slots. The sets and the table say what the pairs say, where the row of b in the
 -- table has a cell for each slot. The masks are the closure of the pairs, `after` is their mirror, and no slot precedes
 -- itself.
-pub record IsKept (callers capacity : ℕ) (pairs : List Pair) (earlier : List Slots) (cells : List ℕ) (before after : List Slots) : Type 0 where
+pub record IsKept (callers capacity : ℕ) (pairs : List Pair) (earlier : List Slots) (cells : List ℕ) (before after : List Slots)
+    : Type 0 where
   pub some : 0 < callers
   pub few : callers ≤ 256
   pub room : callers * callers ≤ capacity

@@ -1,5 +1,6 @@
 -- The recorded order of live calls: pairs of slots, and what they lead to.
-use Rattle.std.specs.Prelude.{◌≡◌, ℕ, ◌≤◌, Bool, true, false, not, ◌&&◌, ◌||◌, ◌==◌, if◌then◌else◌, List, [], ◌∷◌, ◌++◌, Option, find, filter, replicate, slice_index_or, IsTrue, ◌↔◌, refl}
+use Rattle.std.specs.Prelude.{◌≡◌, ℕ, ◌≤◌, Bool, true, false, not, ◌&&◌, ◌||◌, ◌==◌, if◌then◌else◌, List, []}
+use Rattle.std.specs.Prelude.{◌∷◌, ◌++◌, Option, find, filter, replicate, slice_index_or, IsTrue, ◌↔◌, refl}
 use Rattle.std.specs.List.{list_any}
 use Rattle.std.specs.Option.{option_map}
 use Rattle.std.specs.Coded.{Coded, code_by, coded×, coded_list, coded_ℕ}
@@ -73,9 +74,11 @@ pub record IsNextBefore (pairs : List Pair) (b from a : ℕ) : Type 0 where
 -- a pair is stored as its three numbers
 abbrev pub pair_code : Coded Pair
 pair_code =
-    code_by (ℕ × (ℕ × ℕ)) (coded× coded_ℕ (coded× coded_ℕ coded_ℕ)) (λ p. (p.from, (p.to, p.node))) (λ t. record { from = t.0; to = t.1.0; node = t.1.1 }) (λ _. refl)
+    code_by (ℕ × (ℕ × ℕ)) (coded× coded_ℕ (coded× coded_ℕ coded_ℕ)) (λ p. (p.from, (p.to, p.node)))
+    (λ t. record { from = t.0; to = t.1.0; node = t.1.1 }) (λ _. refl)
 
 -- an order is stored as its three parts
 abbrev pub order_code : Coded Order
 order_code =
-    code_by (ℕ × (List Pair × List Slots)) (coded× coded_ℕ (coded× (coded_list pair_code) (coded_list (set.code coded_ℕ)))) (λ o. (o.callers, (o.pairs, o.masks))) (λ t. record { callers = t.0; pairs = t.1.0; masks = t.1.1 }) (λ _. refl)
+    code_by (ℕ × (List Pair × List Slots)) (coded× coded_ℕ (coded× (coded_list pair_code) (coded_list (set.code coded_ℕ))))
+    (λ o. (o.callers, (o.pairs, o.masks))) (λ t. record { callers = t.0; pairs = t.1.0; masks = t.1.1 }) (λ _. refl)

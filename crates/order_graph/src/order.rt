@@ -1,7 +1,9 @@
 // The recorded order and its masks.
-ghost use Rattle.std.specs.Prelude.{◌≡◌, ◌≢◌, ℕ, ◌*◌, ◌<◌, ◌≤◌, ◌↔◌, replicate, length, vec_len, vec_capacity, IsTrue, IfOk, IfSome, IfNone};
+ghost use Rattle.std.specs.Prelude.{◌≡◌, ◌≢◌, ℕ, ◌*◌, ◌<◌, ◌≤◌, ◌↔◌, replicate, length};
+ghost use Rattle.std.specs.Prelude.{vec_len, vec_capacity, IsTrue, IfOk, IfSome, IfNone};
 ghost use Rattle.std.specs.FinSet as set;
-ghost use Rattle.order_graph.specs.Order.{Precedes, reaches, is_recorded, node_of, linked, retired, mask_of, MasksAreClosure, without_pairs, AreApart, IsNextBefore};
+ghost use Rattle.order_graph.specs.Order.{Precedes, reaches, is_recorded, node_of, linked, retired, mask_of};
+ghost use Rattle.order_graph.specs.Order.{MasksAreClosure, without_pairs, AreApart, IsNextBefore};
 ghost use Rattle.order_graph.specs.Kept.{AreOfSlots, AreMirrored, IsPassedOn};
 
 use crate::MAX_CALLERS;

@@ -13,12 +13,30 @@ use std::test::Fail;
 const TWO_FIRES: &[u8] = b"source a = 0\nsignal b = a + 1\nthread\nfire a=1\nthread\nfire a=2\n";
 
 // Where thread 1 has fired, and thread 2 has changed `y`, thread 1 comes to pick `y`.
-const LATE_PICK: &[u8] =
-    b"source s = 0\nsource x = 10\nsource y = 20\nsignal j = s + y\nchoose d = s among x, y\nsignal k = d + 1\nthread\nfire s=1 look k\nthread\nfire y=21 look k\n";
+const LATE_PICK: &[u8] = b"source s = 0
+source x = 10
+source y = 20
+signal j = s + y
+choose d = s among x, y
+signal k = d + 1
+thread
+fire s=1 look k
+thread
+fire y=21 look k
+";
 
 // Two chooses pick `x`; a fire has the first one pick `y`.
-const TWO_CHOOSES: &[u8] =
-    b"source s = 0\nsource q = 0\nsource x = 10\nsource y = 20\nchoose d = s among x, y\nchoose e = q among x, y\nthread\nfire s=1 look d\nthread\nfire s=0 look d\n";
+const TWO_CHOOSES: &[u8] = b"source s = 0
+source q = 0
+source x = 10
+source y = 20
+choose d = s among x, y
+choose e = q among x, y
+thread
+fire s=1 look d
+thread
+fire s=0 look d
+";
 
 const A: u32 = 0;
 

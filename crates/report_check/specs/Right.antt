@@ -1,6 +1,7 @@
 -- Which line of a report is right at its place, for the graph and the scripts of a deck and a limit of versions, and
 -- which line is the first that isn't.
-use Rattle.std.specs.Prelude.{◌≡◌, ℕ, ◌+◌, ◌-◌, ◌<◌, ◌≤◌, ◌==◌, min, List, [], ◌∷◌, ◌++◌, length, take, count_by, slice_get, slice_index_or, Some}
+use Rattle.std.specs.Prelude.{◌≡◌, ℕ, ◌+◌, ◌-◌, ◌<◌, ◌≤◌, ◌==◌, min, List, [], ◌∷◌, ◌++◌}
+use Rattle.std.specs.Prelude.{length, take, count_by, slice_get, slice_index_or, Some}
 use Rattle.std.specs.List.{AllByRecursion, zip}
 use Rattle.signal_graph.specs.declared.call.Call.{Call}
 use Rattle.signal_graph.specs.declared.call.Call.TheVariants.{Read}
@@ -22,7 +23,8 @@ count_made graph scripts limit = min limit (count_well_named graph scripts)
 
 -- the next call of a caller behind a log: its first well-named call that the log has not
 abbrev pub next_call : Graph → List (List Call) → List Logged → ℕ → Call
-next_call graph scripts log caller = slice_index_or (well_named graph (script_of scripts (caller - 1))) (length (entries_of caller log)) (Read [])
+next_call graph scripts log caller = slice_index_or (well_named graph (script_of scripts (caller - 1))) (length (entries_of caller log))
+    (Read [])
 
 -- the entry that a line stands for, behind the log of the lines before it
 abbrev pub entry_of : Graph → List (List Call) → List Logged → CallLine → Logged
@@ -71,12 +73,14 @@ pub record IsRight (graph : Graph) (scripts : List (List Call)) (limit : ℕ) (r
   pub made : place < count_made graph scripts limit
       → IsRightCallLine graph scripts (count_made graph scripts limit) (log_of graph scripts (take place report.calls)) line
   pub due : count_made graph scripts limit ≤ place
-      → slice_get (lines_due graph scripts limit (log_of graph scripts (take (count_made graph scripts limit) report.calls))) (place - count_made graph scripts limit) ≡ Some line
+      → slice_get (lines_due graph scripts limit (log_of graph scripts (take (count_made graph scripts limit) report.calls)))
+      (place - count_made graph scripts limit) ≡ Some line
 
 -- the lines of a report before a place are right
 abbrev pub AreRightBefore : Graph → List (List Call) → ℕ → Report → ℕ → Type 0
 AreRightBefore graph scripts limit report end =
-    (place : ℕ) (line : ReportLine) → place < end → slice_get (lines_of report) place ≡ Some line → IsRight graph scripts limit report place line
+    (place : ℕ) (line : ReportLine) → place < end → slice_get (lines_of report) place ≡ Some line
+    → IsRight graph scripts limit report place line
 
 -- every line of a report is right
 abbrev pub AreRight : Graph → List (List Call) → ℕ → Report → Type 0

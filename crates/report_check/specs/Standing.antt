@@ -1,5 +1,6 @@
 -- Where a pass over the lines of calls stands.
-use Rattle.std.specs.Prelude.{◌≡◌, ℕ, ◌+◌, ◌-◌, ◌<◌, ◌≤◌, ◌==◌, Bool, true, false, nat_lt, max, List, [], ◌∷◌, length, drop, count_by, slice_index_or, None}
+use Rattle.std.specs.Prelude.{◌≡◌, ℕ, ◌+◌, ◌-◌, ◌<◌, ◌≤◌, ◌==◌, Bool, true, false, nat_lt, max}
+use Rattle.std.specs.Prelude.{List, [], ◌∷◌, length, drop, count_by, slice_index_or, None}
 use Rattle.signal_graph.specs.declared.call.Call.{Call}
 use Rattle.signal_graph.specs.declared.call.Call.TheVariants.{Read}
 use Rattle.signal_graph.specs.declared.log.Logged.{Logged}
@@ -31,10 +32,12 @@ AreSeats graph scripts log seats = (thread : ℕ) → thread < length scripts �
 
 -- a mark for each version that an entry of the log has
 abbrev pub AreMarks : List Logged → List Bool → Type 0
-AreMarks log marks = (version : ℕ) → version < length marks → slice_index_or marks version true ≡ nat_lt 0 (count_by (λ (entry : Logged). entry.version == version) log)
+AreMarks log marks = (version : ℕ) → version < length marks
+    → slice_index_or marks version true ≡ nat_lt 0 (count_by (λ (entry : Logged). entry.version == version) log)
 
 -- the machine stands in the state after the log, and seats and marks are those of the log
-pub record Stands (graph : Graph) (scripts : List (List Call)) (made : ℕ) (machine : State) (seats : List Seat) (marks : List Bool) (log : List Logged) : Type 0 where
+pub record Stands (graph : Graph) (scripts : List (List Call)) (made : ℕ) (machine : State) (seats : List Seat) (marks : List Bool)
+    (log : List Logged) : Type 0 where
   pub graph_is : machine.graph ≡ graph
   pub machine_at : IsAt machine (state_after graph log)
   pub as_many : length seats ≡ length scripts

@@ -73,7 +73,8 @@ fn check_behind(
     requires made { pass.made ≡ count_made deck.now.graph deck.now.scripts versions }
     requires size { length report.now.calls ≡ pass.made }
     requires through { IsThrough deck.now.graph deck.now.scripts pass.made report.now.calls }
-    requires stands { Stands deck.now.graph deck.now.scripts pass.made pass.machine pass.seats.items pass.marks.items (log_of deck.now.graph deck.now.scripts report.now.calls) }
+    requires stands { Stands deck.now.graph deck.now.scripts pass.made pass.machine pass.seats.items pass.marks.items
+        (log_of deck.now.graph deck.now.scripts report.now.calls) }
     ensures { IfOk result (IsVerdict deck.now.graph deck.now.scripts versions report.now) }
 {
     let Pass {

@@ -1,6 +1,7 @@
 // Which calls can be made, and how many.
 
-ghost use Rattle.std.specs.Prelude.{◌≡◌, ℕ, ◌+◌, ◌<◌, ◌≤◌, ◌^◌, min, if◌then◌else◌, [], ◌∷◌, length, drop, slice_index_or, None, IfSome, IfNone, All};
+ghost use Rattle.std.specs.Prelude.{◌≡◌, ℕ, ◌+◌, ◌<◌, ◌≤◌, ◌^◌, min, if◌then◌else◌, [], ◌∷◌};
+ghost use Rattle.std.specs.Prelude.{length, drop, slice_index_or, None, IfSome, IfNone, All};
 ghost use Rattle.signal_graph.specs.Machine.{misnamed};
 ghost use Rattle.call_log.specs.Made.{is_well_named, well_named};
 ghost use Rattle.serial_machine.specs.Running.{IsWithinLimits};
@@ -59,7 +60,8 @@ pub fn next_well_named(graph: &Graph, calls: &[Call], from: u32) -> Option<u32>
     requires few { length calls.now < 2 ^ 32 }
     ensures within { IfSome result (λ at. at < length calls.now) }
     ensures named { IfSome result (λ at. misnamed graph.now (slice_index_or calls.now at (Call.Read [])) ≡ None) }
-    ensures some { IfSome result (λ at. well_named graph.now (drop from calls.now) ≡ slice_index_or calls.now at (Call.Read []) ∷ well_named graph.now (drop (at + 1) calls.now)) }
+    ensures some { IfSome result (λ at. well_named graph.now (drop from calls.now)
+        ≡ slice_index_or calls.now at (Call.Read []) ∷ well_named graph.now (drop (at + 1) calls.now)) }
     ensures none { IfNone result (well_named graph.now (drop from calls.now) ≡ []) }
 {
     for at in from as usize..calls.len() {

@@ -68,7 +68,8 @@ impl<'d> Pass<'d> {
     /// Before the first line. Takes memory.
     pub fn new(alloc: Global, deck: &'d Deck, made: u32) -> Result<Pass<'d>, OutOfMemory>
         ensures made { IfOk result (λ pass. pass.made ≡ made) }
-        ensures stands { IfOk result (λ pass. Stands deck.now.graph deck.now.scripts made pass.machine pass.seats.items pass.marks.items []) }
+        ensures stands { IfOk result (λ pass.
+            Stands deck.now.graph deck.now.scripts made pass.machine pass.seats.items pass.marks.items []) }
     {
         let machine = Machine::new(alloc, deck.graph())?;
         let seat = Seat {
@@ -93,8 +94,12 @@ impl<'d> Pass<'d> {
         ensures seats { self.new.seats.items ≡ self.old.seats.items }
         ensures marks { self.new.marks.items ≡ self.old.marks.items }
         ensures graph { self.new.machine.graph ≡ self.old.machine.graph }
-        ensures right { (kept : Values) → IsAt self.old.machine kept → IfOk result (λ right. IsTrue right ↔ ((line.now.names ≡ looks_of call.now) × (line.now.reply ≡ reply self.old.machine.graph kept call.now))) }
-        ensures moves { (kept : Values) → IsAt self.old.machine kept → IfOk result (λ right. IsTrue right → IsAt self.new.machine (after self.old.machine.graph kept call.now)) }
+        ensures right { (kept : Values) → IsAt self.old.machine kept
+            → IfOk result
+            (λ right. IsTrue right ↔ ((line.now.names ≡ looks_of call.now)
+            × (line.now.reply ≡ reply self.old.machine.graph kept call.now))) }
+        ensures moves { (kept : Values) → IsAt self.old.machine kept
+            → IfOk result (λ right. IsTrue right → IsAt self.new.machine (after self.old.machine.graph kept call.now)) }
     {
         if !same_names(line.names.as_slice(), call.looks()) {
             return Ok(false);
@@ -112,10 +117,15 @@ impl<'d> Pass<'d> {
         place: usize,
     ) -> Result<bool, OutOfMemory>
         requires within { place < length lines.now }
-        requires stands { Stands deck.now.graph deck.now.scripts self.old.made self.old.machine self.old.seats.items self.old.marks.items (log_of deck.now.graph deck.now.scripts (take place lines.now)) }
+        requires stands { Stands deck.now.graph deck.now.scripts self.old.made self.old.machine self.old.seats.items self.old.marks.items
+            (log_of deck.now.graph deck.now.scripts (take place lines.now)) }
         ensures made { self.new.made ≡ self.old.made }
-        ensures right { (line : CallLine) → slice_get lines.now place ≡ Some line → IfOk result (λ right. IsTrue right ↔ IsRightCall deck.now.graph deck.now.scripts self.old.made (log_of deck.now.graph deck.now.scripts (take place lines.now)) line) }
-        ensures stands { IfOk result (λ right. IsTrue right → Stands deck.now.graph deck.now.scripts self.old.made self.new.machine self.new.seats.items self.new.marks.items (log_of deck.now.graph deck.now.scripts (take (place + 1) lines.now))) }
+        ensures right { (line : CallLine) → slice_get lines.now place ≡ Some line
+            → IfOk result (λ right. IsTrue right ↔ IsRightCall deck.now.graph deck.now.scripts self.old.made
+            (log_of deck.now.graph deck.now.scripts (take place lines.now)) line) }
+        ensures stands { IfOk result (λ right. IsTrue right
+            → Stands deck.now.graph deck.now.scripts self.old.made self.new.machine self.new.seats.items self.new.marks.items
+            (log_of deck.now.graph deck.now.scripts (take (place + 1) lines.now))) }
     {
         let line = &lines[place];
         let scripts = deck.scripts();

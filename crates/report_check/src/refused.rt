@@ -97,7 +97,8 @@ pub fn left_out(
     requires few { length scripts.now < 2 ^ 32 }
     requires few_calls { All (λ calls. length calls < 2 ^ 32) scripts.now }
     requires seats { length seats.now ≡ length scripts.now }
-    ensures { (log : List Logged) → AreSeats graph.now scripts.now log seats.now → IfOk result (λ refused. refused ≡ left_out graph.now limit log scripts.now) }
+    ensures { (log : List Logged) → AreSeats graph.now scripts.now log seats.now
+        → IfOk result (λ refused. refused ≡ left_out graph.now limit log scripts.now) }
 {
     let mut refused = Items::new(alloc);
     for (index, calls) in scripts.as_slice().iter().enumerate() {

@@ -37,8 +37,10 @@ list_data f xs = array (items_of (map f xs))
 -- a fire with its looks
 abbrev pub fire_data : ℕ → ℕ → ℕ → ℕ → Data → Data
 fire_data caller version changed evaluated looks =
-    object (member (codes "changed") (count_data changed) (member (codes "evaluated") (count_data evaluated) (member (codes "kind") (string (codes "fire"))
-    (member (codes "looks") looks (member (codes "thread") (count_data caller) (member (codes "version") (count_data version) no_members))))))
+    object (member (codes "changed") (count_data changed)
+    (member (codes "evaluated") (count_data evaluated) (member (codes "kind") (string (codes "fire"))
+    (member (codes "looks") looks (member (codes "thread") (count_data caller)
+    (member (codes "version") (count_data version) no_members))))))
 
 -- a read with its looks
 abbrev pub read_data : ℕ → ℕ → Data → Data
@@ -48,7 +50,8 @@ read_data caller version looks =
 
 -- a call by its thread, its version, the names that it looked at and its reply
 abbrev pub reply_data : ℕ → ℕ → List (List ℕ) → Reply → Data
-reply_data caller version names (Fired changed evaluated values) = fire_data caller version changed evaluated (list_data look_data (zip names values))
+reply_data caller version names (Fired changed evaluated values) =
+    fire_data caller version changed evaluated (list_data look_data (zip names values))
 reply_data caller version names (Seen values) = read_data caller version (list_data look_data (zip names values))
 
 -- a call that was made, of what a report shows of it
@@ -70,12 +73,14 @@ refused_data refused = why_data refused.caller refused.number refused.why
 -- the number of calls, and three lists
 abbrev pub whole_data : ℕ → Data → Data → Data → Data
 whole_data accepted calls finals refused =
-    object (member (codes "accepted") (count_data accepted) (member (codes "calls") calls (member (codes "finals") finals (member (codes "refused") refused no_members))))
+    object (member (codes "accepted") (count_data accepted)
+    (member (codes "calls") calls (member (codes "finals") finals (member (codes "refused") refused no_members))))
 
 -- the whole report: the keys of each object are in the order of their bytes
 abbrev pub report_data : List Logged → List Refused → List (List ℕ) → List Value → Data
 report_data log refused names finals =
-    whole_data (length log) (list_data call_data (map line_of log)) (list_data look_data (zip names finals)) (list_data refused_data refused)
+    whole_data (length log) (list_data call_data (map line_of log)) (list_data look_data (zip names finals))
+    (list_data refused_data refused)
 
 -- its line: the JSON text without a space, and LF
 abbrev pub json_of : List Logged → List Refused → List (List ℕ) → List Value → List ℕ

@@ -25,7 +25,8 @@ AreLooks looks = AllByRecursion IsLook looks
 
 -- a reply with a value for each name, its counts numbers of 32 bits
 abbrev pub IsReply : List (List ℕ) → Reply → Type 0
-IsReply names (Fired changed evaluated values) = (changed < 2 ^ 32) × (evaluated < 2 ^ 32) × (length values ≡ length names) × AreLooks (zip names values)
+IsReply names (Fired changed evaluated values) = (changed < 2 ^ 32) × (evaluated < 2 ^ 32) × (length values ≡ length names)
+    × AreLooks (zip names values)
 IsReply names (Seen values) = (length values ≡ length names) × AreLooks (zip names values)
 
 pub record IsLine (line : CallLine) : Type 0 where
@@ -52,7 +53,8 @@ AreRefusals lines = AllByRecursion IsRefusal lines
 
 -- the lines of a report before its last one, kind after kind, and what stands behind them
 abbrev pub lines_before : List CallLine → List Refused → List (List ℕ × Value) → List ℕ → List ℕ
-lines_before calls refused finals behind = flat_map call_line calls ++ (flat_map refused_line refused ++ (flat_map final_line finals ++ behind))
+lines_before calls refused finals behind = flat_map call_line calls
+    ++ (flat_map refused_line refused ++ (flat_map final_line finals ++ behind))
 
 -- the text of a report
 abbrev pub printed : Report → List ℕ
@@ -60,7 +62,13 @@ printed report = lines_before report.calls report.refused report.finals (done_li
 
 -- the data of a finished run
 abbrev pub data_of : List Logged → List Refused → List (List ℕ) → List Value → Report
-data_of log refused names finals = record { calls = map line_of log; refused = refused; finals = zip names finals; accepted = length log; refusals = length refused }
+data_of log refused names finals = record {
+  calls = map line_of log;
+  refused = refused;
+  finals = zip names finals;
+  accepted = length log;
+  refusals = length refused;
+}
 
 -- data that a report can have
 pub record IsReport (report : Report) : Type 0 where

@@ -76,7 +76,8 @@ done_line accepted refused = counted (codes "done ") accepted (counted (codes " 
 -- the report of the calls that were made, those that were refused, and the names and last values of all nodes
 abbrev pub report_of : List Logged → List Refused → List (List ℕ) → List Value → List ℕ
 report_of log refused names finals =
-    flat_map call_line (map line_of log) ++ (flat_map refused_line refused ++ (flat_map final_line (zip names finals) ++ done_line (length log) (length refused)))
+    flat_map call_line (map line_of log)
+    ++ (flat_map refused_line refused ++ (flat_map final_line (zip names finals) ++ done_line (length log) (length refused)))
 
 -- a reply is of its call's kind and has a value for each look
 abbrev pub Answers : Call → Reply → Type 0

@@ -4,7 +4,8 @@ ghost use Rattle.std.specs.Prelude.{◌≡◌, ◌≢◌, ℕ, List, ◌++◌, �
 ghost use Rattle.std.specs.List.{zip};
 ghost use Rattle.report_text.specs.Pieces.{Ends};
 ghost use Rattle.report_text.specs.Printed.{IsLook, AreLooks, IsReply, IsLine, IsWhy, IsRefusal, NoCall, NoRefusal, NoFinal, NoDone};
-ghost use Rattle.report_text.specs.Report.{named_value, more_looks, looks_text, fire_looks, fire_text, reply_text, call_line, why_text, refused_line, final_line, done_line};
+ghost use Rattle.report_text.specs.Report.{named_value, more_looks, looks_text, fire_looks, fire_text, reply_text};
+ghost use Rattle.report_text.specs.Report.{call_line, why_text, refused_line, final_line, done_line};
 
 use crate::data::CallLine;
 use crate::pieces::{behind, count, counts, named};
@@ -65,7 +66,8 @@ impl Looks {
 // A look behind a comma and a space, and what stands behind it.
 fn next_look(text: &[u8]) -> Option<(Name, Value, &[u8])>
     ensures text { IfSome result (λ p. (text.now ≡ codes ", " ++ (named_value (p.0, p.1) ++ p.2.now)) × IsLook (p.0, p.1) × Ends p.2.now) }
-    ensures none { IfNone result ((look : List ℕ × Value) (rest : List ℕ) → IsLook look → Ends rest → text.now ≢ codes ", " ++ (named_value look ++ rest)) }
+    ensures none { IfNone result ((look : List ℕ × Value) (rest : List ℕ) → IsLook look → Ends rest
+        → text.now ≢ codes ", " ++ (named_value look ++ rest)) }
     ensures shorter { IfSome result (λ p. length p.2.now < length text.now) }
 {
     let Some(rest) = behind(text, b", ") else {
@@ -85,8 +87,10 @@ fn more_looks<'a>(text: &'a [u8], looks: &mut Looks) -> Result<&'a [u8], OutOfMe
         ≡ looks_text (zip looks.new.names looks.new.values) ++ rest.now) }
     ensures some { IfOk result (λ rest. 0 < length looks.new.names) }
     ensures each { IfOk result (λ rest. length looks.new.values ≡ length looks.new.names) }
-    ensures looks { IfOk result (λ rest. AreLooks (zip looks.old.names looks.old.values) → AreLooks (zip looks.new.names looks.new.values)) }
-    ensures all { IfOk result (λ rest. (more : List (List ℕ × Value)) (after : List ℕ) → AreLooks more → text.now ≡ more_looks more ++ 10 ∷ after → rest.now ≡ 10 ∷ after) }
+    ensures looks { IfOk result (λ rest. AreLooks (zip looks.old.names looks.old.values)
+        → AreLooks (zip looks.new.names looks.new.values)) }
+    ensures all { IfOk result (λ rest. (more : List (List ℕ × Value)) (after : List ℕ) → AreLooks more
+        → text.now ≡ more_looks more ++ 10 ∷ after → rest.now ≡ 10 ∷ after) }
 {
     let mut rest = text;
     while !rest.is_empty() {
@@ -107,8 +111,10 @@ fn read_looks<'a>(text: &'a [u8], looks: &mut Looks) -> Result<&'a [u8], OutOfMe
     ensures text { IfOk result (λ rest. text.now ≡ looks_text (zip looks.new.names looks.new.values) ++ rest.now) }
     ensures each { IfOk result (λ rest. length looks.new.values ≡ length looks.new.names) }
     ensures looks { IfOk result (λ rest. AreLooks (zip looks.new.names looks.new.values)) }
-    ensures all { IfOk result (λ rest. (them : List (List ℕ × Value)) (after : List ℕ) → AreLooks them → text.now ≡ looks_text them ++ 10 ∷ after → rest.now ≡ 10 ∷ after) }
-    ensures some { IfOk result (λ rest. (them : List (List ℕ × Value)) (after : List ℕ) → AreLooks them → them ≢ [] → text.now ≡ looks_text them ++ 10 ∷ after → looks.new.names ≢ []) }
+    ensures all { IfOk result (λ rest. (them : List (List ℕ × Value)) (after : List ℕ) → AreLooks them
+        → text.now ≡ looks_text them ++ 10 ∷ after → rest.now ≡ 10 ∷ after) }
+    ensures some { IfOk result (λ rest. (them : List (List ℕ × Value)) (after : List ℕ) → AreLooks them → them ≢ []
+        → text.now ≡ looks_text them ++ 10 ∷ after → looks.new.names ≢ []) }
 {
     match named(text) {
         Some((name, value, rest)) => {
@@ -125,8 +131,10 @@ fn read_fire_looks<'a>(text: &'a [u8], looks: &mut Looks) -> Result<&'a [u8], St
     ensures text { IfOk result (λ rest. text.now ≡ fire_looks (zip looks.new.names looks.new.values) ++ rest.now) }
     ensures each { IfOk result (λ rest. length looks.new.values ≡ length looks.new.names) }
     ensures looks { IfOk result (λ rest. AreLooks (zip looks.new.names looks.new.values)) }
-    ensures all { IfOk result (λ rest. (them : List (List ℕ × Value)) (after : List ℕ) → AreLooks them → text.now ≡ fire_looks them ++ 10 ∷ after → rest.now ≡ 10 ∷ after) }
-    ensures none { IfErr result (λ stop. stop ≡ Stop.Syntax → (them : List (List ℕ × Value)) (after : List ℕ) → AreLooks them → text.now ≢ fire_looks them ++ 10 ∷ after) }
+    ensures all { IfOk result (λ rest. (them : List (List ℕ × Value)) (after : List ℕ) → AreLooks them
+        → text.now ≡ fire_looks them ++ 10 ∷ after → rest.now ≡ 10 ∷ after) }
+    ensures none { IfErr result (λ stop. stop ≡ Stop.Syntax → (them : List (List ℕ × Value)) (after : List ℕ) → AreLooks them
+        → text.now ≢ fire_looks them ++ 10 ∷ after) }
 {
     let Some(rest) = behind(text, b" look ") else {
         return Ok(text);
@@ -144,7 +152,8 @@ fn fire(alloc: Global, text: &[u8]) -> Result<(Reply, NameList, &[u8]), Stop>
     ensures reply { IfOk result (λ p. IsReply p.1 p.0) }
     ensures all { IfOk result (λ p. (a b : ℕ) (them : List (List ℕ × Value)) (after : List ℕ) → a < 2 ^ 32 → b < 2 ^ 32 → AreLooks them
         → text.now ≡ fire_text a b them ++ 10 ∷ after → p.2.now ≡ 10 ∷ after) }
-    ensures none { IfErr result (λ stop. stop ≡ Stop.Syntax → (a b : ℕ) (them : List (List ℕ × Value)) (after : List ℕ) → a < 2 ^ 32 → b < 2 ^ 32 → AreLooks them
+    ensures none { IfErr result (λ stop. stop ≡ Stop.Syntax → (a b : ℕ) (them : List (List ℕ × Value)) (after : List ℕ) → a < 2 ^ 32
+        → b < 2 ^ 32 → AreLooks them
         → text.now ≢ fire_text a b them ++ 10 ∷ after) }
 {
     let Some((changed, evaluated, rest)) = counts(text, b" fire changed ", b" evaluated ") else {
@@ -168,7 +177,8 @@ fn fire(alloc: Global, text: &[u8]) -> Result<(Reply, NameList, &[u8]), Stop>
 fn read(alloc: Global, text: &[u8]) -> Result<(Reply, NameList, &[u8]), Stop>
     ensures text { IfOk result (λ p. codes " read " ++ text.now ≡ reply_text p.1 p.0 ++ p.2.now) }
     ensures reply { IfOk result (λ p. IsReply p.1 p.0) }
-    ensures all { IfOk result (λ p. (them : List (List ℕ × Value)) (after : List ℕ) → AreLooks them → text.now ≡ looks_text them ++ 10 ∷ after → p.2.now ≡ 10 ∷ after) }
+    ensures all { IfOk result (λ p. (them : List (List ℕ × Value)) (after : List ℕ) → AreLooks them
+        → text.now ≡ looks_text them ++ 10 ∷ after → p.2.now ≡ 10 ∷ after) }
     ensures err { IfErr result (λ stop. stop ≡ Stop.Memory) }
 {
     let mut looks = Looks::new(alloc);
@@ -181,8 +191,10 @@ fn read(alloc: Global, text: &[u8]) -> Result<(Reply, NameList, &[u8]), Stop>
 fn reply(alloc: Global, text: &[u8]) -> Result<(Reply, NameList, &[u8]), Stop>
     ensures text { IfOk result (λ p. text.now ≡ reply_text p.1 p.0 ++ p.2.now) }
     ensures reply { IfOk result (λ p. IsReply p.1 p.0) }
-    ensures all { IfOk result (λ p. (names : List (List ℕ)) (it : Reply) (after : List ℕ) → IsReply names it → text.now ≡ reply_text names it ++ 10 ∷ after → p.2.now ≡ 10 ∷ after) }
-    ensures none { IfErr result (λ stop. stop ≡ Stop.Syntax → (names : List (List ℕ)) (it : Reply) (after : List ℕ) → IsReply names it → text.now ≢ reply_text names it ++ 10 ∷ after) }
+    ensures all { IfOk result (λ p. (names : List (List ℕ)) (it : Reply) (after : List ℕ) → IsReply names it
+        → text.now ≡ reply_text names it ++ 10 ∷ after → p.2.now ≡ 10 ∷ after) }
+    ensures none { IfErr result (λ stop. stop ≡ Stop.Syntax → (names : List (List ℕ)) (it : Reply) (after : List ℕ) → IsReply names it
+        → text.now ≢ reply_text names it ++ 10 ∷ after) }
 {
     match behind(text, b" read ") {
         Some(rest) => read(alloc, rest),

@@ -6,7 +6,8 @@ ghost use Rattle.serde_json.specs.View.{view};
 ghost use Rattle.script_tree.specs.Printed.{fault_text};
 ghost use Rattle.signal_graph.specs.Machine.{looks_of_reply};
 ghost use Rattle.report_text.specs.Report.{line_of, Answers};
-ghost use Rattle.report_text.specs.Json.{value_data, look_data, list_data, fire_data, read_data, reply_data, call_data, why_data, refused_data};
+ghost use Rattle.report_text.specs.Json.{value_data, look_data, list_data, fire_data, read_data};
+ghost use Rattle.report_text.specs.Json.{reply_data, call_data, why_data, refused_data};
 
 use call_log::{Logged, Refused, Why};
 use script_tree::memory::OutOfMemory;

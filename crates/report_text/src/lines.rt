@@ -5,7 +5,8 @@ ghost use Rattle.std.specs.Prelude.{◌≡◌, ◌<◌, ◌^◌, ◌++◌, lengt
 ghost use Rattle.std.specs.List.{zip};
 ghost use Rattle.signal_graph.specs.Machine.{looks_of_reply};
 ghost use Rattle.report_text.specs.Printed.{IsLook, AreLooks, IsReply, IsLine, IsWhy, IsRefusal};
-ghost use Rattle.report_text.specs.Report.{named_value, more_looks, looks_text, fire_looks, fire_text, reply_text, line_of, call_line, why_text, refused_line, final_line, done_line, Answers};
+ghost use Rattle.report_text.specs.Report.{named_value, more_looks, looks_text, fire_looks, fire_text, reply_text};
+ghost use Rattle.report_text.specs.Report.{line_of, call_line, why_text, refused_line, final_line, done_line, Answers};
 
 use itoa::Buffer;
 use script_tree::items::Text;

@@ -1,6 +1,7 @@
 // The pieces of a line. Each is read from the front of a text, and what stands behind it is handed on.
 
-ghost use Rattle.std.specs.Prelude.{◌≡◌, ◌≢◌, ◌↔◌, ℕ, ℤ, List, ◌<◌, ◌≤◌, ◌^◌, ◌++◌, length, IsTrue, true, false, IfSome, IfNone, MatchOption, codes, decimal, FitsSigned, take_while};
+ghost use Rattle.std.specs.Prelude.{◌≡◌, ◌≢◌, ◌↔◌, ℕ, ℤ, List, ◌<◌, ◌≤◌, ◌^◌, ◌++◌, length, IsTrue, true, false};
+ghost use Rattle.std.specs.Prelude.{IfSome, IfNone, MatchOption, codes, decimal, FitsSigned, take_while};
 ghost use Rattle.std.specs.Fmt.{signed_decimal};
 ghost use Rattle.std.specs.Int.{w64};
 ghost use Rattle.std.specs.List.{list_all};
@@ -148,7 +149,8 @@ fn fault(text: &[u8]) -> Option<(Value, &[u8])>
 
 fn plain(text: &[u8]) -> Option<(Value, &[u8])>
     ensures some { IfSome result (λ p. (text.now ≡ value_text p.0 ++ p.1.now) × IsValue p.0 × Ends p.1.now) }
-    ensures none { IfNone result ((value : Value) (rest : List ℕ) → IsValue value → IsPlain value → Ends rest → text.now ≢ value_text value ++ rest) }
+    ensures none { IfNone result ((value : Value) (rest : List ℕ) → IsValue value → IsPlain value → Ends rest
+        → text.now ≢ value_text value ++ rest) }
 {
     let (word, rest) = piece(text);
     match plain_of(word) {

@@ -3,7 +3,8 @@ use Rattle.std.specs.Prelude.{◌≡◌, ℕ, ◌+◌, ◌<◌, ◌≤◌, true,
 use Rattle.script_tree.specs.declared.expr.Unary.{Unary}
 use Rattle.script_tree.specs.declared.expr.Unary.TheVariants.{Negate, Not}
 use Rattle.script_tree.specs.declared.expr.Binary.{Binary}
-use Rattle.script_tree.specs.declared.expr.Binary.TheVariants.{OrElse, Or, And, Equal, Unequal, Less, AtMost, Greater, AtLeast, Add, Subtract, Multiply, Divide, Remainder}
+use Rattle.script_tree.specs.declared.expr.Binary.TheVariants.{OrElse, Or, And, Equal, Unequal, Less, AtMost, Greater}
+use Rattle.script_tree.specs.declared.expr.Binary.TheVariants.{AtLeast, Add, Subtract, Multiply, Divide, Remainder}
 use Rattle.script_grammar.specs.declared.token.Word.{Word}
 use Rattle.script_grammar.specs.declared.token.Word.TheVariants.{Digits, Yes, No, Called, Pick as Picked, Acc as Old}
 use Rattle.script_grammar.specs.declared.token.Token.{Token}

@@ -4,7 +4,8 @@ ghost use Rattle.std.specs.Prelude.{◌≡◌, ◌++◌, ℕ, ◌<◌, ◌≤◌
 ghost use Rattle.script_tree.specs.Tree.{Tree};
 ghost use Rattle.script_tree.specs.Scripts.{all_leaves};
 ghost use Rattle.script_grammar.specs.declared.token.Token.{Token};
-ghost use Rattle.script_grammar.specs.Grammar.{BeginsWithin, IsSyntaxAt, IsTooDeepAt, nested, Spells, Written, IsScript, tokens, tree, word_tree};
+ghost use Rattle.script_grammar.specs.Grammar.{BeginsWithin, IsSyntaxAt, IsTooDeepAt, nested};
+ghost use Rattle.script_grammar.specs.Grammar.{Spells, Written, IsScript, tokens, tree, word_tree};
 ghost use Rattle.script_grammar.specs.Canonical.{canonical};
 ghost use Rattle.script_grammar.specs.Refusals.{IsFirstFaultAt};
 ghost use Rattle.script_grammar.specs.Words.{all_words};
@@ -18,18 +19,21 @@ pub fn one_tree()
 pub fn canonical_spells()
     ensures spells { (t : Tree) → Spells (tokens (canonical t)) t }
     ensures shortest { (text : List Token) (t : Tree) → Spells text t → length (tokens (canonical t)) ≤ length text }
-    ensures shallowest { (limit : ℕ) (text : List Token) (t : Tree) → Spells text t → BeginsWithin limit text → BeginsWithin limit (tokens (canonical t)) }
+    ensures shallowest { (limit : ℕ) (text : List Token) (t : Tree) → Spells text t → BeginsWithin limit text
+        → BeginsWithin limit (tokens (canonical t)) }
 {}
 
 /// The leaves of a tree are the words of each text that spells it, so a test holds of all leaves exactly where it holds
 /// of all words.
 pub fn leaves_are_words()
-    ensures { (test : Tree → Bool) (text : List Token) (t : Tree) → Spells text t → all_leaves test t ≡ all_words (λ word. test (word_tree word)) text }
+    ensures { (test : Tree → Bool) (text : List Token) (t : Tree) → Spells text t
+        → all_leaves test t ≡ all_words (λ word. test (word_tree word)) text }
 {}
 
 /// The nesting of a token depends on no later token: two scripts that begin with the same tokens nest them alike.
 pub fn one_nesting()
-    ensures { (w v : Written) (text a b : List Token) (j : ℕ) → IsScript w → IsScript v → tokens w ≡ text ++ a → tokens v ≡ text ++ b → j < length text → slice_index (nested 0 w) j ≡ slice_index (nested 0 v) j }
+    ensures { (w v : Written) (text a b : List Token) (j : ℕ) → IsScript w → IsScript v → tokens w ≡ text ++ a → tokens v ≡ text ++ b
+        → j < length text → slice_index (nested 0 w) j ≡ slice_index (nested 0 v) j }
 {}
 
 /// At most one answer fits a text, and with at most one place.

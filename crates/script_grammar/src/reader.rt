@@ -64,7 +64,8 @@ fn finished(alloc: Global, stack: &mut Stack, top: Option<Expr>) -> Result<Optio
 /// memory is taken, and says nothing of the tokens.
 pub fn read_script(alloc: Global, tokens: &[Token]) -> Result<Expr, Refusal>
     ensures found { IfOk result (λ x. Spells tokens.now (tree_of x)) }
-    ensures leaves { IfOk result (λ x. (test : Tree → Bool) → all_leaves test (tree_of x) ≡ all_words (λ word. test (word_tree word)) tokens.now) }
+    ensures leaves { IfOk result (λ x. (test : Tree → Bool)
+        → all_leaves test (tree_of x) ≡ all_words (λ word. test (word_tree word)) tokens.now) }
     ensures shallow { IfOk result (λ _. BeginsWithin LEVELS tokens.now) }
     ensures fault { IsRefusal tokens.now result }
 {

@@ -58,7 +58,8 @@ impl Stack {
     /// Takes the innermost one away.
     #[tactic(auto, using(crate::proofs::StackLaws::stack_laws))]
     pub fn pop(&mut self) -> Option<Pending>
-        ensures { MatchOption result ((stack_of self.old.begun.items ≡ []) × (self.new.begun.items ≡ self.old.begun.items)) (λ pending. stack_of self.old.begun.items ≡ pending_of pending ∷ stack_of self.new.begun.items) }
+        ensures { MatchOption result ((stack_of self.old.begun.items ≡ []) × (self.new.begun.items ≡ self.old.begun.items))
+            (λ pending. stack_of self.old.begun.items ≡ pending_of pending ∷ stack_of self.new.begun.items) }
     {
         let pending = self.begun.pop()?;
         self.nesting -= pending.weight();
@@ -80,7 +81,8 @@ impl Stack {
     /// An atom ends the prefix operators before it. Want of memory is the one error, here and below.
     #[tactic(auto, using(crate::proofs::StackLaws::stack_laws))]
     pub fn settle(&mut self, alloc: Global, x: Expr) -> Result<Expr, AllocError>
-        ensures { IfOk result (λ top. Has (stack_of self.new.begun.items) (tree_of top) ≡ settle (stack_of self.old.begun.items) (tree_of x)) }
+        ensures { IfOk result (λ top. Has (stack_of self.new.begun.items) (tree_of top)
+            ≡ settle (stack_of self.old.begun.items) (tree_of x)) }
     {
         let mut x = x;
         while let Some(pending) = self.pop() {
@@ -98,7 +100,8 @@ impl Stack {
     /// The operators that bind at least so take their right side.
     #[tactic(auto, using(crate::proofs::StackLaws::stack_laws))]
     pub fn reduce(&mut self, alloc: Global, level: u8, x: Expr) -> Result<Expr, AllocError>
-        ensures { IfOk result (λ top. Has (stack_of self.new.begun.items) (tree_of top) ≡ reduce level (stack_of self.old.begun.items) (tree_of x)) }
+        ensures { IfOk result (λ top. Has (stack_of self.new.begun.items) (tree_of top)
+            ≡ reduce level (stack_of self.old.begun.items) (tree_of x)) }
     {
         let mut x = x;
         while let Some(pending) = self.pop() {
@@ -122,7 +125,8 @@ impl Stack {
     /// All operators, and all `if`s with their last part, take what stands behind them.
     #[tactic(auto, using(crate::proofs::StackLaws::stack_laws))]
     pub fn close(&mut self, alloc: Global, x: Expr) -> Result<Expr, AllocError>
-        ensures { IfOk result (λ top. Has (stack_of self.new.begun.items) (tree_of top) ≡ close (stack_of self.old.begun.items) (tree_of x)) }
+        ensures { IfOk result (λ top. Has (stack_of self.new.begun.items) (tree_of top)
+            ≡ close (stack_of self.old.begun.items) (tree_of x)) }
     {
         let mut x = x;
         while let Some(pending) = self.pop() {

@@ -30,7 +30,8 @@ fn leaf(word: Word) -> Expr
 }
 
 fn begin(stack: &mut Stack, pending: Pending) -> Result<Next, AllocError>
-    ensures { IfOk result (λ next. next_of next stack.new.begun.items ≡ Some (Wants (pending_of pending ∷ stack_of stack.old.begun.items))) }
+    ensures { IfOk result (λ next. next_of next stack.new.begun.items
+        ≡ Some (Wants (pending_of pending ∷ stack_of stack.old.begun.items))) }
 {
     stack.push(pending)?;
     Ok(Next::WantsMore)
@@ -68,7 +69,8 @@ fn stray(stack: &Stack) -> Step
 }
 
 fn operate(alloc: Global, op: Binary, stack: &mut Stack, x: Expr) -> Result<Step, AllocError>
-    ensures leads { IfOk result (λ s. next_of s.next stack.new.begun.items ≡ operate op (reduce (left op) (stack_of stack.old.begun.items) (tree_of x))) }
+    ensures leads { IfOk result (λ s. next_of s.next stack.new.begun.items
+        ≡ operate op (reduce (left op) (stack_of stack.old.begun.items) (tree_of x))) }
     ensures depth { IfOk result (λ s. s.nesting ≡ count (stack_of stack.old.begun.items)) }
 {
     let nesting = stack.nesting();
@@ -112,7 +114,8 @@ fn on_else(stack: &mut Stack, x: Expr) -> Result<Next, AllocError>
 
 // A token behind an operand. What ends before a closing token no longer nests it.
 fn followed(alloc: Global, stack: &mut Stack, x: Expr, token: Token) -> Result<Step, AllocError>
-    ensures leads { IfOk result (λ s. next_of s.next stack.new.begun.items ≡ step (Has (stack_of stack.old.begun.items) (tree_of x)) token) }
+    ensures leads { IfOk result (λ s. next_of s.next stack.new.begun.items
+        ≡ step (Has (stack_of stack.old.begun.items) (tree_of x)) token) }
     ensures depth { IfOk result (λ s. s.nesting ≡ nesting (Has (stack_of stack.old.begun.items) (tree_of x)) token) }
 {
     match token {

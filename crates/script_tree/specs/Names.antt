@@ -21,7 +21,8 @@ reserved_r_to_t = codes "read" ∷ codes "signal" ∷ codes "source" ∷ codes "
 
 -- a word of the language, which is no name
 abbrev pub is_reserved : List ℕ → Bool
-is_reserved text = (list_any (bytes_eq text) reserved_a_to_f || list_any (bytes_eq text) reserved_i_to_p) || list_any (bytes_eq text) reserved_r_to_t
+is_reserved text = (list_any (bytes_eq text) reserved_a_to_f || list_any (bytes_eq text) reserved_i_to_p)
+    || list_any (bytes_eq text) reserved_r_to_t
 
 -- not empty, and not with a digit first
 abbrev pub starts_well : List ℕ → Bool

@@ -1,5 +1,6 @@
 -- A script as contracts see it: its names and its tree.
-use Rattle.std.specs.Prelude.{◌≡◌, ℕ, ◌≤◌, ◌^◌, pos, negsuc, Bool, true, false, ◌&&◌, IsTrue, nat_lt, if◌then◌else◌, List, [], ◌∷◌, ◌++◌, length, slice_get, unwrap_or, refl}
+use Rattle.std.specs.Prelude.{◌≡◌, ℕ, ◌≤◌, ◌^◌, pos, negsuc, Bool, true, false, ◌&&◌, IsTrue, nat_lt}
+use Rattle.std.specs.Prelude.{if◌then◌else◌, List, [], ◌∷◌, ◌++◌, length, slice_get, unwrap_or, refl}
 use Rattle.std.specs.List.{list_all, list_any}
 use Rattle.std.specs.Str.{bytes_eq}
 use Rattle.std.specs.Coded.{Coded, code_by, coded×, coded_ℕ, coded_list}
@@ -14,7 +15,8 @@ pub record Scripted : Type 0 where
   pub tree : Tree
 
 abbrev pub scripted_code : Coded Scripted
-scripted_code = code_by (List (List ℕ) × Tree) (coded× (coded_list (coded_list coded_ℕ)) tree_code) (λ s. (s.names, s.tree)) (λ p. record { names = p.0; tree = p.1 }) (λ _. refl)
+scripted_code = code_by (List (List ℕ) × Tree) (coded× (coded_list (coded_list coded_ℕ)) tree_code) (λ s. (s.names, s.tree))
+    (λ p. record { names = p.0; tree = p.1 }) (λ _. refl)
 
 -- a test of every leaf of a tree
 abbrev pub all_leaves : (Tree → Bool) → Tree → Bool
@@ -52,7 +54,8 @@ standing names leaf = []
 -- the different names of a list in the order of their first appearance, without those that were seen
 abbrev pub different_names_from : List (List ℕ) → List (List ℕ) → List (List ℕ)
 different_names_from seen [] = []
-different_names_from seen (name ∷ names) = if list_any (bytes_eq name) seen then different_names_from seen names else name ∷ different_names_from (name ∷ seen) names
+different_names_from seen (name ∷ names) = if list_any (bytes_eq name) seen then different_names_from seen names
+    else name ∷ different_names_from (name ∷ seen) names
 
 abbrev pub different_names : List (List ℕ) → List (List ℕ)
 different_names names = different_names_from [] names

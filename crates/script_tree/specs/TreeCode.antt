@@ -4,7 +4,8 @@ use Rattle.std.specs.Coded.{Coded, code_by, coded×, coded_ℕ, coded_ℤ, coded
 use Rattle.std.proofs.Common.{◌∙◌, ap}
 use Rattle.script_tree.specs.declared.expr.Unary.TheVariants.{Negate, Not}
 use Rattle.script_tree.specs.declared.expr.Binary.{Binary}
-use Rattle.script_tree.specs.declared.expr.Binary.TheVariants.{OrElse, Or, And, Equal, Unequal, Less, AtMost, Greater, AtLeast, Add, Subtract, Multiply, Divide, Remainder}
+use Rattle.script_tree.specs.declared.expr.Binary.TheVariants.{OrElse, Or, And, Equal, Unequal, Less, AtMost, Greater}
+use Rattle.script_tree.specs.declared.expr.Binary.TheVariants.{AtLeast, Add, Subtract, Multiply, Divide, Remainder}
 use Rattle.script_tree.specs.Tree.{Tree, Number, Constant, Input, Pick, Acc, Apply, Join, If}
 
 abbrev pub Cells : Type 0
@@ -32,7 +33,8 @@ nth zero (op ∷ ops) = op
 nth (suc n) (op ∷ ops) = nth n ops
 
 abbrev pub operator : ℕ → Binary
-operator n = nth n (OrElse ∷ Or ∷ And ∷ Equal ∷ Unequal ∷ Less ∷ AtMost ∷ Greater ∷ AtLeast ∷ Add ∷ Subtract ∷ Multiply ∷ Divide ∷ Remainder ∷ [])
+operator n = nth n (OrElse ∷ Or ∷ And ∷ Equal ∷ Unequal ∷ Less ∷ AtMost ∷ Greater ∷ AtLeast ∷ Add ∷ Subtract ∷ Multiply ∷ Divide
+    ∷ Remainder ∷ [])
 
 abbrev pub cells : Tree → Cells
 cells (Number z) = (0, z) ∷ []

@@ -27,6 +27,8 @@ FoldsOver graph n m = (n < length graph.nodes) × (kind_of (node_at graph n) ≡
 -- no source is set by two threads; each input of a fold is a source; and those of one fold that are set at all are set
 -- by one thread
 pub record Separate (graph : Graph) (scripts : List (List Call)) : Type 0 where
-  pub sources : (m i j : ℕ) → m < length graph.nodes → is_source (node_at graph m) ≡ true → ThreadSets graph scripts i m → ThreadSets graph scripts j m → i ≡ j
+  pub sources : (m i j : ℕ) → m < length graph.nodes → is_source (node_at graph m) ≡ true → ThreadSets graph scripts i m
+      → ThreadSets graph scripts j m → i ≡ j
   pub inputs : (n m : ℕ) → FoldsOver graph n m → is_source (node_at graph m) ≡ true
-  pub folds : (n m l i j : ℕ) → FoldsOver graph n m → FoldsOver graph n l → ThreadSets graph scripts i m → ThreadSets graph scripts j l → i ≡ j
+  pub folds : (n m l i j : ℕ) → FoldsOver graph n m → FoldsOver graph n l → ThreadSets graph scripts i m → ThreadSets graph scripts j l
+      → i ≡ j

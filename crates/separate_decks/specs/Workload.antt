@@ -1,6 +1,7 @@
 -- A deck for each number: 64 sources, 8 folds, 24 rows of five signals and a choose, and 8 threads of 500 calls. Thread i,
 -- counted from 0, sets the sources s(8i) to s(8i + 7), and the fold f(i) goes over two of these.
-use Rattle.std.specs.Prelude.{◌≡◌, ℕ, zero, suc, ◌+◌, ◌*◌, pos, ◌==◌, if◌then◌else◌, List, [], ◌∷◌, ◌++◌, map, None, codes, decimal, slice_index_or}
+use Rattle.std.specs.Prelude.{◌≡◌, ℕ, zero, suc, ◌+◌, ◌*◌, pos, ◌==◌, if◌then◌else◌, List}
+use Rattle.std.specs.Prelude.{[], ◌∷◌, ◌++◌, map, None, codes, decimal, slice_index_or}
 use Rattle.script_tree.specs.declared.value.Value.TheVariants.{Int}
 use Rattle.script_tree.specs.declared.expr.Binary.TheVariants.{Add, Subtract, Remainder, Less}
 use Rattle.script_tree.specs.Tree.{Tree, Number, Input, Acc, Join, If}

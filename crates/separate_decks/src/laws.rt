@@ -20,7 +20,12 @@ use signal_graph::laws;
 /// What a source or a fold over sources keeps after a log rests on the calls of one caller alone, in their order, where
 /// the calls of all others set nothing that it follows.
 pub fn rests_on_owner()
-    ensures { (graph : Graph) → IsGraph graph → (n : ℕ) → n < length graph.nodes → Keeps (node_at graph n) → AreSources graph (followed_by (node_at graph n) n) → (caller : ℕ) (one other : List Logged) → AreNamed graph one → AreNamed graph other → OthersSetNone graph (followed_by (node_at graph n) n) caller one → OthersSetNone graph (followed_by (node_at graph n) n) caller other → calls_in (entries_of caller one) ≡ calls_in (entries_of caller other) → at (state_after graph one) n ≡ at (state_after graph other) n }
+    ensures { (graph : Graph) → IsGraph graph → (n : ℕ) → n < length graph.nodes → Keeps (node_at graph n)
+        → AreSources graph (followed_by (node_at graph n) n) → (caller : ℕ) (one other : List Logged) → AreNamed graph one
+        → AreNamed graph other → OthersSetNone graph (followed_by (node_at graph n) n) caller one
+        → OthersSetNone graph (followed_by (node_at graph n) n) caller other
+        → calls_in (entries_of caller one) ≡ calls_in (entries_of caller other)
+        → at (state_after graph one) n ≡ at (state_after graph other) n }
 {
     laws::literal();
     laws::values_are();
@@ -29,7 +34,9 @@ pub fn rests_on_owner()
 /// Where a deck is separate and there are as many versions as well-named calls, all merges of its scripts have the same
 /// final values, whatever the order of their calls.
 pub fn merges_end_alike()
-    ensures { (graph : Graph) → IsGraph graph → (scripts : List (List Call)) → Separate graph scripts → (limit : ℕ) → count_well_named graph scripts ≤ limit → (one other : List Logged) (left rest : List Refused) → Merge graph scripts limit one left → Merge graph scripts limit other rest → finals graph one ≡ finals graph other }
+    ensures { (graph : Graph) → IsGraph graph → (scripts : List (List Call)) → Separate graph scripts → (limit : ℕ)
+        → count_well_named graph scripts ≤ limit → (one other : List Logged) (left rest : List Refused) → Merge graph scripts limit one left
+        → Merge graph scripts limit other rest → finals graph one ≡ finals graph other }
 {
     laws::literal();
     laws::values_are();
@@ -37,7 +44,9 @@ pub fn merges_end_alike()
 
 /// These final values are those after all well-named calls of thread 1, then all of thread 2, and so on.
 pub fn ends_as_serial()
-    ensures { (graph : Graph) → IsGraph graph → (scripts : List (List Call)) → Separate graph scripts → (limit : ℕ) → count_well_named graph scripts ≤ limit → (log : List Logged) (refused : List Refused) → Merge graph scripts limit log refused → finals graph log ≡ serial_finals graph scripts }
+    ensures { (graph : Graph) → IsGraph graph → (scripts : List (List Call)) → Separate graph scripts → (limit : ℕ)
+        → count_well_named graph scripts ≤ limit → (log : List Logged) (refused : List Refused) → Merge graph scripts limit log refused
+        → finals graph log ≡ serial_finals graph scripts }
 {
     laws::literal();
     laws::values_are();
@@ -49,7 +58,8 @@ pub fn workload_is_separate()
     ensures declared { (number : ℕ) → AreAccepted no_nodes (workload_declarations number) }
     ensures graph { (number : ℕ) → IsGraph (workload_graph number) }
     ensures separate { (number : ℕ) → Separate (workload_graph number) (workload_scripts number) }
-    ensures named { (number : ℕ) → AllByRecursion (λ calls. AllByRecursion (λ call. misnamed (workload_graph number) call ≡ None) calls) (workload_scripts number) }
+    ensures named { (number : ℕ) → AllByRecursion (λ calls. AllByRecursion (λ call. misnamed (workload_graph number) call ≡ None) calls)
+        (workload_scripts number) }
     ensures count { (number : ℕ) → count_well_named (workload_graph number) (workload_scripts number) ≡ 4000 }
 {}
 
@@ -58,14 +68,20 @@ pub fn workload_has_sizes()
     ensures nodes { (number : ℕ) → length (workload_graph number).nodes ≡ 216 }
     ensures threads { (number : ℕ) → length (workload_scripts number) ≡ 8 }
     ensures calls { (number : ℕ) → AllByRecursion (λ (calls : List Call). length calls ≡ 500) (workload_scripts number) }
-    ensures names { (number : ℕ) → AllByRecursion (λ calls. AllByRecursion (λ call. (length (sets_of call) ≤ 1) × (length (looks_of call) ≡ 1)) calls) (workload_scripts number) }
+    ensures names { (number : ℕ) → AllByRecursion
+        (λ calls. AllByRecursion (λ call. (length (sets_of call) ≤ 1) × (length (looks_of call) ≡ 1)) calls) (workload_scripts number) }
 {}
 
 /// For each number all merges of all calls of the workload's deck have the same final values, those of the calls of one
 /// thread after the other.
 pub fn workload_ends_alike()
-    ensures alike { (number limit : ℕ) → 4000 ≤ limit → (one other : List Logged) (left rest : List Refused) → Merge (workload_graph number) (workload_scripts number) limit one left → Merge (workload_graph number) (workload_scripts number) limit other rest → finals (workload_graph number) one ≡ finals (workload_graph number) other }
-    ensures serial { (number limit : ℕ) → 4000 ≤ limit → (log : List Logged) (refused : List Refused) → Merge (workload_graph number) (workload_scripts number) limit log refused → finals (workload_graph number) log ≡ serial_finals (workload_graph number) (workload_scripts number) }
+    ensures alike { (number limit : ℕ) → 4000 ≤ limit → (one other : List Logged) (left rest : List Refused)
+        → Merge (workload_graph number) (workload_scripts number) limit one left
+        → Merge (workload_graph number) (workload_scripts number) limit other rest
+        → finals (workload_graph number) one ≡ finals (workload_graph number) other }
+    ensures serial { (number limit : ℕ) → 4000 ≤ limit → (log : List Logged) (refused : List Refused)
+        → Merge (workload_graph number) (workload_scripts number) limit log refused
+        → finals (workload_graph number) log ≡ serial_finals (workload_graph number) (workload_scripts number) }
 {
     merges_end_alike();
     ends_as_serial();

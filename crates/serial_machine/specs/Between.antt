@@ -30,5 +30,6 @@ abbrev pub looked_in : Graph → Values → List (List ℕ) → List Value
 looked_in graph now looks = map (λ name. at now (number_of graph name)) looks
 
 abbrev pub reply_between : Graph → Values → Values → Call → Reply
-reply_between graph before now (Fire sets looks) = Fired (count_changed graph before now) (count_evaluated graph before now) (looked_in graph now looks)
+reply_between graph before now (Fire sets looks) =
+    Fired (count_changed graph before now) (count_evaluated graph before now) (looked_in graph now looks)
 reply_between graph before now (Read looks) = Seen (looked_in graph now looks)

@@ -38,12 +38,14 @@ called graph limit caller number call progress = record {
 -- the calls of a caller from a number on
 abbrev pub all_called : Graph → ℕ → ℕ → ℕ → List Call → Progress → Progress
 all_called graph limit caller number [] progress = progress
-all_called graph limit caller number (call ∷ calls) progress = all_called graph limit caller (number + 1) calls (called graph limit caller number call progress)
+all_called graph limit caller number (call ∷ calls) progress =
+    all_called graph limit caller (number + 1) calls (called graph limit caller number call progress)
 
 -- all calls of the callers from a number on, caller after caller
 abbrev pub all_run : Graph → ℕ → ℕ → List (List Call) → Progress → Progress
 all_run graph limit caller [] progress = progress
-all_run graph limit caller (calls ∷ scripts) progress = all_run graph limit (caller + 1) scripts (all_called graph limit caller 1 calls progress)
+all_run graph limit caller (calls ∷ scripts) progress =
+    all_run graph limit (caller + 1) scripts (all_called graph limit caller 1 calls progress)
 
 -- where every run begins
 abbrev pub nothing_yet : Progress

@@ -23,4 +23,5 @@ HaveMore lists more = (m n : ℕ) → is_in n (slice_index_or lists m []) ≡ tr
 -- lists of nodes for each node: the one of a node has every choose that selects among nodes of which that is one
 pub record AreChoosers (graph : Graph) (lists : List (List ℕ)) : Type 0 where
   pub as_many : length lists ≡ length graph.nodes
-  pub all : (m n : ℕ) → m < length graph.nodes → n < length graph.nodes → is_in m (candidates_of (node_at graph n)) ≡ true → is_in n (slice_index_or lists m []) ≡ true
+  pub all : (m n : ℕ) → m < length graph.nodes → n < length graph.nodes → is_in m (candidates_of (node_at graph n)) ≡ true
+      → is_in n (slice_index_or lists m []) ≡ true

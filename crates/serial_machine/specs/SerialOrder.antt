@@ -41,7 +41,8 @@ pub record IsSerialLog (graph : Graph) (scripts : List (List Call)) (limit : ℕ
   pub versions : CountsVersions log
 
 -- what a run of all scripts leaves, thread after thread: its log, what it refused, and all values behind it
-pub record IsSerialRun (graph : Graph) (scripts : List (List Call)) (limit : ℕ) (log : List Logged) (refused : List Refused) (last : List Value) : Type 0 where
+pub record IsSerialRun (graph : Graph) (scripts : List (List Call)) (limit : ℕ) (log : List Logged) (refused : List Refused)
+    (last : List Value) : Type 0 where
   pub serial : IsSerialLog graph scripts limit log
   pub legal : Legal graph log
   pub merge : Merge graph scripts limit log refused

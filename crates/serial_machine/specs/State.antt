@@ -28,7 +28,8 @@ pub record IsKept (graph : Graph) (all : Values) (picked : List (List (Option �
   pub picks : ArePicks graph all picked
 
 -- and what stands beside that for the next fire: the same values, the chooses of each node, and room for a mark of each
-pub record IsReady (graph : Graph) (all : Values) (picked : List (List (Option ℕ))) (before : Values) (choosers : List (List ℕ)) (marks : List Bool) : Type 0 where
+pub record IsReady (graph : Graph) (all : Values) (picked : List (List (Option ℕ))) (before : Values) (choosers : List (List ℕ))
+    (marks : List Bool) : Type 0 where
   pub kept : IsKept graph all picked
   pub copied : before ≡ all
   pub reached : AreChoosers graph choosers

@@ -41,7 +41,8 @@ fn add_chooser(
 ) -> Result<(), OutOfMemory>
     ensures len { OnOk result (length lists.new.items ≡ length lists.old.items) }
     ensures kept { OnOk result (HaveMore lists.old.items lists.new.items) }
-    ensures added { OnOk result ((m : ℕ) → m < length lists.old.items → is_in m candidates.now ≡ true → is_in node (slice_index_or lists.new.items m []) ≡ true) }
+    ensures added { OnOk result ((m : ℕ) → m < length lists.old.items → is_in m candidates.now ≡ true
+        → is_in node (slice_index_or lists.new.items m []) ≡ true) }
 {
     for candidate in candidates {
         add_to(lists, *candidate, node)?;
@@ -57,7 +58,8 @@ fn add_selectors(
 ) -> Result<(), OutOfMemory>
     ensures len { OnOk result (length lists.new.items ≡ length lists.old.items) }
     ensures kept { OnOk result (HaveMore lists.old.items lists.new.items) }
-    ensures added { OnOk result ((m : ℕ) → m < length lists.old.items → is_in m (candidates_of_all selectors.now) ≡ true → is_in node (slice_index_or lists.new.items m []) ≡ true) }
+    ensures added { OnOk result ((m : ℕ) → m < length lists.old.items → is_in m (candidates_of_all selectors.now) ≡ true
+        → is_in node (slice_index_or lists.new.items m []) ≡ true) }
 {
     for selector in selectors {
         add_chooser(lists, selector.candidates.as_slice(), node)?;

@@ -1,6 +1,7 @@
 // The machine.
 
-ghost use Rattle.std.specs.Prelude.{◌≡◌, ℕ, false, ◌<◌, ◌≤◌, [], List, length, map, take, slice_set, vec_capacity, vec_len, None, IfOk, OnOk, OnErr, MatchResult};
+ghost use Rattle.std.specs.Prelude.{◌≡◌, ℕ, false, ◌<◌, ◌≤◌, [], List, length, map, take, slice_set};
+ghost use Rattle.std.specs.Prelude.{vec_capacity, vec_len, None, IfOk, OnOk, OnErr, MatchResult};
 ghost use Rattle.script_tree.specs.declared.limits.TheConstants.{SETS, LOOKS};
 ghost use Rattle.script_tree.specs.declared.value.Value.{Value};
 ghost use Rattle.signal_graph.specs.Graph.{Graph, IsGraph, number_of};
@@ -77,7 +78,8 @@ fn apply(sets: &[(Name, Value)], nodes: &[u32], values: &mut Vec<Value>, marks: 
     ensures size { length values.new.items ≡ length values.old.items }
     ensures marks { length marks.new ≡ length marks.old }
     ensures marked { (n : ℕ) → is_marked marks.new n ≡ false → at values.new.items n ≡ at values.old.items n }
-    ensures sets { (graph : Graph) → nodes.now ≡ map (λ s. number_of graph s.0) sets.now → values.new.items ≡ with_sets graph values.old.items sets.now }
+    ensures sets { (graph : Graph) → nodes.now ≡ map (λ s. number_of graph s.0) sets.now
+        → values.new.items ≡ with_sets graph values.old.items sets.now }
 {
     for (index, set) in sets.iter().enumerate() {
         let node = nodes[index] as usize;
@@ -216,8 +218,11 @@ impl<'g> Machine<'g> {
     ) -> Result<Reply, OutOfMemory>
         requires { nodes.now ≡ map (λ s. number_of self.old.graph s.0) sets.now }
         ensures graph { self.new.graph ≡ self.old.graph }
-        ensures replies { (names : List (List ℕ)) → looks.now ≡ map (number_of self.old.graph) names → IfOk result (λ answer. answer ≡ reply_between self.old.graph self.old.all (after_call self.old.graph self.old.all (Call.Fire sets.now names)) (Call.Fire sets.now names)) }
-        ensures moves { (names : List (List ℕ)) → OnOk result (self.new.all ≡ after_call self.old.graph self.old.all (Call.Fire sets.now names)) }
+        ensures replies { (names : List (List ℕ)) → looks.now ≡ map (number_of self.old.graph) names
+            → IfOk result (λ answer. answer ≡ reply_between self.old.graph self.old.all
+            (after_call self.old.graph self.old.all (Call.Fire sets.now names)) (Call.Fire sets.now names)) }
+        ensures moves { (names : List (List ℕ))
+            → OnOk result (self.new.all ≡ after_call self.old.graph self.old.all (Call.Fire sets.now names)) }
         ensures err { OnErr result (self.new ≡ self.old) }
     {
         let room = Vec::with_capacity(self.alloc, looks.len())?;

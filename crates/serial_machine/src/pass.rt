@@ -42,7 +42,8 @@ fn counted(count: u32, test: bool) -> u32
 #[tactic(auto, using(crate::proofs::OnePass::fold_value))]
 fn step(node: &Node, old: Value, earlier: &[Value]) -> Evaluated
     requires { CanEvaluate node.now }
-    ensures value { (before : Values) (set : Value) → is_evaluated before earlier.now node.now ≡ true → result.value ≡ new_value node.now set old before earlier.now }
+    ensures value { (before : Values) (set : Value) → is_evaluated before earlier.now node.now ≡ true
+        → result.value ≡ new_value node.now set old before earlier.now }
     ensures picks { result.picks ≡ picks_of node.now earlier.now }
 {
     match node {
@@ -71,7 +72,8 @@ fn renew(
     requires follow { values graph.now before.now ≡ before.now }
     requires picked { slice_index_or picks.old.items number [] ≡ picks_of (node_at graph.now number) before.now }
     ensures evaluated { result ≡ is_evaluated before.now (take number now.old.items) (node_at graph.now number) }
-    ensures value { now.new.items ≡ slice_set now.old.items number (new_value (node_at graph.now number) (at now.old.items number) (at before.now number) before.now (take number now.old.items)) }
+    ensures value { now.new.items ≡ slice_set now.old.items number
+        (new_value (node_at graph.now number) (at now.old.items number) (at before.now number) before.now (take number now.old.items)) }
     ensures picks { picks.new.items ≡ slice_set picks.old.items number (picks_of (node_at graph.now number) (take number now.old.items)) }
 {
     let node = graph.node(number);
@@ -98,7 +100,8 @@ fn tell(graph: &Graph, choosers: &[Items<u32>], number: u32, moved: bool, marks:
     requires size { length marks.old ≡ length graph.now.nodes }
     ensures size { length marks.new ≡ length marks.old }
     ensures more { AreMore marks.old marks.new }
-    ensures told { moved ≡ true → (n : ℕ) → n < length graph.now.nodes → reads (node_at graph.now n) number ≡ true → is_marked marks.new n ≡ true }
+    ensures told { moved ≡ true → (n : ℕ) → n < length graph.now.nodes → reads (node_at graph.now n) number ≡ true
+        → is_marked marks.new n ≡ true }
 {
     if moved {
         add_all(graph.static_outs(number), marks);

@@ -43,9 +43,15 @@ impl<'g> Model for Run<'g> {
 
     ghost coded = { Prim.hlevel (codes, tree_code) };
 
-    ghost view = { λ run. record { graph = run.machine.graph; limit = run.limit; capacity = length run.log.entries + run.log.spare; progress = record { log = run.log.entries; refused = run.refused } } };
+    ghost view = { λ run. record {
+      graph = run.machine.graph;
+      limit = run.limit;
+      capacity = length run.log.entries + run.log.spare;
+      progress = record { log = run.log.entries; refused = run.refused };
+    } };
 
-    ghost invariant = { λ run. IsAt run.machine (state_after run.machine.graph run.log.entries) × (length run.log.entries ≤ run.limit) × (run.limit < 2 ^ 32) };
+    ghost invariant = { λ run. IsAt run.machine (state_after run.machine.graph run.log.entries) × (length run.log.entries ≤ run.limit)
+        × (run.limit < 2 ^ 32) };
 }
 
 impl<'g> Run<'g> {
@@ -98,7 +104,8 @@ impl<'g> Run<'g> {
         ensures graph { self.new.graph ≡ self.old.graph }
         ensures limit { self.new.limit ≡ self.old.limit }
         ensures capacity { OnOk result (self.new.capacity ≡ self.old.capacity) }
-        ensures log { OnOk result (self.new.progress.log ≡ self.old.progress.log ++ entry_of self.old.graph caller self.old.progress.log call ∷ []) }
+        ensures log { OnOk result (self.new.progress.log ≡ self.old.progress.log
+            ++ entry_of self.old.graph caller self.old.progress.log call ∷ []) }
         ensures refused { self.new.progress.refused ≡ self.old.progress.refused }
     {
         let version = self.log.len() + 1;

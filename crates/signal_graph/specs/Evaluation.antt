@@ -21,4 +21,5 @@ abbrev pub CanEvaluate : Node → Type 0
 CanEvaluate (Source start) = Unit {0}
 CanEvaluate (Signal script inputs) = CanRun script inputs
 CanEvaluate (Fold start script inputs) = CanRun script inputs
-CanEvaluate (Choose selectors body inputs) = AllByRecursion CanSelect selectors × (length selectors ≤ SELECTORS) × BodyFits (length selectors) body
+CanEvaluate (Choose selectors body inputs) = AllByRecursion CanSelect selectors × (length selectors ≤ SELECTORS)
+    × BodyFits (length selectors) body

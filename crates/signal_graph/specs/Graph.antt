@@ -1,5 +1,6 @@
 -- A graph: the names of its nodes and the nodes, in the order of declaration. Node numbers count from 0.
-use Rattle.std.specs.Prelude.{◌≡◌, ℕ, ◌+◌, ◌<◌, ◌≤◌, Bool, true, false, IsTrue, ◌&&◌, not, ◌==◌, if◌then◌else◌, List, [], ◌∷◌, ◌++◌, length, map, filter, Option, Some, None, slice_index_or}
+use Rattle.std.specs.Prelude.{◌≡◌, ℕ, ◌+◌, ◌<◌, ◌≤◌, Bool, true, false, IsTrue, ◌&&◌, not, ◌==◌, if◌then◌else◌}
+use Rattle.std.specs.Prelude.{List, [], ◌∷◌, ◌++◌, length, map, filter, Option, Some, None, slice_index_or}
 use Rattle.std.specs.List.{AllByRecursion, list_any}
 use Rattle.std.specs.Str.{bytes_eq}
 use Rattle.script_tree.specs.declared.limits.TheConstants.{NODES, INPUTS, CANDIDATES, SELECTORS}
@@ -149,7 +150,8 @@ IsNode names n (Signal script inputs) =
 IsNode names n (Fold start script inputs) =
     IsTrue (is_start start) × HasNoPicks script × Resolves names script inputs × AllByRecursion (λ m. m < n) inputs × Kept script
 IsNode names n (Choose selectors body inputs) =
-    (1 ≤ length selectors) × (length selectors ≤ SELECTORS) × AllByRecursion (IsSelector names n) selectors × BodyFits (length selectors) body
+    (1 ≤ length selectors) × (length selectors ≤ SELECTORS) × AllByRecursion (IsSelector names n) selectors
+    × BodyFits (length selectors) body
     × (inputs ≡ different (inputs_of_all selectors)) × (length inputs ≤ INPUTS) × BodyKept body
 
 abbrev pub AreNodes : List (List ℕ) → ℕ → List Node → Type 0

@@ -1,5 +1,6 @@
 -- The value of each node, from what the sources and folds keep.
-use Rattle.std.specs.Prelude.{ℕ, pos, negsuc, List, [], ◌∷◌, ◌++◌, length, map, Option, Some, None, Result, Ok, Err, slice_get, slice_index_or}
+use Rattle.std.specs.Prelude.{ℕ, pos, negsuc, List, [], ◌∷◌, ◌++◌, length, map, Option}
+use Rattle.std.specs.Prelude.{Some, None, Result, Ok, Err, slice_get, slice_index_or}
 use Rattle.script_tree.specs.declared.value.Fault.{Fault}
 use Rattle.script_tree.specs.declared.value.Fault.TheVariants.{Kind, NoChoice}
 use Rattle.script_tree.specs.declared.value.Value.{Value}

@@ -139,7 +139,8 @@ impl GraphBuilder {
     pub fn add(&mut self, name: Name, kind: DeclKind) -> Result<u32, GraphFault>
         requires { IsDeclaration kind }
         ensures ok { IfOk result (λ n. (n ≡ length self.old.nodes) × (self.new ≡ with_declaration self.old name kind)) }
-        ensures causes { MatchOption (refusal self.old name kind) (IfErr result (λ fault. fault ≡ GraphFault.Memory)) (λ fault. result ≡ Err fault) }
+        ensures causes { MatchOption (refusal self.old name kind) (IfErr result (λ fault. fault ≡ GraphFault.Memory))
+            (λ fault. result ≡ Err fault) }
         ensures err { OnErr result (self.new ≡ self.old) }
     {
         let number = self.len();

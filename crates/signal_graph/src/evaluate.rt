@@ -6,7 +6,8 @@ ghost use Rattle.script_tree.specs.declared.limits.TheConstants.{INPUTS, SELECTO
 ghost use Rattle.script_tree.specs.Scripts.{HasNoPicks, IsBody};
 ghost use Rattle.signal_graph.specs.declared.node.Selector.{Selector};
 ghost use Rattle.signal_graph.specs.Graph.{BodyFits};
-ghost use Rattle.signal_graph.specs.Values.{Values, at, candidate, select, run, selected, pick_of, pick, first_pick, choose_value, node_value, taken, picks_of, start_value};
+ghost use Rattle.signal_graph.specs.Values.{Values, at, candidate, select, run, selected, pick_of, pick};
+ghost use Rattle.signal_graph.specs.Values.{first_pick, choose_value, node_value, taken, picks_of, start_value};
 ghost use Rattle.signal_graph.specs.Evaluation.{CanRun, CanSelect, CanEvaluate};
 
 use crate::node::{Node, Selector};
@@ -133,7 +134,8 @@ impl Selector {
 #[tactic(auto, using(crate::proofs::Values::first_of_picks))]
 fn value_of_picks(picked: &[Value], body: &Option<Script>) -> Value
     requires { BodyFits (length picked.now) body.now }
-    ensures { (selectors : List Selector) (values : Values) → picked.now ≡ map (pick values) selectors → result ≡ choose_value selectors body.now values }
+    ensures { (selectors : List Selector) (values : Values) → picked.now ≡ map (pick values) selectors
+        → result ≡ choose_value selectors body.now values }
 {
     match body {
         None => value_at(picked, 0),

@@ -1,8 +1,10 @@
 // Graphs.
 
-ghost use Rattle.std.specs.Prelude.{◌≡◌, ◌≢◌, ℕ, ◌<◌, ◌≤◌, if◌then◌else◌, length, slice_get, option_copied, Some, None, IsSome, IfSome, IfNone, IfOk};
+ghost use Rattle.std.specs.Prelude.{◌≡◌, ◌≢◌, ℕ, ◌<◌, ◌≤◌, if◌then◌else◌, length, slice_get};
+ghost use Rattle.std.specs.Prelude.{option_copied, Some, None, IsSome, IfSome, IfNone, IfOk};
 ghost use Rattle.signal_graph.specs.Graph as definition;
-ghost use Rattle.signal_graph.specs.Graph.{IsGraph, IsNode, node_at, name_at, number_of, kind_of, script_of, inputs_of, body_of, selectors_of, static_outs};
+ghost use Rattle.signal_graph.specs.Graph.{IsGraph, IsNode, node_at, name_at, number_of, kind_of};
+ghost use Rattle.signal_graph.specs.Graph.{script_of, inputs_of, body_of, selectors_of, static_outs};
 ghost use Rattle.signal_graph.specs.Values.{val, start, picks};
 ghost use Rattle.signal_graph.specs.Machine.{names_node};
 

@@ -37,7 +37,8 @@ fn add_outs(lists: &mut Vec<Items<u32>>, inputs: &[u32], node: u32) -> Result<()
     requires known { All (λ m. m < vec_len lists.old) inputs.now }
     requires below { (m : ℕ) → m < vec_len lists.old → All (λ n. n < node) (slice_index_or lists.old.items m []) }
     ensures len { OnOk result (vec_len lists.new ≡ vec_len lists.old) }
-    ensures added { OnOk result ((m : ℕ) → m < vec_len lists.old → slice_index_or lists.new.items m [] ≡ slice_index_or lists.old.items m [] ++ (if is_in m inputs.now then node ∷ [] else [])) }
+    ensures added { OnOk result ((m : ℕ) → m < vec_len lists.old
+        → slice_index_or lists.new.items m [] ≡ slice_index_or lists.old.items m [] ++ (if is_in m inputs.now then node ∷ [] else [])) }
 {
     for input in inputs {
         add_once(&mut lists[*input as usize], node)?;
@@ -50,7 +51,8 @@ pub(crate) fn static_outs(alloc: Global, nodes: &[Node]) -> Result<Vec<Items<u32
     requires earlier { NamesEarlier nodes.now }
     requires few { length nodes.now ≤ NODES }
     ensures len { IfOk result (λ lists. vec_len lists ≡ length nodes.now) }
-    ensures outs { IfOk result (λ lists. (m : ℕ) → m < length nodes.now → slice_index_or lists.items m [] ≡ static_outs (unnamed nodes.now) m) }
+    ensures outs { IfOk result (λ lists. (m : ℕ) → m < length nodes.now
+        → slice_index_or lists.items m [] ≡ static_outs (unnamed nodes.now) m) }
 {
     let mut lists = empty_lists(alloc, nodes.len())?;
     for (number, node) in nodes.iter().enumerate() {

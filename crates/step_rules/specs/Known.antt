@@ -3,7 +3,8 @@ use Rattle.std.specs.Prelude.{ℕ, Bool, true, ◌&&◌, nat_lt, List, [], ◌�
 use Rattle.std.specs.List.{list_all}
 use Rattle.signal_graph.specs.Graph.{Graph}
 use Rattle.flow_model.specs.declared.step.Step.{Step}
-use Rattle.flow_model.specs.declared.step.Step.TheVariants.{Frame, Start, Skip, Gather, Evaluate, Body, Resolve, Discover, Drop, Mark, Look, End, Collect}
+use Rattle.flow_model.specs.declared.step.Step.TheVariants.{Frame, Start, Skip, Gather, Evaluate, Body, Resolve}
+use Rattle.flow_model.specs.declared.step.Step.TheVariants.{Discover, Drop, Mark, Look, End, Collect}
 use Rattle.flow_model.specs.Machine.Keys.{version_of_step}
 use Rattle.flow_state.specs.Booked.{Booked, live_in}
 

@@ -3,7 +3,8 @@
 ghost use Rattle.std.specs.Prelude.{◌≡◌, ◌<◌, ℕ, IsTrue, length, take};
 ghost use Rattle.std.specs.List.{position_or_len};
 ghost use Rattle.std.specs.Option.{IsSome};
-ghost use Rattle.node_versions.specs.Entries.{Versions, HasEndedPrefix, has, is_of, served, before, last_done, first_open, picks_before, has_out, has_node};
+ghost use Rattle.node_versions.specs.Entries.{Versions, HasEndedPrefix, has, is_of, served, before};
+ghost use Rattle.node_versions.specs.Entries.{last_done, first_open, picks_before, has_out, has_node};
 ghost use Rattle.flow_model.specs.Machine.State.{ended};
 ghost use Rattle.flow_model.specs.Parts.Books.{bare};
 ghost use Rattle.step_rules.specs.Sights.{sight_of, list_at};

@@ -513,7 +513,8 @@ impl<'g, J: Naming> Locked<'g, J> {
         ensures later { IsLater J.graph J.callers J.limit live.caller live.front self.old.moves }
         ensures met { IsMet J.graph J.callers J.limit result self.old.moves }
         ensures same { met_at J.graph J.callers J.limit result self.old.moves ≡ seen live self.old.moves }
-        ensures nodes { jobs_at J.graph (state J.graph J.callers J.limit live.front) live.version result.luggage.value.out.nodes ≡ live.out }
+        ensures nodes { jobs_at J.graph (state J.graph J.callers J.limit live.front) live.version result.luggage.value.out.nodes
+            ≡ live.out }
         ensures free { is_out result.caller self.new.out ≡ false }
         ensures after { self.new ≡ record self.old { out = out_without live.caller self.old.out } }
     {

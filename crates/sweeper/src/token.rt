@@ -67,7 +67,8 @@ impl<J: Naming> Model for Live<J> {
     } };
 
     ghost invariant = { λ l. (l.note.table ≡ J.table) × (l.note.key ≡ l.caller) × (l.luggage.value.out.size ≡ length J.graph.nodes)
-        × IsGoing J.graph J.callers J.limit l.caller l.version l.luggage.value.out.nodes (events l.note.list) × (l.luggage.value.looks.items ≡ [])
+        × IsGoing J.graph J.callers J.limit l.caller l.version l.luggage.value.out.nodes (events l.note.list)
+        × (l.luggage.value.looks.items ≡ [])
         × (length (looks_of (call (state J.graph J.callers J.limit (events l.note.list)) l.version).call)
         ≤ vec_capacity l.luggage.value.looks) };
 }

@@ -33,7 +33,8 @@ HasMadeIt graph limit caller script old new refused true = IsMade graph limit ca
 HasMadeIt graph limit caller script old new refused false = (made : List Call) × HasMade graph caller script made old new
 
 -- All callers have made their scripts, caller 1 the first one. What was refused are the lists of all callers, laid end to end.
-pub record AreMade (graph : Graph) (limit : ℕ) (scripts : List (List Call)) (refused : List Refused) (olds news : List (List Move)) : Type 0 where
+pub record AreMade (graph : Graph) (limit : ℕ) (scripts : List (List Call)) (refused : List Refused) (olds news : List (List Move))
+    : Type 0 where
   pub lists : List (List Refused)
   pub as_many : length lists ≡ length scripts
   pub laid : refused ≡ flat_map (λ list. list) lists

@@ -1,10 +1,12 @@
 // The threads.
 
-ghost use Rattle.std.specs.Prelude.{◌≡◌, ℕ, ◌+◌, ◌^◌, ◌<◌, ◌≤◌, ◌++◌, [], length, flat_map, slice_index_or, true, vec_len, vec_capacity, All, IfOk};
+ghost use Rattle.std.specs.Prelude.{◌≡◌, ℕ, ◌+◌, ◌^◌, ◌<◌, ◌≤◌, ◌++◌, [], length, flat_map};
+ghost use Rattle.std.specs.Prelude.{slice_index_or, true, vec_len, vec_capacity, All, IfOk};
 ghost use Rattle.script_tree.specs.declared.limits.TheConstants.{THREADS};
 ghost use Rattle.flow_model.specs.Follows.Callers.{IsWithin};
 ghost use Rattle.worker_gate.specs.Scripts.{AreMade, AreBegun};
-ghost use Rattle.worker_gate.specs.Seats.{seats_of, passes_of, lists_of, fronts_of, callers_of, all_enough, AllTaken, AreNumbered, IsServed};
+ghost use Rattle.worker_gate.specs.Seats.{seats_of, passes_of, lists_of, fronts_of, callers_of};
+ghost use Rattle.worker_gate.specs.Seats.{all_enough, AllTaken, AreNumbered, IsServed};
 
 use crate::gate::Gate;
 use crate::turn::Turn;
@@ -121,7 +123,8 @@ fn run_seats<J: Naming + Send + Sync, G: Gate, R: Threads + Wait + Sync>(
     requires few_calls { All (λ calls. length calls < 2 ^ 32) scripts.now }
     requires within { All (All IsWithin) scripts.now }
     requires none { All (λ seat. seat.refused ≡ []) seats.old }
-    ensures { (i : ℕ) (s : _) (d : _) → i < length seats.old → IsServed J.graph J.limit (slice_index_or scripts.now i d) (slice_index_or seats.old i s).pass (slice_index_or seats.new i s) }
+    ensures { (i : ℕ) (s : _) (d : _) → i < length seats.old
+        → IsServed J.graph J.limit (slice_index_or scripts.now i d) (slice_index_or seats.old i s).pass (slice_index_or seats.new i s) }
 {
     let threads = seats.len();
     thread::for_each_mut(
@@ -129,7 +132,8 @@ fn run_seats<J: Naming + Send + Sync, G: Gate, R: Threads + Wait + Sync>(
         seats,
         threads,
         &|i: usize, seat: &mut Seat<J>|
-            requires { (i < length scripts.now) × All (λ calls. length calls < 2 ^ 32) scripts.now × All (All IsWithin) scripts.now × (seat.now.refused ≡ []) }
+            requires { (i < length scripts.now) × All (λ calls. length calls < 2 ^ 32) scripts.now × All (All IsWithin) scripts.now
+                × (seat.now.refused ≡ []) }
             ensures { (d : _) → IsServed J.graph J.limit (slice_index_or scripts.entry.now i d) seat.entry.now.pass seat.exit.now }
         { serve(rt, alloc, sweeper, seat, &scripts[i], gate) },
     );
@@ -149,7 +153,9 @@ fn run_vec<J: Naming + Send + Sync, G: Gate, R: Threads + Wait + Sync>(
     requires few_calls { All (λ calls. length calls < 2 ^ 32) scripts.now }
     requires within { All (All IsWithin) scripts.now }
     requires none { All (λ seat. seat.refused ≡ []) seats.items }
-    ensures served { (i : ℕ) (s : _) (d : _) → i < vec_len seats → IsServed J.graph J.limit (slice_index_or scripts.now i d) (slice_index_or seats.items i s).pass (slice_index_or result.items i s) }
+    ensures served { (i : ℕ) (s : _) (d : _) → i < vec_len seats
+        → IsServed J.graph J.limit (slice_index_or scripts.now i d) (slice_index_or seats.items i s).pass
+        (slice_index_or result.items i s) }
     ensures len { (vec_len result ≡ vec_len seats) × (length result.items ≡ length seats.items) }
 {
     run_seats(rt, alloc, sweeper, seats.as_mut_slice(), scripts, gate);

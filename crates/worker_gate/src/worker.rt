@@ -130,7 +130,9 @@ fn make_call<J: Naming, G: Gate, R: Wait>(
 ) -> (Pass<J>, bool)
     requires { IsWithin call.now }
     ensures caller { result.0.caller ≡ pass.caller }
-    ensures taken { MatchBool result.1 (IsTaken J.graph J.limit pass.caller number call.now pass.front result.0.front refused.old refused.new) (Sees pass.caller pass.front result.0.front) }
+    ensures taken { MatchBool result.1
+        (IsTaken J.graph J.limit pass.caller number call.now pass.front result.0.front refused.old refused.new)
+        (Sees pass.caller pass.front result.0.front) }
 {
     let caller = pass.caller();
     turn.begin_call(rt);

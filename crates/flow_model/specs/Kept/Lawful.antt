@@ -1,5 +1,6 @@
 -- The lawful states: what every state that steps reach keeps. A call is named by its version.
-use Rattle.std.specs.Prelude.{◌≡◌, ℕ, ◌+◌, ◌<◌, ◌≤◌, ◌⊎◌, Bool, true, false, ◌&&◌, ◌||◌, not, ◌==◌, List, [], ◌∷◌, ◌++◌, length, map, filter, Option, Some, None, is_none, slice_get}
+use Rattle.std.specs.Prelude.{◌≡◌, ℕ, ◌+◌, ◌<◌, ◌≤◌, ◌⊎◌, Bool, true, false, ◌&&◌, ◌||◌, not, ◌==◌, List}
+use Rattle.std.specs.Prelude.{[], ◌∷◌, ◌++◌, length, map, filter, Option, Some, None, is_none, slice_get}
 use Rattle.std.specs.List.{list_any, AllByRecursion, AllZip}
 use Rattle.script_tree.specs.declared.limits.TheConstants.{SETS, LOOKS}
 use Rattle.script_tree.specs.declared.value.Value.{Value}
@@ -15,10 +16,14 @@ use Rattle.call_log.specs.Made.{versions_in}
 use Rattle.order_graph.specs.declared.pair.Pair.{Pair}
 use Rattle.order_graph.specs.Order.{reaches, is_recorded}
 use Rattle.node_versions.specs.declared.entry.Entry.{Entry}
-use Rattle.node_versions.specs.Entries.{OutEdge, IsUnique, AreDifferent, is_frame, is_done, is_mark, has, at, behind, state_of, last_done, value_of, picks_of, changed_of, done_at, value_at, value_before, picks_at, picks_before, has_out, has_node}
+use Rattle.node_versions.specs.Entries.{OutEdge, IsUnique, AreDifferent, is_frame, is_done, is_mark, has, at}
+use Rattle.node_versions.specs.Entries.{behind, state_of, last_done, value_of, picks_of, changed_of, done_at}
+use Rattle.node_versions.specs.Entries.{value_at, value_before, picks_at, picks_before, has_out, has_node}
 use Rattle.flow_model.specs.Machine.Sets.{IsSet}
-use Rattle.flow_model.specs.Machine.State.{Core, LiveCall, Found, call, cell, entries, outs, live, ended, executes, is_framing, wants, opens, changes, precedes}
-use Rattle.flow_model.specs.Machine.Words.{deps, touched, heads, gathered_of, is_gathered, is_found, found_candidates, is_candidate, finds, found_now, body_now, value_over, picks_of_found, set_value, list_room}
+use Rattle.flow_model.specs.Machine.State.{Core, LiveCall, Found, call, cell, entries, outs, live, ended}
+use Rattle.flow_model.specs.Machine.State.{executes, is_framing, wants, opens, changes, precedes}
+use Rattle.flow_model.specs.Machine.Words.{deps, touched, heads, gathered_of, is_gathered, is_found, found_candidates, is_candidate}
+use Rattle.flow_model.specs.Machine.Words.{finds, found_now, body_now, value_over, picks_of_found, set_value, list_room}
 use Rattle.flow_model.specs.Machine.Steps.{sets_in, looks_in, nodes_set, all_gathered}
 use Rattle.flow_model.specs.Kept.Runs.{Run, read_all, nothing_read, runs, reacts, framed, was_due, picks_it, IsSettled}
 

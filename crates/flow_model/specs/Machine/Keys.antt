@@ -1,7 +1,8 @@
 -- Whose step a step is, and which node's list it changes.
 use Rattle.std.specs.Prelude.{ℕ, Bool, true, false, Option, Some, None}
 use Rattle.flow_model.specs.declared.step.Step.{Step}
-use Rattle.flow_model.specs.declared.step.Step.TheVariants.{Frame, Start, Skip, Gather, Evaluate, Body, Resolve, Discover, Drop, Mark, Look, End, Collect}
+use Rattle.flow_model.specs.declared.step.Step.TheVariants.{Frame, Start, Skip, Gather, Evaluate, Body, Resolve}
+use Rattle.flow_model.specs.declared.step.Step.TheVariants.{Discover, Drop, Mark, Look, End, Collect}
 
 -- the call that a step is of
 abbrev pub version_of_step : Step → Option ℕ

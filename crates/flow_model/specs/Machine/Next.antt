@@ -1,5 +1,6 @@
 -- The next step of a live call, or why there is none now: the first that applies of a list of points.
-use Rattle.std.specs.Prelude.{ℕ, Bool, true, false, ◌&&◌, not, ◌==◌, nat_lt, List, [], ◌∷◌, ◌++◌, length, Option, Some, None, find, option_map}
+use Rattle.std.specs.Prelude.{ℕ, Bool, true, false, ◌&&◌, not, ◌==◌, nat_lt, List, []}
+use Rattle.std.specs.Prelude.{◌∷◌, ◌++◌, length, Option, Some, None, find, option_map}
 use Rattle.std.specs.List.{list_any}
 use Rattle.signal_graph.specs.Graph.{Graph, node_at, is_in, is_source, inputs_of}
 use Rattle.signal_graph.specs.Values.{nodes_in}
@@ -7,7 +8,8 @@ use Rattle.order_graph.specs.Order.{is_recorded}
 use Rattle.node_versions.specs.declared.entry.Entry.{Entry}
 use Rattle.node_versions.specs.Entries.{OutEdge, is_mark, has, at, behind, first_open, picks_before, has_out, has_node}
 use Rattle.flow_model.specs.declared.step.Step.{Step}
-use Rattle.flow_model.specs.declared.step.Step.TheVariants.{Frame, Start, Skip, Gather, Evaluate, Body, Resolve, Discover, Drop, Mark, Look, Collect}
+use Rattle.flow_model.specs.declared.step.Step.TheVariants.{Frame, Start, Skip, Gather, Evaluate, Body}
+use Rattle.flow_model.specs.declared.step.Step.TheVariants.{Resolve, Discover, Drop, Mark, Look, Collect}
 use Rattle.flow_model.specs.declared.step.Cause.{Cause}
 use Rattle.flow_model.specs.declared.step.Cause.TheVariants.{FramingBefore, OpenBefore, InputOpen, NotOpen, Before, Unfinished}
 use Rattle.flow_model.specs.declared.step.Turn.{Turn}

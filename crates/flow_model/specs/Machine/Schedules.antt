@@ -1,6 +1,7 @@
 -- What a schedule makes of the calls of threads: it says whose turn it is, and in a turn a thread begins its next call, or its live
 -- call makes its next step, or ends. Rounds of one turn each follow, until all is done.
-use Rattle.std.specs.Prelude.{ℕ, zero, suc, ◌+◌, ◌*◌, Bool, true, false, ◌&&◌, ◌==◌, nat_lt, List, [], ◌∷◌, ◌++◌, length, map, sum_by, Option, Some, None, slice_index_or}
+use Rattle.std.specs.Prelude.{ℕ, zero, suc, ◌+◌, ◌*◌, Bool, true, false, ◌&&◌, ◌==◌, nat_lt, List, []}
+use Rattle.std.specs.Prelude.{◌∷◌, ◌++◌, length, map, sum_by, Option, Some, None, slice_index_or}
 use Rattle.std.specs.List.{list_all}
 use Rattle.signal_graph.specs.declared.call.Call.{Call}
 use Rattle.signal_graph.specs.declared.log.Refused.{Refused}

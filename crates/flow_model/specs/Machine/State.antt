@@ -1,5 +1,6 @@
 -- The core's state: the live calls, each node's list with what is being worked out there, the recorded order, and the log.
-use Rattle.std.specs.Prelude.{ℕ, Bool, true, false, ◌&&◌, ◌||◌, not, ◌==◌, List, [], ◌∷◌, map, filter, Option, Some, None, is_some, Result, slice_index_or}
+use Rattle.std.specs.Prelude.{ℕ, Bool, true, false, ◌&&◌, ◌||◌, not, ◌==◌, List, [], ◌∷◌, map}
+use Rattle.std.specs.Prelude.{filter, Option, Some, None, is_some, Result, slice_index_or}
 use Rattle.script_tree.specs.declared.value.Fault.{Fault}
 use Rattle.script_tree.specs.declared.value.Value.{Value}
 use Rattle.signal_graph.specs.declared.call.Call.{Call}

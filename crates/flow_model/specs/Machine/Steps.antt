@@ -1,5 +1,6 @@
 -- The steps: where each is allowed, and what it changes.
-use Rattle.std.specs.Prelude.{◌≡◌, ◌⊎◌, ℕ, zero, suc, Bool, true, false, ◌&&◌, ◌||◌, not, ◌==◌, nat_lt, nat_le, List, [], ◌∷◌, ◌++◌, length, map, Option, Some, None, is_none, is_some}
+use Rattle.std.specs.Prelude.{◌≡◌, ◌⊎◌, ℕ, zero, suc, Bool, true, false, ◌&&◌, ◌||◌, not, ◌==◌, nat_lt, nat_le}
+use Rattle.std.specs.Prelude.{List, [], ◌∷◌, ◌++◌, length, map, Option, Some, None, is_none, is_some}
 use Rattle.std.specs.List.{list_any, list_all}
 use Rattle.script_tree.specs.declared.limits.TheConstants.{SETS, LOOKS}
 use Rattle.script_tree.specs.declared.value.Value.{Value}
@@ -15,11 +16,15 @@ use Rattle.node_versions.specs.declared.entry.Entry.{Entry}
 use Rattle.node_versions.specs.Entries.{is_mark, has, at, served, value_at, value_before, picks_before, collected, has_out, has_node}
 use Rattle.node_versions.specs.declared.entry.State.TheVariants as state
 use Rattle.flow_model.specs.declared.step.Step.{Step}
-use Rattle.flow_model.specs.declared.step.Step.TheVariants.{Frame, Start, Skip, Gather, Evaluate, Body, Resolve, Discover, Drop, Mark, Look, End, Collect}
+use Rattle.flow_model.specs.declared.step.Step.TheVariants.{Frame, Start, Skip, Gather, Evaluate, Body, Resolve}
+use Rattle.flow_model.specs.declared.step.Step.TheVariants.{Discover, Drop, Mark, Look, End, Collect}
 use Rattle.flow_model.specs.Machine.Lists.{is_empty}
 use Rattle.flow_model.specs.Machine.Sets.{put_all}
-use Rattle.flow_model.specs.Machine.State.{Core, Cell, LiveCall, Found, call, cell, entries, outs, ended, executes, is_framing, wants, with_call, with_cell}
-use Rattle.flow_model.specs.Machine.Words.{active_outs, is_gathered, is_found, found_picks, found_candidates, prior_picks, is_prior, is_candidate, is_some_of, at_front, can_work, touched, due, pressed, has_room, next_look, is_idle, found_now, body_now, value_now}
+use Rattle.flow_model.specs.Machine.State.{Core, Cell, LiveCall, Found, call, cell, entries, outs}
+use Rattle.flow_model.specs.Machine.State.{ended, executes, is_framing, wants, with_call, with_cell}
+use Rattle.flow_model.specs.Machine.Words.{active_outs, is_gathered, is_found, found_picks, found_candidates, prior_picks}
+use Rattle.flow_model.specs.Machine.Words.{is_prior, is_candidate, is_some_of, at_front, can_work, touched, due}
+use Rattle.flow_model.specs.Machine.Words.{pressed, has_room, next_look, is_idle, found_now, body_now, value_now}
 use Rattle.flow_model.specs.Machine.Changes.{enter, enter_mark, ensure_mark, raise, opened, finish, clear, tell, add_edge, drop_edge}
 
 -- ---- the beginning of a call

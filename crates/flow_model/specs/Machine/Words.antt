@@ -1,5 +1,6 @@
 -- The words of the steps.
-use Rattle.std.specs.Prelude.{ℕ, ◌+◌, Bool, true, false, ◌&&◌, not, ◌==◌, nat_lt, List, [], ◌∷◌, ◌++◌, length, map, Option, Some, None, Result, Ok, Err, slice_get, is_some}
+use Rattle.std.specs.Prelude.{ℕ, ◌+◌, Bool, true, false, ◌&&◌, not, ◌==◌, nat_lt, List, [], ◌∷◌, ◌++◌}
+use Rattle.std.specs.Prelude.{length, map, Option, Some, None, Result, Ok, Err, slice_get, is_some}
 use Rattle.std.specs.List.{list_any}
 use Rattle.script_tree.specs.declared.value.Fault.{Fault}
 use Rattle.script_tree.specs.declared.value.Fault.TheVariants.{Kind, NoChoice}
@@ -14,7 +15,8 @@ use Rattle.signal_graph.specs.Values.{select, taken, nodes_in}
 use Rattle.node_versions.specs.Entries.{first_open, value_before, picks_before, active_nodes}
 use Rattle.flow_model.specs.declared.limits.TheConstants.{SPARE_ENTRIES}
 use Rattle.flow_model.specs.Machine.Lists.{is_empty}
-use Rattle.flow_model.specs.Machine.State.{Core, LiveCall, Found, Gives, Selects, call, cell, entries, outs, executes, opens, changes, precedes}
+use Rattle.flow_model.specs.Machine.State.{Core, LiveCall, Found, Gives, Selects, call, cell}
+use Rattle.flow_model.specs.Machine.State.{entries, outs, executes, opens, changes, precedes}
 
 -- ---- dependencies
 

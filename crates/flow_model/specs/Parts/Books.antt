@@ -1,6 +1,7 @@
 -- A state in two parts: its book, and a list with out-edges for each node. Which lists a step reads, and what it makes of the
 -- book and of one list.
-use Rattle.std.specs.Prelude.{◌≡◌, ℕ, suc, Bool, true, false, ◌&&◌, ◌||◌, not, nat_lt, List, [], ◌∷◌, ◌++◌, length, map, Option, Some, None, is_none, is_some}
+use Rattle.std.specs.Prelude.{◌≡◌, ℕ, suc, Bool, true, false, ◌&&◌, ◌||◌, not, nat_lt, List, []}
+use Rattle.std.specs.Prelude.{◌∷◌, ◌++◌, length, map, Option, Some, None, is_none, is_some}
 use Rattle.std.specs.List.{list_any, list_all}
 use Rattle.script_tree.specs.declared.value.Value.{Value}
 use Rattle.signal_graph.specs.declared.call.Call.{Call}
@@ -13,14 +14,20 @@ use Rattle.order_graph.specs.Order.{retired}
 use Rattle.node_versions.specs.declared.entry.State.{State}
 use Rattle.node_versions.specs.declared.entry.State.TheVariants as state
 use Rattle.node_versions.specs.declared.entry.Entry.{Entry}
-use Rattle.node_versions.specs.Entries.{OutEdge, is_mark, has, at, served, front, rest, placed, with_state, collected, first_open, value_at, value_before, picks_before, active_nodes, has_out, has_node, with_out}
+use Rattle.node_versions.specs.Entries.{OutEdge, is_mark, has, at, served, front, rest, placed, with_state, collected, first_open}
+use Rattle.node_versions.specs.Entries.{value_at, value_before, picks_before, active_nodes, has_out, has_node, with_out}
 use Rattle.flow_model.specs.declared.step.Step.{Step}
-use Rattle.flow_model.specs.declared.step.Step.TheVariants.{Frame, Start, Skip, Gather, Evaluate, Body, Resolve, Discover, Drop, Mark, Look, End, Collect}
+use Rattle.flow_model.specs.declared.step.Step.TheVariants.{Frame, Start, Skip, Gather, Evaluate, Body, Resolve}
+use Rattle.flow_model.specs.declared.step.Step.TheVariants.{Discover, Drop, Mark, Look, End, Collect}
 use Rattle.flow_model.specs.Machine.Lists.{is_empty, change_at}
-use Rattle.flow_model.specs.Machine.State.{Core, Cell, LiveCall, Found, call, cell, ended, executes, is_framing, wants, opens, changes, change_call}
-use Rattle.flow_model.specs.Machine.Words.{is_gathered, is_found, found_picks, found_candidates, is_candidate, is_some_of, pressed, list_room, next_look, is_idle, finds, value_gathered, body_now, value_now}
-use Rattle.flow_model.specs.Machine.Changes.{stops, new_entry, first_version, last_version, link_left, link_right, opened, closed, tell_call, remove_first}
-use Rattle.flow_model.specs.Machine.Steps.{all_gathered, any_framing_before, any_before, has_body_value, new_call, started, counted, with_look, logged, without_call}
+use Rattle.flow_model.specs.Machine.State.{Core, Cell, LiveCall, Found, call, cell, ended, executes}
+use Rattle.flow_model.specs.Machine.State.{is_framing, wants, opens, changes, change_call}
+use Rattle.flow_model.specs.Machine.Words.{is_gathered, is_found, found_picks, found_candidates, is_candidate, is_some_of}
+use Rattle.flow_model.specs.Machine.Words.{pressed, list_room, next_look, is_idle, finds, value_gathered, body_now, value_now}
+use Rattle.flow_model.specs.Machine.Changes.{stops, new_entry, first_version, last_version, link_left}
+use Rattle.flow_model.specs.Machine.Changes.{link_right, opened, closed, tell_call, remove_first}
+use Rattle.flow_model.specs.Machine.Steps.{all_gathered, any_framing_before, any_before, has_body_value}
+use Rattle.flow_model.specs.Machine.Steps.{new_call, started, counted, with_look, logged, without_call}
 
 -- A node's entries and out-edges.
 pub record Listing : Type 0 where

@@ -3,7 +3,8 @@ use Rattle.std.specs.Prelude.{◌≡◌, ℕ, ◌<◌, ◌≢◌, true, false, l
 use Rattle.std.specs.Option.{IsSome}
 use Rattle.order_graph.specs.Order.{reaches}
 use Rattle.node_versions.specs.declared.entry.Entry.{Entry}
-use Rattle.node_versions.specs.Entries.{HasEndedPrefix, has, up_to, before, last_done, front, rest, first_entry, last_entry, has_out, without_out}
+use Rattle.node_versions.specs.Entries.{HasEndedPrefix, has, up_to, before, last_done, front}
+use Rattle.node_versions.specs.Entries.{rest, first_entry, last_entry, has_out, without_out}
 use Rattle.flow_model.specs.Machine.State.{Core, ended, entries, outs}
 use Rattle.flow_model.specs.Machine.Changes.{stops, remove_first}
 use Rattle.flow_model.specs.Kept.Lawful.{IsLive}
